@@ -1,0 +1,45 @@
+-- Every limit of document 01, by name. No other file writes one as a number, but for the constants of src/lib.rt, which `current` shows to be these.
+use Prim.Native.Nat.{ℕ, _+_, _*_, _/_, _^_}
+use Rattle.limits.specs.declared.Limits.{Limits}
+
+-- a number has at most so many bytes
+abbrev pub numberBytes : ℕ
+numberBytes = 32
+
+-- the words of eight bytes that hold such a number
+abbrev pub numberWords : ℕ
+numberWords = numberBytes / 8
+
+-- a digit string that is handed in has at most so many digits
+abbrev pub stringDigits : ℕ
+stringDigits = 512
+
+-- a step of a plan has so many bytes
+abbrev pub stepBytes : ℕ
+stepBytes = 5
+
+-- a plan has at most so many steps
+abbrev pub planSteps : ℕ
+planSteps = 640
+
+-- the size of a value has at most so many bytes
+abbrev pub valueBytes : ℕ
+valueBytes = 33
+
+-- a value's size is below this
+abbrev pub valueBound : ℕ
+valueBound = 2 ^ (8 * valueBytes)
+
+-- a record of the work space: a sign byte, then the size
+abbrev pub recordBytes : ℕ
+recordBytes = 1 + valueBytes
+
+abbrev pub documented : Limits
+documented = record {
+  «number_bytes» = numberBytes;
+  «string_digits» = stringDigits;
+  «step_bytes» = stepBytes;
+  «plan_steps» = planSteps;
+  «value_bytes» = valueBytes;
+  «record_bytes» = recordBytes;
+}

@@ -1,0 +1,120 @@
+// The limits of document 01, and the refusals that every call shares.
+//
+// A limit is written here and in specs/Limits.antt, and nowhere else: `current` shows that the two
+// agree.
+ghost use mathlib.Core.Path.{_≡_};
+ghost use Rattle.limits.specs.Limits.{documented};
+ghost use Rattle.limits.specs.Refusals.{refusalNumber, refusalPlace};
+
+// The most bytes of a number.
+pub const NUMBER_BYTES: usize = 32;
+
+// The words of eight bytes that hold such a number.
+pub const NUMBER_WORDS: usize = NUMBER_BYTES / 8;
+
+// The most digits of a digit string that is handed in.
+pub const STRING_DIGITS: usize = 512;
+
+// The bytes of a step of a plan, and the most steps of a plan.
+pub const STEP_BYTES: usize = 5;
+
+pub const PLAN_STEPS: usize = 640;
+
+// Each value of a plan has a size of this many bytes, so it is below 2 to the power of 264.
+pub const VALUE_BYTES: usize = 33;
+
+// A record of the checker's work space: a sign byte and a size.
+pub const RECORD_BYTES: usize = 1 + VALUE_BYTES;
+
+pub struct Limits {
+    pub number_bytes: usize,
+    pub string_digits: usize,
+    pub step_bytes: usize,
+    pub plan_steps: usize,
+    pub value_bytes: usize,
+    pub record_bytes: usize,
+}
+
+// The limits that this build keeps.
+pub fn current() -> Limits
+    ensures { λ r. ⌜ r ≡ documented ⌝ }
+{
+    Limits {
+        number_bytes: NUMBER_BYTES,
+        string_digits: STRING_DIGITS,
+        step_bytes: STEP_BYTES,
+        plan_steps: PLAN_STEPS,
+        value_bytes: VALUE_BYTES,
+        record_bytes: RECORD_BYTES,
+    }
+}
+
+// Why a call says no. A case holds its place where document 01 gives it one other than 0.
+pub enum Refusal {
+    // Number longer than the limit.
+    NumberTooLong,
+    // Number is zero.
+    NumberIsZero,
+    // Method unknown, or width not allowed for it.
+    MethodOrWidth,
+    // A byte that is no digit, at the lowest such place.
+    NotADigit(usize),
+    // Digit string longer than the limit.
+    StringTooLong,
+    // Output needs so many bytes, more than lent.
+    RoomTooSmall(usize),
+    // Plan bytes not a whole number of steps, or too many.
+    PlanLength,
+    // Work space too short for the plan.
+    WorkSpaceTooShort,
+    // Unknown operation, or a position that is not below the step's own, at this step.
+    StepUnsound(usize),
+    // The value at this step is zero.
+    ValueIsZero(usize),
+    // The value at this step is too large.
+    ValueTooLarge(usize),
+    // All steps sound, and the last value, at this step, is not the number.
+    WrongEnd(usize),
+}
+
+impl Refusal {
+    // Document 01's number of a refusal.
+    pub fn number(self) -> u8
+        ensures { λ r. ⌜ r ≡ refusalNumber self ⌝ }
+    {
+        match self {
+            Refusal::NumberTooLong => 1,
+            Refusal::NumberIsZero => 2,
+            Refusal::MethodOrWidth => 3,
+            Refusal::NotADigit(_) => 4,
+            Refusal::StringTooLong => 5,
+            Refusal::RoomTooSmall(_) => 6,
+            Refusal::PlanLength => 7,
+            Refusal::WorkSpaceTooShort => 8,
+            Refusal::StepUnsound(_) => 9,
+            Refusal::ValueIsZero(_) => 10,
+            Refusal::ValueTooLarge(_) => 11,
+            Refusal::WrongEnd(_) => 12,
+        }
+    }
+
+    // Document 01's place of a refusal.
+    pub fn place(self) -> usize
+        ensures { λ r. ⌜ r ≡ refusalPlace self ⌝ }
+    {
+        match self {
+            Refusal::NumberTooLong => 0,
+            Refusal::NumberIsZero => 0,
+            Refusal::MethodOrWidth => 0,
+            Refusal::NotADigit(place) => place,
+            Refusal::StringTooLong => 0,
+            Refusal::RoomTooSmall(needed) => needed,
+            Refusal::PlanLength => 0,
+            Refusal::WorkSpaceTooShort => 0,
+            Refusal::StepUnsound(step) => step,
+            Refusal::ValueIsZero(step) => step,
+            Refusal::ValueTooLarge(step) => step,
+            Refusal::WrongEnd(step) => step,
+        }
+    }
+}

@@ -1,0 +1,12 @@
+-- The theorems about signed digit strings.
+pub mod Parts
+pub mod Spaced
+pub mod Exists
+pub mod Unique
+pub mod Canonical
+pub mod Fewest
+pub mod Places
+pub mod Steps
+pub mod Length
+pub mod Triple
+pub mod Examples

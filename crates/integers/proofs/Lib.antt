@@ -1,0 +1,3 @@
+pub mod Positional
+pub mod Tabulate
+pub mod Words

@@ -1,0 +1,65 @@
+-- Laws of a table that a loop fills, one store a turn. Assumes nothing.
+use mathlib.Core.Path.{_≡_, refl, sym, ap, _∙_}
+use mathlib.Core.List.{List, [], _∷_, _++_, append-assoc, append-nil}
+use Prim.Native.Nat.{ℕ, zero, suc, _+_, _<_, _≤_}
+use native.Mathlib.Decide.{decLt}
+use native.Mathlib.Nat.{add-zero, add-suc}
+use native.Mathlib.Numerals.{add-one}
+use native.Mathlib.Omega.{arith}
+use lib.ListN.{length, getD, set, take, drop, length-append, List·getD-append}
+use lib.Seq.{set-at, take-at, drop-at, getD-at, drop-cons, drop-drop, length-take-le, ext-getD}
+use Rattle.integers.specs.Tabulate.{tabulate}
+
+pub length-tabulate : (f : ℕ → ℕ) (n : ℕ) → length (tabulate f n) ≡ n
+unfolding tabulate
+length-tabulate f zero = refl
+length-tabulate f (suc n) = rw length-append (omega (arith, length-tabulate f n))
+
+-- a store of f n at n
+pub tabulate-more : (f : ℕ → ℕ) (l : List ℕ) (n : ℕ) → n < length l → set (tabulate f n ++ drop n l) n (f n) ≡ tabulate f (n + 1) ++ drop (n + 1) l
+unfolding tabulate
+tabulate-more f l n h =
+    rw (add-one, drop-cons l n 0, set-at (tabulate f n) (getD l n 0) (drop (suc n) l) (f n) n (length-tabulate f n)) (sym (append-assoc (tabulate f n) (f n ∷ []) (drop (suc n) l)))
+
+-- the same behind what stands below `at`
+pub block-more : (f : ℕ → ℕ) (l : List ℕ) (at n : ℕ) → at + n < length l
+    → set (take at l ++ (tabulate f n ++ drop (at + n) l)) (at + n) (f n) ≡ take at l ++ (tabulate f (n + 1) ++ drop (at + (n + 1)) l)
+unfolding tabulate
+block-more f l at n h =
+    let below : length (take at l ++ tabulate f n) ≡ at + n = rw (length-append, length-take-le at l (omega arith), length-tabulate f n) in
+    let e : at + (n + 1) ≡ suc (at + n) = omega arith in
+    rw (e, add-one, drop-cons l (at + n) 0, ← append-assoc, set-at (take at l ++ tabulate f n) (getD l (at + n) 0) (drop (suc (at + n)) l) (f n) (at + n) below)
+    (simp append-assoc)
+
+pub tabulate-add : (f : ℕ → ℕ) (m n : ℕ) → tabulate f (m + n) ≡ tabulate f m ++ tabulate (λ j. f (m + j)) n
+unfolding tabulate
+tabulate-add f m zero = rw (add-zero, append-nil)
+tabulate-add f m (suc n) = rw (add-suc, tabulate-add f m n) (simp append-assoc)
+
+pub tabulate-same : (f g : ℕ → ℕ) (n : ℕ) → ((i : ℕ) → i < n → f i ≡ g i) → tabulate f n ≡ tabulate g n
+unfolding tabulate
+tabulate-same f g zero h = refl
+tabulate-same f g (suc n) h = rw (tabulate-same f g n (λ i l. h i (omega arith)), h n (omega arith))
+
+-- a block of n more entries above a table of m
+pub tabulate-join : (f : ℕ → ℕ) (l : List ℕ) (m n : ℕ) → m ≤ length l
+    → take m (tabulate f m ++ drop m l) ++ (tabulate (λ j. f (m + j)) n ++ drop (m + n) (tabulate f m ++ drop m l)) ≡ tabulate f (m + n) ++ drop (m + n) l
+tabulate-join f l m n h =
+    let t : take m (tabulate f m ++ drop m l) ≡ tabulate f m = take-at (tabulate f m) (drop m l) m (length-tabulate f m) in
+    let d : drop (m + n) (tabulate f m ++ drop m l) ≡ drop (m + n) l =
+    rw (← drop-drop n m (tabulate f m ++ drop m l), drop-at (tabulate f m) (drop m l) m (length-tabulate f m), drop-drop n m l) in
+    rw (t, d, tabulate-add f m n) (simp append-assoc)
+
+pub getD-tabulate : (f : ℕ → ℕ) (n i : ℕ) → i < n → getD (tabulate f n) i 0 ≡ f i
+unfolding tabulate
+getD-tabulate f zero i h = absurd (omega arith)
+getD-tabulate f (suc n) i h = go (decLt i n) (λ l. getD-tabulate f n i l)
+  where
+    go : Dec (i < n) → (i < n → getD (tabulate f n) i 0 ≡ f i) → getD (tabulate f n ++ (f n ∷ [])) i 0 ≡ f i
+    go (yes l) below = List·getD-append (tabulate f n) (f n ∷ []) 0 i (rw length-tabulate l) ∙ below l
+    go (no l) below = let e : i ≡ n = omega arith in rw e (getD-at (tabulate f n) (f n) [] 0 n (length-tabulate f n))
+
+-- a list is the table of its elements
+pub tabulate-of : (f : ℕ → ℕ) (l : List ℕ) → ((i : ℕ) → i < length l → getD l i 0 ≡ f i) → l ≡ tabulate f (length l)
+tabulate-of f l h =
+    ext-getD 0 l (tabulate f (length l)) (sym (length-tabulate f (length l))) (λ i p. h i p ∙ sym (getD-tabulate f (length l) i p))

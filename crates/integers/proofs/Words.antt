@@ -1,0 +1,76 @@
+-- Words of eight bytes, read from the top byte down. Assumes nothing.
+use mathlib.Core.Path.{_≡_, refl, sym, ap, _∙_}
+use mathlib.Core.List.{List, [], _∷_, _++_}
+use Prim.Native.Nat.{ℕ, zero, suc, _+_, _*_, _-_, _^_, _<_, _≤_, min}
+use native.Mathlib.Decide.{decLe}
+use native.Mathlib.Nat.{zero-add, add-zero, suc-add, pow-suc, min-eq-left, min-eq-right}
+use native.Mathlib.Omega.{arith}
+use lib.ListN.{length, getD, take, drop, length-take, length-drop}
+use lib.Pow.{pow-add}
+use lib.Seq.{getD-drop, getD-take, drop-length, length-take-le, take-take, take-all, take-length, take-nil, drop-nil}
+use Rattle.integers.specs.Positional.{positional, bytesValue, wordsValue}
+use Rattle.integers.specs.Tabulate.{tabulate}
+use Rattle.integers.proofs.Positional.{Below, below-take, below-drop, positional-drop, positional-lt, positional-split, positional-append}
+use Rattle.integers.proofs.Tabulate.{length-tabulate}
+
+-- the count bytes from `from` on
+abbrev pub part : ℕ → ℕ → List ℕ → List ℕ
+part from count l = take count (drop from l)
+
+module _ (l : List ℕ) (from count : ℕ) (few : count ≤ 8) (fits : from + count ≤ length l) where
+  pub word-length : length (part from count l) ≡ count
+  word-length = length-take-le count (drop from l) (rw length-drop (omega arith))
+
+  -- one byte more below what was read
+  pub word-step : (i : ℕ) → 0 < i → i ≤ count
+      → bytesValue (drop i (part from count l)) * 256 + getD l (from + (i - 1)) 0 ≡ bytesValue (drop (i - 1) (part from count l))
+  word-step i h k =
+      let e : i ≡ suc (i - 1) = omega arith in
+      let g : getD (part from count l) (i - 1) 0 ≡ getD l (from + (i - 1)) 0 =
+      getD-take count (drop from l) (i - 1) 0 (omega arith) ∙ getD-drop from l (i - 1) 0 in
+      omega (arith, positional-drop 256 (part from count l) (i - 1), g, ap (λ (n : ℕ). bytesValue (drop n (part from count l))) e)
+
+  -- what was read leaves room for another byte
+  pub word-room : (i : ℕ) → 0 < i → Below 256 l → bytesValue (drop i (part from count l)) < 256 ^ 7
+  word-room i h b =
+      positional-lt 256 7 (drop i (part from count l)) (omega (arith, length-drop i (part from count l), word-length))
+      (below-drop 256 i (part from count l) (omega arith) (below-take 256 count (drop from l) (omega arith) (below-drop 256 from l (omega arith) b)))
+
+  pub word-none : bytesValue (drop count (part from count l)) ≡ 0
+  unfolding positional
+  word-none = rw (ap (λ (n : ℕ). drop n (part from count l)) (sym word-length), drop-length (part from count l))
+
+-- ---- all words of a number
+
+-- the word at k
+abbrev pub wordAt : List ℕ → ℕ → ℕ
+wordAt l k = bytesValue (take 8 (drop (8 * k) l))
+
+word-power : (n : ℕ) → (2 ^ 64) ^ n ≡ 256 ^ (8 * n)
+word-power zero = refl
+word-power (suc n) =
+    let e : 8 * suc n ≡ 8 * n + 8 = omega arith in
+    rw (e, pow-add, pow-suc, word-power n)
+
+drop-take : (n m : ℕ) (l : List ℕ) → drop n (take (n + m) l) ≡ take m (drop n l)
+drop-take zero m l = rw zero-add
+drop-take (suc n) m [] = rw (take-nil, drop-nil, take-nil)
+drop-take (suc n) m (x ∷ l) = rw suc-add (drop-take n m l)
+
+pub words-value : (l : List ℕ) (n : ℕ) → wordsValue (tabulate (wordAt l) n) ≡ bytesValue (take (8 * n) l)
+unfolding tabulate positional
+words-value l zero = refl
+words-value l (suc n) =
+    let e : 8 * suc n ≡ 8 * n + 8 = omega arith in
+    let top : wordsValue (tabulate (wordAt l) n ++ (wordAt l n ∷ [])) ≡ wordsValue (tabulate (wordAt l) n) + (2 ^ 64) ^ n * wordAt l n =
+    positional-append (2 ^ 64) (tabulate (wordAt l) n) (wordAt l n ∷ []) ∙ rw (length-tabulate (wordAt l) n, add-zero) in
+    let low : bytesValue (take (8 * n + 8) l) ≡ bytesValue (take (8 * n) l) + 256 ^ (8 * n) * wordAt l n =
+    rw (positional-split 256 (8 * n) (take (8 * n + 8) l), take-take (8 * n) (8 * n + 8) l (omega arith), drop-take (8 * n) 8 l) in
+    rw e (top ∙ ap (λ (v : ℕ). v + (2 ^ 64) ^ n * wordAt l n) (words-value l n) ∙ ap (λ (p : ℕ). bytesValue (take (8 * n) l) + p * wordAt l n) (word-power n) ∙ sym low)
+
+pub take-least : (n : ℕ) (l : List ℕ) → take (min n (length l)) l ≡ take n l
+take-least n l = go (decLe n (length l))
+  where
+    go : Dec (n ≤ length l) → take (min n (length l)) l ≡ take n l
+    go (yes h) = rw (min-eq-left h)
+    go (no h) = let k : length l ≤ n = omega arith in rw (min-eq-right k, take-length l, take-all n l k)

@@ -1,0 +1,2 @@
+pub mod Positional
+pub mod Tabulate

@@ -1,0 +1,62 @@
+// Little-endian numbers: bytes and words.
+use limits::NUMBER_WORDS;
+ghost use mathlib.Core.Path.{_≡_};
+ghost use Prim.Native.Nat.{_+_, _<_, _≤_, min};
+ghost use lib.ListN.{length, take, drop, getD};
+ghost use Rattle.limits.specs.Limits.{numberBytes};
+ghost use Rattle.integers.specs.Positional.{bytesValue, wordsValue};
+
+// The byte at a place: 0 above the number.
+pub fn byte_at(number: &[u8], place: usize) -> u64
+    ensures { λ r. ⌜ (r ≡ getD (now (number .entry)) place 0) × (r < 256) ⌝ }
+{
+    if place < number.len() {
+        number[place] as u64
+    } else {
+        0
+    }
+}
+
+fn least(a: usize, b: usize) -> usize
+    ensures { λ r. ⌜ r ≡ min a b ⌝ }
+{
+    if a < b { a } else { b }
+}
+
+// The value of `count` bytes from `from` on.
+fn word_of(bytes: &[u8], from: usize, count: usize) -> u64
+    requires { ⌜ count ≤ 8 ⌝ }
+    requires { ⌜ from + count ≤ length (now bytes) ⌝ }
+    ensures { λ r. ⌜ r ≡ bytesValue (take count (drop from (now (bytes .entry)))) ⌝ }
+{
+    let mut word: u64 = 0;
+    let mut i = count;
+    while 0 < i {
+        word = word * 256 + bytes[from + (i - 1)] as u64;
+        i -= 1;
+    }
+    word
+}
+
+// The value of the eight bytes from `from` on, or of as many as there are.
+pub fn word_at(bytes: &[u8], from: usize) -> u64
+    ensures { λ r. ⌜ r ≡ bytesValue (take 8 (drop from (now (bytes .entry)))) ⌝ }
+{
+    if bytes.len() <= from {
+        return 0;
+    }
+    word_of(bytes, from, least(8, bytes.len() - from))
+}
+
+// The words of a number, of which bytes above the limit are left out.
+pub fn words_of(number: &[u8]) -> [u64; NUMBER_WORDS]
+    ensures { λ r. ⌜ wordsValue r ≡ bytesValue (take numberBytes (now (number .entry))) ⌝ }
+{
+    let mut words = [0u64; NUMBER_WORDS];
+    let mut k = 0;
+    while k < NUMBER_WORDS {
+        words[k] = word_at(number, 8 * k);
+        k += 1;
+    }
+    words
+}

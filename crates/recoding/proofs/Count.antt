@@ -1,0 +1,48 @@
+-- How many digits a number's canonical string has, by its highest byte. Assumes nothing.
+use mathlib.Core.Path.{_≡_, refl, sym, ap, _∙_}
+use mathlib.Core.List.{List}
+use Prim.Native.Nat.{ℕ, zero, suc, _+_, _*_, _-_, _/_, _^_, _<_, _≤_}
+use native.Mathlib.Omega.{arith}
+use lib.Count.{leadingZeros, leading-length}
+use lib.IntN.{pos}
+use lib.ListN.{length, getD, drop, length-map}
+use Rattle.integers.specs.Positional.{bytesValue}
+use Rattle.integers.proofs.Positional.{Below, positional-drop, positional-div}
+use Rattle.signed_digits.specs.Naf.{canonical}
+use Rattle.signed_digits.specs.Bytes.{digitByte}
+use Rattle.signed_digits.proofs.Steps.{naf-zero}
+use Rattle.recoding.specs.Recode.{recoding}
+use Rattle.recoding.specs.Internal.{tripleCarry, Significant}
+use Rattle.recoding.proofs.Triple.{triple-div, digit-count}
+
+pub length-recoding : (number : List ℕ) → length (recoding number) ≡ length (canonical (pos (bytesValue number)))
+unfolding recoding
+length-recoding number = length-map (canonical (pos (bytesValue number))) digitByte
+
+module _ (number : List ℕ) (n : ℕ) (bytes : Below 256 number) (s : Significant number n) (some : 0 < n) where
+  -- the highest byte is all that is left above the others
+  top-byte : getD number (n - 1) 0 ≡ bytesValue number / 256 ^ (n - 1)
+  top-byte =
+      let e : n ≡ suc (n - 1) = omega arith in
+      omega (arith, positional-drop 256 number (n - 1), s .whole, ap (λ (i : ℕ). bytesValue (drop i number)) e, positional-div 256 number (n - 1) bytes)
+
+  top-triple : 3 * getD number (n - 1) 0 + tripleCarry (bytesValue number) (n - 1) ≡ 3 * bytesValue number / 256 ^ (n - 1)
+  top-triple = rw (top-byte, triple-div)
+
+  pub count-is : (top : ℕ) → top ≡ 3 * getD number (n - 1) 0 + tripleCarry (bytesValue number) (n - 1) → top < 2 ^ 64
+      → (leadingZeros 64 top ≤ 63) × (8 * (n - 1) + (63 - leadingZeros 64 top) ≡ length (recoding number))
+  count-is top e h =
+      let nonzero : 0 < getD number (n - 1) 0 = omega (arith, s .top some) in
+      let (m, zeros, low, high) = leading-length 64 top h in
+      let t : top ≡ 3 * bytesValue number / 256 ^ (n - 1) = e ∙ top-triple in
+      let c = digit-count (bytesValue number) (n - 1) m (omega arith) (omega arith) (omega arith) in
+      let some-digits : 1 ≤ m = go m low in
+      (omega arith, omega (arith, length-recoding number))
+    where
+      go : (m : ℕ) → top < 2 ^ m → 1 ≤ m
+      go zero l = absurd (omega (arith, s .top some))
+      go (suc m) l = omega arith
+
+-- a number with no significant byte is zero
+pub count-zero : (number : List ℕ) → bytesValue number ≡ 0 → length (recoding number) ≡ 0
+count-zero number z = length-recoding number ∙ ap (λ (e : ℕ). length (canonical (pos e))) z ∙ ap length (naf-zero 2)

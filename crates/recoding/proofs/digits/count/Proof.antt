@@ -1,0 +1,99 @@
+-- `recoding::digits::count` meets its contract. Assumes nothing.
+use mathlib.Core.Path.{_≡_, sym}
+use Prim.Native.Nat.{ℕ, _+_, _*_, _-_, _≤_, _<_, _^_}
+use native.Mathlib.Omega.{arith}
+use lib.Count.{leadingZeros}
+use lib.ListN.{length}
+use Rattle.integers.specs.Positional.{positional, bytesValue}
+use Rattle.recoding.specs.Recode.{recoding}
+use Rattle.recoding.proofs.Triple.{carry-small}
+use Rattle.recoding.proofs.Count.{count-is, count-zero}
+use borrow.Author.Needs.{needs}
+use Rattle.recoding.proofs.digits.count.Statement.{statement}
+use Rattle.recoding.proofs.digits.count.Tie as tie
+use Rattle.recoding.proofs.digits.count.Reads as reads
+use Rattle.recoding.proofs.digits.count.Lts as lts
+use Rattle.integers.proofs.byte_at.Reads as byte-at-reads
+use Rattle.recoding.proofs.digits.carry_into.Reads as carry-into-reads
+use Rattle.recoding.proofs.digits.significant.Reads as significant-reads
+
+-- at the end: the count is right, and the subtraction in it does not wrap
+counted : (c : tie.After-carry-into)
+    → (leadingZeros 64 (3 * c .before .byte-at .result + c .carry-into .result) ≤ 63)
+    × (8 * (c .before .before .before .significant .result - 1) + (63 - leadingZeros 64 (3 * c .before .byte-at .result + c .carry-into .result))
+    ≡ length (recoding (c .before .before .before .before .before .args .number .now)))
+counted c =
+    let start = c .before .before .before .before .before in
+    let number = start .args .number .now in
+    let n = c .before .before .before .significant in
+    let top : ℕ = 3 * c .before .byte-at .result + c .carry-into .result in
+    let small = carry-small (bytesValue number) (n .result - 1) in
+    count-is number (n .result) (λ i. c .before .before .before .before .shared-slice-known .given i .fits) (n .ensures) (search needs) top (rw (c .before .byte-at .ensures .0, c .carry-into .ensures)) (omega (arith, small, c .carry-into .ensures, c .before .byte-at .ensures))
+
+significant-requires : tie.Need-significant-requires
+significant-requires c κs = search needs
+
+returns : tie.Need-returns
+unfolding positional
+returns c =
+    let n = c .before .significant in
+    let number = c .before .before .before .args .number .now in
+    let z : n .result ≡ 0 = c .if1 .taken in
+    sym (count-zero number (rw z at (n .ensures .whole)))
+
+sub-byte-at : tie.Need-sub-byte-at
+sub-byte-at c = search needs
+
+byte-at-requires : tie.Need-byte-at-requires
+byte-at-requires c κs = search needs
+
+mul-top : tie.Need-mul-top
+mul-top c = search needs
+
+sub-carry-into : tie.Need-sub-carry-into
+sub-carry-into c = search needs
+
+carry-into-requires : tie.Need-carry-into-requires
+carry-into-requires c κs = search needs
+
+add-top : tie.Need-add-top
+add-top c =
+    let start = c .before .before .before .before .before in
+    omega (arith, carry-small (bytesValue (start .args .number .now)) (c .before .before .before .significant .result - 1), c .carry-into .ensures, c .before .byte-at .ensures)
+
+sub-result : tie.Need-sub-result
+sub-result c = search needs
+
+mul-result : tie.Need-mul-result
+mul-result c = search needs
+
+cast-result : tie.Need-cast-result
+cast-result c = omega (arith, counted c .0)
+
+sub-result-2 : tie.Need-sub-result-2
+sub-result-2 c = counted c .0
+
+add-result : tie.Need-add-result
+add-result c = search needs
+
+returns-2 : tie.Need-returns-2
+returns-2 c = counted c .1
+
+pub count-spec : {M : Type 1} → statement M
+count-spec =
+    tie.close
+    (tie.spec
+    significant-requires
+    returns
+    sub-byte-at
+    byte-at-requires
+    mul-top
+    sub-carry-into
+    carry-into-requires
+    add-top
+    sub-result
+    mul-result
+    cast-result
+    sub-result-2
+    add-result
+    returns-2)

@@ -1,0 +1,3 @@
+pub mod Recode
+pub mod Take
+pub mod Internal

@@ -1,0 +1,67 @@
+-- Taking digits singly (document 01, "The calls").
+use mathlib.Core.Path.{_≡_}
+use mathlib.Core.Bool.{Bool, true, false, cond}
+use mathlib.Core.List.{List, [], _∷_}
+use Prim.Native.Nat.{ℕ, zero, suc, _+_}
+use lib.Dec.{ltb}
+use lib.IntN.{ℤ, pos}
+use lib.ListN.{length, replicate}
+use Rattle.limits.specs.Limits.{numberBytes, numberWords}
+use Rattle.limits.specs.Outcome.{Outcome, answered, refusal}
+use Rattle.limits.specs.declared.Refusal.the-variants.{NumberTooLong}
+use Rattle.integers.specs.Positional.{bytesValue, wordsValue}
+use Rattle.signed_digits.specs.Naf.{lowDigit, rest}
+use Rattle.signed_digits.specs.Bytes.{digitByte}
+use Rattle.recoding.specs.declared.recoder.Recoder.{Recoder}
+use Rattle.recoding.specs.declared.recoder.Start.{Start}
+use Rattle.recoding.specs.declared.recoder.Start.the-variants.{Ready, Refused}
+use Rattle.recoding.specs.declared.recoder.Started.{Started}
+use Rattle.recoding.specs.declared.recoder.Take.{Take}
+use Rattle.recoding.specs.declared.recoder.Take.the-variants.{Digit, Done}
+use Rattle.recoding.specs.declared.recoder.Taken.{Taken}
+
+-- The number that a recoder stands for: the value of its words, plus one where it carries. Every recoder stands for one, also one put together by hand:
+-- its digits to come are those of the canonical string of that number.
+abbrev pub carried : Bool → ℕ
+carried true = 1
+carried false = 0
+
+unfoldable pub standsFor : Recoder → ℕ
+standsFor r = wordsValue (r .words) + carried (r .carry)
+
+-- the answer at the start, and the number that the recoder handed back stands for: zero after a refusal
+abbrev pub startAnswer : List ℕ → Start
+startAnswer number = cond (ltb numberBytes (length number)) (Refused NumberTooLong) Ready
+
+abbrev pub startNumber : List ℕ → ℕ
+startNumber number = cond (ltb numberBytes (length number)) 0 (bytesValue number)
+
+-- what a take answers where the recoder stands for n: the lowest digit, or done where nothing is left
+abbrev pub takeAnswer : ℕ → Take
+takeAnswer zero = Done
+takeAnswer (suc n) = Digit (digitByte (lowDigit 2 (suc n)))
+
+-- what the recoder handed back stands for
+abbrev pub takeLeaves : ℕ → ℕ
+takeLeaves zero = 0
+takeLeaves (suc n) = rest 2 (suc n)
+
+-- What a recoder holds inside may differ from one correct program to another. What is fixed is the number that it stands for, and with it every take to
+-- come (proofs/Takes.antt); and that done leaves the recoder itself unchanged.
+pub record IsStart (number : List ℕ) (r : Started) : Type 0 where
+  pub answer : r .answer ≡ startAnswer number
+  pub recoder : standsFor (r .recoder) ≡ startNumber number
+
+pub record IsTake (r : Recoder) (t : Taken) : Type 0 where
+  pub answer : t .answer ≡ takeAnswer (standsFor r)
+  pub next : standsFor (t .next) ≡ takeLeaves (standsFor r)
+  pub done : standsFor r ≡ 0 → t .next ≡ r
+
+-- the answers in document 01's numbers
+abbrev pub startOutcome : Start → Outcome
+startOutcome Ready = answered []
+startOutcome (Refused r) = refusal r
+
+abbrev pub takeOutcome : Take → Outcome
+takeOutcome (Digit d) = answered (d ∷ [])
+takeOutcome Done = answered []

@@ -2,10 +2,10 @@
 use mathlib.Core.Path.{_≡_, refl, sym, ap, _∙_}
 use mathlib.Core.List.{List, [], _∷_, _++_}
 use Prim.Native.Nat.{ℕ, zero, suc, _+_, _*_, _/_, _%_, _^_, _<_, _≤_, zero-le}
-use native.Mathlib.Nat.{pow-zero, pow-suc, pow-succ', mul-add, mul-assoc, mul-comm, mul-zero, mul-pos, zero-add, lt-of-le-of-lt, add-mul-div-left, div-eq-of-lt, add-mul-mod-self-left, mod-eq-of-lt}
+use native.Mathlib.Nat.{pow-zero, pow-suc, pow-succ', mul-add, mul-assoc, mul-comm, mul-zero, mul-pos, zero-add, add-zero, lt-of-le-of-lt, add-mul-div-left, div-eq-of-lt, add-mul-mod-self-left, mod-eq-of-lt}
 use native.Mathlib.Omega.{arith}
 use lib.Arith.{digits-lt}
-use lib.ListN.{length, getD, take, drop, length-take}
+use lib.ListN.{length, getD, take, drop, length-take, replicate, length-replicate, getD-replicate}
 use lib.Seq.{take-append-seam, drop-append-seam}
 use Rattle.integers.specs.Positional.{positional}
 
@@ -69,3 +69,25 @@ positional-div base l k b =
 pub positional-at : (base : ℕ) (l : List ℕ) (k : ℕ) → Below base l → getD l k 0 ≡ positional base l / base ^ k % base
 positional-at base l k b =
     sym (rw (← positional-div base l k b, positional-drop base l k, add-mul-mod-self-left, mod-eq-of-lt (b k)))
+
+-- zero is all zeros
+pub positional-zero : (base : ℕ) (l : List ℕ) → ((i : ℕ) → i < length l → getD l i 0 ≡ 0) → positional base l ≡ 0
+unfolding positional
+positional-zero base [] h = refl
+positional-zero base (x ∷ l) h = rw (h 0 (omega arith), positional-zero base l (λ i p. h (suc i) (omega arith)), mul-zero) refl
+
+pub positional-nonzero : (base : ℕ) (l : List ℕ) (i : ℕ) → 0 < base → (getD l i 0 ≡ 0 → ⊥) → positional base l ≡ 0 → ⊥
+unfolding positional
+positional-nonzero base [] i p h z = h refl
+positional-nonzero base (x ∷ l) zero p h z = h (omega arith)
+positional-nonzero base (x ∷ l) (suc i) p h z = positional-nonzero base l i p h (go (positional base l) (omega arith))
+  where
+    go : (v : ℕ) → base * v ≡ 0 → v ≡ 0
+    go zero e = refl
+    go (suc v) e = absurd (omega (arith, mul-pos {m = base} {n = suc v} p (omega arith)))
+
+-- high zeros change nothing
+pub positional-zeros : (base n : ℕ) (l : List ℕ) → positional base (l ++ replicate n 0) ≡ positional base l
+positional-zeros base n l =
+    let z : positional base (replicate n 0) ≡ 0 = positional-zero base (replicate n 0) (λ i h. getD-replicate n i 0 0 (omega (arith, length-replicate {A = ℕ} n 0))) in
+    rw (positional-append base l (replicate n 0), z, mul-zero, add-zero)

@@ -1,13 +1,13 @@
 -- Words of eight bytes, read from the top byte down. Assumes nothing.
 use mathlib.Core.Path.{_≡_, refl, sym, ap, _∙_}
 use mathlib.Core.List.{List, [], _∷_, _++_}
-use Prim.Native.Nat.{ℕ, zero, suc, _+_, _*_, _-_, _^_, _<_, _≤_, min}
+use Prim.Native.Nat.{ℕ, zero, suc, _+_, _*_, _-_, _/_, _%_, _^_, _<_, _≤_, min}
 use native.Mathlib.Decide.{decLe}
 use native.Mathlib.Nat.{zero-add, add-zero, suc-add, pow-suc, min-eq-left, min-eq-right}
 use native.Mathlib.Omega.{arith}
-use lib.ListN.{length, getD, take, drop, length-take, length-drop}
+use lib.ListN.{length, getD, set, take, drop, length-take, length-drop, length-set}
 use lib.Pow.{pow-add}
-use lib.Seq.{getD-drop, getD-take, drop-length, length-take-le, take-take, take-all, take-length, take-nil, drop-nil}
+use lib.Seq.{getD-drop, getD-take, drop-length, length-take-le, take-take, take-all, take-length, take-nil, drop-nil, getD-set-same, drop-set-lt, take-set-le}
 use Rattle.integers.specs.Positional.{positional, bytesValue, wordsValue}
 use Rattle.integers.specs.Tabulate.{tabulate}
 use Rattle.integers.proofs.Positional.{Below, below-take, below-drop, positional-drop, positional-lt, positional-split, positional-append}
@@ -74,3 +74,40 @@ take-least n l = go (decLe n (length l))
     go : Dec (n ≤ length l) → take (min n (length l)) l ≡ take n l
     go (yes h) = rw (min-eq-left h)
     go (no h) = let k : length l ≤ n = omega arith in rw (min-eq-right k, take-length l, take-all n l k)
+
+-- ---- halving, from the top word down
+
+-- the words from k on are halved, and low is the binary digit that goes down from them
+pub record Halving (l half : List ℕ) (low k : ℕ) : Type 0 where
+  pub long : length half ≡ length l
+  pub above : wordsValue (drop k half) ≡ wordsValue (drop k l) / 2
+  pub down : low ≡ wordsValue (drop k l) % 2
+  pub below : take k half ≡ take k l
+
+pub halving-none : (l : List ℕ) (k : ℕ) → k ≡ length l → Halving l l 0 k
+unfolding positional
+halving-none l k e = record { long = refl; above = rw (e, drop-length l); down = rw (e, drop-length l); below = refl }
+
+module _ (l half : List ℕ) (low k : ℕ) (some : 0 < k) (inv : Halving l half low k) where
+  -- the next word down is still as it was
+  pub halving-word : getD half (k - 1) 0 ≡ getD l (k - 1) 0
+  halving-word =
+      let i : ℕ = k - 1 in
+      sym (getD-take k half i 0 (omega arith)) ∙ ap (λ (m : List ℕ). getD m i 0) (inv .below) ∙ getD-take k l i 0 (omega arith)
+
+  pub halving-step : k ≤ length l → Halving l (set half (k - 1) (getD half (k - 1) 0 / 2 + low * 2 ^ 63)) (getD half (k - 1) 0 % 2) (k - 1)
+  halving-step p =
+      let i : ℕ = k - 1 in
+      let word : ℕ = getD half i 0 in
+      let x : ℕ = word / 2 + low * 2 ^ 63 in
+      let e : suc i ≡ k = omega arith in
+      let old : wordsValue (drop i l) ≡ word + 2 ^ 64 * wordsValue (drop k l) = rw halving-word (rw e at (positional-drop (2 ^ 64) l i)) in
+      let new : wordsValue (drop i (set half i x)) ≡ x + 2 ^ 64 * wordsValue (drop k half) =
+      positional-drop (2 ^ 64) (set half i x) i
+      ∙ rw (getD-set-same half i x 0 (omega (arith, inv .long)), drop-set-lt (suc i) half i x (omega arith)) (ap (λ (n : ℕ). x + 2 ^ 64 * wordsValue (drop n half)) e) in
+      record {
+        long = length-set half i x ∙ inv .long;
+        above = omega (arith, old, new, inv .above, inv .down);
+        down = omega (arith, old);
+        below = take-set-le i half i x (omega arith) ∙ sym (take-take i k half (omega arith)) ∙ ap (take i) (inv .below) ∙ take-take i k l (omega arith);
+      }

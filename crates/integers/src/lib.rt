@@ -1,7 +1,8 @@
 // Little-endian numbers: bytes and words.
 use limits::NUMBER_WORDS;
 ghost use mathlib.Core.Path.{_≡_};
-ghost use Prim.Native.Nat.{_+_, _<_, _≤_, min};
+ghost use Prim.Native.Nat.{_+_, _/_, _<_, _≤_, min};
+ghost use lib.Dec.{eqb};
 ghost use lib.ListN.{length, take, drop, getD};
 ghost use Rattle.limits.specs.Limits.{numberBytes};
 ghost use Rattle.integers.specs.Positional.{bytesValue, wordsValue};
@@ -59,4 +60,34 @@ pub fn words_of(number: &[u8]) -> [u64; NUMBER_WORDS]
         k += 1;
     }
     words
+}
+
+// Half of the number that the words hold.
+pub fn halved(words: [u64; NUMBER_WORDS]) -> [u64; NUMBER_WORDS]
+    ensures { λ r. ⌜ wordsValue r ≡ wordsValue words / 2 ⌝ }
+{
+    let mut half = words;
+    let mut low: u64 = 0;
+    let mut k = NUMBER_WORDS;
+    while 0 < k {
+        let word = half[k - 1];
+        half[k - 1] = word / 2 + low * 0x8000_0000_0000_0000;
+        low = word % 2;
+        k -= 1;
+    }
+    half
+}
+
+// Whether the words hold zero.
+pub fn is_zero(words: [u64; NUMBER_WORDS]) -> bool
+    ensures { λ r. ⌜ r ≡ eqb (wordsValue words) 0 ⌝ }
+{
+    let mut k = 0;
+    while k < NUMBER_WORDS {
+        if words[k] != 0 {
+            return false;
+        }
+        k += 1;
+    }
+    true
 }

@@ -1,3 +1,6 @@
 pub mod Triple
 pub mod Count
 pub mod Outcomes
+pub mod Moves
+pub mod Takes
+pub mod Promises

@@ -55,7 +55,7 @@ carry-step e k =
 
 -- ---- the digits of a byte
 
-power-of-bytes : (k : ℕ) → 256 ^ k ≡ 2 ^ (8 * k)
+pub power-of-bytes : (k : ℕ) → 256 ^ k ≡ 2 ^ (8 * k)
 power-of-bytes zero = refl
 power-of-bytes (suc k) =
     let e : 8 * suc k ≡ 8 * k + 8 = omega arith in

@@ -10,8 +10,8 @@ use Rattle.limits.specs.Limits.{numberBytes, numberWords}
 use Rattle.limits.specs.Outcome.{Outcome, answered, refusal}
 use Rattle.limits.specs.declared.Refusal.the-variants.{NumberTooLong}
 use Rattle.integers.specs.Positional.{bytesValue, wordsValue}
-use Rattle.signed_digits.specs.Naf.{lowDigit, rest}
-use Rattle.signed_digits.specs.Bytes.{digitByte}
+use Rattle.signed_digits.specs.Naf.{lowDigit, rest, canonical}
+use Rattle.signed_digits.specs.Bytes.{digitByte, digitBytes}
 use Rattle.recoding.specs.declared.recoder.Recoder.{Recoder}
 use Rattle.recoding.specs.declared.recoder.Start.{Start}
 use Rattle.recoding.specs.declared.recoder.Start.the-variants.{Ready, Refused}
@@ -65,3 +65,23 @@ startOutcome (Refused r) = refusal r
 abbrev pub takeOutcome : Take → Outcome
 takeOutcome (Digit d) = answered (d ∷ [])
 takeOutcome Done = answered []
+
+-- takes one after the other: each after the first is of the recoder that the one before handed back
+pub record Run (r : Recoder) (t : ℕ → Taken) : Type 0 where
+  pub first : IsTake r (t 0)
+  pub later : (k : ℕ) → IsTake (t k .next) (t (k + 1))
+
+-- the recoder of the k-th take, counted from 0
+unfoldable pub before : Recoder → (ℕ → Taken) → ℕ → Recoder
+before r t zero = r
+before r t (suc k) = t k .next
+
+-- what the k-th take answers, by the bytes of a digit string: its digits, lowest first, then done
+abbrev pub digitOrDone : List ℕ → ℕ → Take
+digitOrDone [] k = Done
+digitOrDone (d ∷ ds) zero = Digit d
+digitOrDone (d ∷ ds) (suc k) = digitOrDone ds k
+
+-- the digits that a recoder stands for, in bytes
+unfoldable pub digitsToCome : Recoder → List ℕ
+digitsToCome r = digitBytes (canonical (pos (standsFor r)))

@@ -1,9 +1,15 @@
 // Canonical digits one at a time, lowest first.
+use integers::halved;
+use integers::is_zero;
+use integers::words_of;
 use limits::NUMBER_BYTES;
 use limits::NUMBER_WORDS;
 use limits::Refusal;
 ghost use mathlib.Core.Path.{_≡_};
-ghost use Rattle.recoding.specs.Take.{IsStart, IsTake};
+ghost use lib.Dec.{eqb};
+ghost use Rattle.signed_digits.specs.Naf.{lowDigit};
+ghost use Rattle.signed_digits.specs.Bytes.{digitByte};
+ghost use Rattle.recoding.specs.Take.{standsFor, IsStart, IsTake};
 
 // A recoder stands for the value of its words, least significant first, plus one where it carries.
 pub struct Recoder {
@@ -31,4 +37,76 @@ pub enum Take {
 pub struct Taken {
     pub next: Recoder,
     pub answer: Take,
+}
+
+impl Recoder {
+    // A recoder for a number; for zero where the number is refused.
+    pub fn start(number: &[u8]) -> Started
+        ensures { λ r. ⌜ IsStart (now (number .entry)) r ⌝ }
+    {
+        if NUMBER_BYTES < number.len() {
+            return Started {
+                recoder: Recoder {
+                    words: [0; NUMBER_WORDS],
+                    carry: false,
+                },
+                answer: Start::Refused(Refusal::NumberTooLong),
+            };
+        }
+        Started {
+            recoder: Recoder {
+                words: words_of(number),
+                carry: false,
+            },
+            answer: Start::Ready,
+        }
+    }
+
+    // Whether no digit is left.
+    fn is_done(self) -> bool
+        ensures { λ r. ⌜ r ≡ eqb (standsFor self) 0 ⌝ }
+    {
+        let words = self.words;
+        let carry = self.carry;
+        if carry {
+            return false;
+        }
+        is_zero(words)
+    }
+
+    // The lowest digit, and the recoder moved on by one place; done where no digit is left.
+    pub fn take(self) -> Taken
+        ensures { λ r. ⌜ IsTake self r ⌝ }
+    {
+        if self.is_done() {
+            return Taken {
+                next: self,
+                answer: Take::Done,
+            };
+        }
+        let words = self.words;
+        let carry = self.carry;
+        let low = words[0] % 4;
+        let one = carry as u64;
+        Taken {
+            next: Recoder {
+                words: halved(words),
+                carry: 2 <= low % 2 + low / 2 + one,
+            },
+            answer: Take::Digit(digit_byte(low + one)),
+        }
+    }
+}
+
+// The byte of the lowest digit of a number.
+fn digit_byte(number: u64) -> u8
+    ensures { λ r. ⌜ r ≡ digitByte (lowDigit 2 number) ⌝ }
+{
+    if number % 2 == 0 {
+        0
+    } else if number % 4 == 1 {
+        1
+    } else {
+        255
+    }
 }

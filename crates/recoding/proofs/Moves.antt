@@ -1,0 +1,125 @@
+-- One move of a recoder: the lowest digit of v + c, and what is left, by the two low binary digits of v. Assumes nothing.
+use mathlib.Core.Path.{_≡_, refl, sym, ap, _∙_}
+use mathlib.Core.Logic.{_≢_}
+use mathlib.Core.Bool.{Bool, true, false}
+use mathlib.Core.List.{List}
+use Prim.Native.Nat.{ℕ, zero, suc, _+_, _*_, _/_, _%_, _^_, _<_, _≤_}
+use borrow.Author.Tests.{lt-ltb, le-ltb}
+use native.Mathlib.Omega.{arith}
+use lib.Dec.{leb}
+use lib.ListN.{length, getD, take}
+use lib.Seq.{take-all}
+use mir.Val.{boolByte}
+use Rattle.limits.specs.Limits.{numberBytes}
+use Rattle.limits.specs.declared.Refusal.the-variants.{NumberTooLong}
+use Rattle.integers.specs.Positional.{bytesValue, wordsValue}
+use Rattle.integers.proofs.Positional.{positional-drop}
+use Rattle.signed_digits.specs.Naf.{residue, lowDigit, rest}
+use Rattle.signed_digits.specs.Bytes.{digitByte}
+use Rattle.signed_digits.proofs.Steps.{low-digit-2, rest-2, by-four}
+use Rattle.recoding.specs.declared.recoder.Recoder.{Recoder}
+use Rattle.recoding.specs.declared.recoder.Start.the-variants.{Ready, Refused}
+use Rattle.recoding.specs.declared.recoder.Take.the-variants.{Digit, Done}
+use Rattle.recoding.specs.Take.{carried, standsFor, takeAnswer, takeLeaves, IsStart, IsTake}
+
+-- ---- the byte of the lowest digit, by the remainder modulo 4
+pub byte-even : (n : ℕ) → n % 2 ≡ 0 → digitByte (lowDigit 2 n) ≡ 0
+byte-even = by-four _ (λ q. (λ h. rw (low-digit-2 q .0), λ h. absurd (omega arith), λ h. rw (low-digit-2 q .2), λ h. absurd (omega arith)))
+
+pub byte-one : (n : ℕ) → n % 4 ≡ 1 → digitByte (lowDigit 2 n) ≡ 1
+byte-one = by-four _ (λ q. (λ h. absurd (omega arith), λ h. rw (low-digit-2 q .1), λ h. absurd (omega arith), λ h. absurd (omega arith)))
+
+pub byte-minus : (n : ℕ) → n % 2 ≢ 0 → n % 4 ≢ 1 → digitByte (lowDigit 2 n) ≡ 255
+byte-minus = by-four _ (λ q. (λ h k. absurd (omega arith), λ h k. absurd (omega arith), λ h k. absurd (omega arith), λ h k. rw (low-digit-2 q .3)))
+
+-- the digit depends on that remainder alone
+pub same-digit : (a b : ℕ) → a % 4 ≡ b % 4 → lowDigit 2 a ≡ lowDigit 2 b
+unfolding lowDigit residue
+same-digit a b h = let e : a % 2 ≡ b % 2 = omega arith in rw (e, h)
+
+-- ---- what is left, with the next carry
+pub moved : (v c : ℕ) → c ≤ 1 → rest 2 (v + c) ≡ v / 2 + (v % 4 % 2 + v % 4 / 2 + c) / 2
+moved v c h = go (v + c) v c refl h
+  where
+    go : (n v c : ℕ) → v + c ≡ n → c ≤ 1 → rest 2 n ≡ v / 2 + (v % 4 % 2 + v % 4 / 2 + c) / 2
+    go = by-four _ (λ q. (
+      λ v c e h. omega (arith, rest-2 q),
+      λ v c e h. omega (arith, rest-2 q),
+      λ v c e h. omega (arith, rest-2 q),
+      λ v c e h. omega (arith, rest-2 q),
+    ))
+
+pub carried-half : (m : ℕ) → m ≤ 3 → carried (leb 2 m) ≡ m / 2
+carried-half zero h = refl
+carried-half (suc zero) h = refl
+carried-half (suc (suc zero)) h = refl
+carried-half (suc (suc (suc zero))) h = refl
+carried-half (suc (suc (suc (suc m)))) h = absurd (omega arith)
+
+pub carried-byte : (b : Bool) → boolByte b ≡ carried b
+carried-byte true = refl
+carried-byte false = refl
+
+pub one-small : (b : Bool) → boolByte b ≤ 1
+one-small true = omega arith
+one-small false = omega arith
+
+-- the low word has the low binary digits
+pub low-word : (words : List ℕ) → wordsValue words % 4 ≡ getD words 0 0 % 4
+low-word words = omega (arith, positional-drop (2 ^ 64) words 0)
+
+-- ---- the definitions of a take, where something is left
+pub answer-some : (n : ℕ) → n ≢ 0 → takeAnswer n ≡ Digit (digitByte (lowDigit 2 n))
+answer-some zero h = absurd (h refl)
+answer-some (suc n) h = refl
+
+pub leaves-some : (n : ℕ) → n ≢ 0 → takeLeaves n ≡ rest 2 n
+leaves-some zero h = absurd (h refl)
+leaves-some (suc n) h = refl
+
+-- ---- the two returns of a take
+pub done-is : (r : Recoder) → standsFor r ≡ 0 → IsTake r (record { next = r; answer = Done })
+done-is r z = record { answer = rw z; next = rw z; done = λ h. refl }
+
+module _ (r : Recoder) (half : List ℕ) (digit : ℕ) where
+  low : ℕ
+  low = getD (r .words) 0 0 % 4
+
+  pub move-is : standsFor r ≢ 0 → wordsValue half ≡ wordsValue (r .words) / 2 → digit ≡ digitByte (lowDigit 2 (getD (r .words) 0 0 % 4 + boolByte (r .carry)))
+      → IsTake r (record { next = record { words = half; carry = leb 2 (getD (r .words) 0 0 % 4 % 2 + getD (r .words) 0 0 % 4 / 2 + boolByte (r .carry)) }; answer = Digit digit })
+  unfolding standsFor low
+  move-is some halves byte =
+      let v : ℕ = wordsValue (r .words) in
+      let c : ℕ = carried (r .carry) in
+      let e : boolByte (r .carry) ≡ c = carried-byte (r .carry) in
+      let l : v % 4 ≡ low = low-word (r .words) in
+      let small : c ≤ 1 = omega (arith, one-small (r .carry)) in
+      let d : lowDigit 2 (low + c) ≡ lowDigit 2 (v + c) = same-digit (low + c) (v + c) (omega arith) in
+      let m : rest 2 (v + c) ≡ v / 2 + (low % 2 + low / 2 + c) / 2 = rw (← l) (moved v c small) in
+      record {
+        answer = rw (byte, e, d) (sym (answer-some (v + c) some));
+        next = rw (e, halves, carried-half (low % 2 + low / 2 + c) (omega arith), leaves-some (v + c) some) (sym m);
+        done = λ z. absurd (some z);
+      }
+
+-- ---- the two returns of the start
+pub refused-is : (number : List ℕ) (words : List ℕ) → numberBytes < length number → wordsValue words ≡ 0
+    → IsStart number (record { recoder = record { words = words; carry = false }; answer = Refused NumberTooLong })
+unfolding standsFor
+refused-is number words h z = let t = lt-ltb numberBytes (length number) h in record { answer = rw t; recoder = rw (t, z) }
+
+pub ready-is : (number words : List ℕ) → length number ≤ numberBytes → wordsValue words ≡ bytesValue (take numberBytes number)
+    → IsStart number (record { recoder = record { words = words; carry = false }; answer = Ready })
+unfolding standsFor
+ready-is number words h e =
+    let t = le-ltb numberBytes (length number) h in
+    record { answer = rw t; recoder = rw t (omega (arith, e, ap bytesValue (take-all numberBytes number h))) }
+
+-- ---- whether a recoder is done
+pub carry-stands : (r : Recoder) → r .carry ≡ true → standsFor r ≢ 0
+unfolding standsFor
+carry-stands r t z = omega (arith, z, ap carried t)
+
+pub words-stand : (r : Recoder) → r .carry ≡ false → wordsValue (r .words) ≡ standsFor r
+unfolding standsFor
+words-stand r f = omega (arith, ap carried f)

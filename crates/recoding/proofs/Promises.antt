@@ -1,0 +1,118 @@
+-- What document 01 promises of recode, as theorems about the definitions that its statement cites. Assumes nothing.
+use mathlib.Core.Path.{_≡_, refl, sym, ap, _∙_}
+use mathlib.Core.Logic.{_↔_}
+use mathlib.Core.Bool.{Bool, true, false}
+use mathlib.Core.List.{List, [], _∷_, _++_}
+use Prim.Native.Nat.{ℕ, zero, suc, _+_, _*_, _<_, _≤_, _^_}
+use borrow.Author.Tests.{lt-ltb, le-ltb, ltb-true, ltb-false}
+use native.Mathlib.Omega.{arith}
+use lib.Dec.{ltb}
+use lib.IntN.{ℤ, pos}
+use lib.ListN.{length, take, drop, replicate}
+use lib.Pow.{pow-add}
+use Rattle.limits.specs.Limits.{numberBytes}
+use Rattle.limits.specs.Outcome.{Outcome, refused, answered, written}
+use Rattle.integers.specs.Positional.{positional, bytesValue}
+use Rattle.integers.proofs.Positional.{Below, positional-append, positional-lt, positional-zeros}
+use Rattle.signed_digits.specs.Strings.{value}
+use Rattle.signed_digits.specs.Form.{Canonical}
+use Rattle.signed_digits.specs.Naf.{canonical, naf, digitsOf}
+use Rattle.signed_digits.specs.Bytes.{digitBytes}
+use Rattle.signed_digits.proofs.Canonical.{canonical-form, canonical-value, canonical-only}
+use Rattle.signed_digits.proofs.Length.{length-at-most}
+use Rattle.recoding.specs.Recode.{recoding, recodeAnswer, recodeBuffer, recodeOutcome}
+use Rattle.recoding.proofs.Triple.{power-of-bytes}
+use Rattle.recoding.proofs.Count.{length-recoding}
+
+-- ---- each refusal is given exactly when the rules say, and no other
+
+module _ (number : List ℕ) (room : ℕ) where
+  -- the outcome, in document 01's numbers
+  abbrev pub outcome : Outcome
+  outcome = recodeOutcome (recodeAnswer number room)
+
+  data Case : Type 0 where
+    long : numberBytes < length number → outcome ≡ refused 1 0 → Case
+    small : length number ≤ numberBytes → room < length (recoding number) → outcome ≡ refused 6 (length (recoding number)) → Case
+    fine : length number ≤ numberBytes → length (recoding number) ≤ room → outcome ≡ answered (length (recoding number) ∷ []) → Case
+
+  cases : Case
+  cases = go (ltb numberBytes (length number)) (ltb room (length (recoding number))) refl refl
+    where
+      go : (a b : Bool) → ltb numberBytes (length number) ≡ a → ltb room (length (recoding number)) ≡ b → Case
+      go true b p q = long (ltb-true _ _ p) (rw p)
+      go false true p q = small (ltb-false _ _ p) (ltb-true _ _ q) (rw (p, q))
+      go false false p q = fine (ltb-false _ _ p) (ltb-false _ _ q) (rw (p, q))
+
+  -- 1, place 0: the number is longer than the limit
+  pub refuses-1 : outcome ≡ refused 1 0 ↔ numberBytes < length number
+  refuses-1 = (λ e. to cases e, λ h. from cases h)
+    where
+      to : Case → outcome ≡ refused 1 0 → numberBytes < length number
+      to (long h o) e = h
+      to (small h l o) e = let z : _≡_ {A = ℕ} 6 1 = cc in absurd (omega arith)
+      to (fine h l o) e = let z : _≡_ {A = ℕ} 6 1 = cc in absurd (omega arith)
+
+      from : Case → numberBytes < length number → outcome ≡ refused 1 0
+      from (long h o) k = o
+      from (small h l o) k = absurd (omega arith)
+      from (fine h l o) k = absurd (omega arith)
+
+  -- 6, place the bytes needed: the digits are more than the bytes lent
+  pub refuses-6 : (p : ℕ) → outcome ≡ refused 6 p ↔ (length number ≤ numberBytes) × (room < length (recoding number)) × (p ≡ length (recoding number))
+  refuses-6 p = (λ e. to cases e, λ h. from cases h)
+    where
+      to : Case → outcome ≡ refused 6 p → (length number ≤ numberBytes) × (room < length (recoding number)) × (p ≡ length (recoding number))
+      to (long h o) e = let z : _≡_ {A = ℕ} 6 1 = cc in absurd (omega arith)
+      to (small h l o) e = (h, l, cc)
+      to (fine h l o) e = let z : _≡_ {A = ℕ} 6 1 = cc in absurd (omega arith)
+
+      from : Case → (length number ≤ numberBytes) × (room < length (recoding number)) × (p ≡ length (recoding number)) → outcome ≡ refused 6 p
+      from (long h o) k = absurd (omega arith)
+      from (small h l o) k = cc
+      from (fine h l o) k = absurd (omega arith)
+
+  -- otherwise the length is answered
+  pub answers : (vs : List ℕ) → outcome ≡ answered vs ↔ (length number ≤ numberBytes) × (length (recoding number) ≤ room) × (vs ≡ length (recoding number) ∷ [])
+  answers vs = (λ e. to cases e, λ h. from cases h)
+    where
+      to : Case → outcome ≡ answered vs → (length number ≤ numberBytes) × (length (recoding number) ≤ room) × (vs ≡ length (recoding number) ∷ [])
+      to (long h o) e = let z : _≡_ {A = ℕ} 6 1 = cc in absurd (omega arith)
+      to (small h l o) e = let z : _≡_ {A = ℕ} 6 1 = cc in absurd (omega arith)
+      to (fine h l o) e = (h, l, cc)
+
+      from : Case → (length number ≤ numberBytes) × (length (recoding number) ≤ room) × (vs ≡ length (recoding number) ∷ []) → outcome ≡ answered vs
+      from (long h o) k = absurd (omega arith)
+      from (small h l o) k = absurd (omega arith)
+      from (fine h l o) k = cc
+
+-- ---- what is written
+
+-- the canonical string of the number: the form, the value, and no other string has both
+pub recoding-canonical : (number : List ℕ) → (ds : List ℤ) × (recoding number ≡ digitBytes ds) × Canonical ds × (value ds ≡ pos (bytesValue number))
+unfolding recoding
+recoding-canonical number =
+    let e : ℕ = bytesValue number in
+    (canonical (pos e), refl, canonical-form (pos e), canonical-value (pos e))
+
+pub recoding-only : (number : List ℕ) (ds : List ℤ) → Canonical ds → value ds ≡ pos (bytesValue number) → digitBytes ds ≡ recoding number
+unfolding recoding
+recoding-only number ds c v = ap digitBytes (canonical-only ds c ∙ ap canonical v)
+
+-- no bytes mean zero, which is the empty string; high zero bytes change nothing
+pub recoding-empty : recoding [] ≡ []
+unfolding recoding positional naf digitsOf
+recoding-empty = refl
+
+pub recoding-padded : (number : List ℕ) (n : ℕ) → recoding (number ++ replicate n 0) ≡ recoding number
+unfolding recoding
+recoding-padded number n = rw (positional-zeros 256 n number)
+
+-- n bytes have at most 8 n + 1 digits, so 257 at the limit
+pub recoding-length : (number : List ℕ) → Below 256 number → length (recoding number) ≤ 8 * length number + 1
+recoding-length number b =
+    let e : ℕ = bytesValue number in
+    let h : e < 256 ^ length number = positional-lt 256 (length number) number (omega arith) b in
+    let p : 2 ^ (8 * length number + 2) ≡ 256 ^ length number * 4 = rw (power-of-bytes (length number)) (pow-add 2 (8 * length number) 2) in
+    let q : 8 * length number + 1 + 1 ≡ 8 * length number + 2 = omega arith in
+    rw (length-recoding number) (length-at-most e (8 * length number + 1) .1 (rw (q, p) (omega arith)))

@@ -1,10 +1,10 @@
 // Little-endian numbers: bytes and words.
-use limits::NUMBER_WORDS;
+use rules::NUMBER_WORDS;
 ghost use mathlib.Core.Path.{_≡_};
 ghost use Prim.Native.Nat.{_+_, _/_, _<_, _≤_, min};
 ghost use lib.Dec.{eqb};
 ghost use lib.ListN.{length, take, drop, getD};
-ghost use Rattle.limits.specs.Limits.{numberBytes};
+ghost use Rattle.rules.specs.Limits.{numberBytes};
 ghost use Rattle.integers.specs.Positional.{bytesValue, wordsValue};
 
 // The byte at a place: 0 above the number.

@@ -10,8 +10,8 @@ use lib.Dec.{leb}
 use lib.ListN.{length, getD, take}
 use lib.Seq.{take-all}
 use mir.Val.{boolByte}
-use Rattle.limits.specs.Limits.{numberBytes}
-use Rattle.limits.specs.declared.Refusal.the-variants.{NumberTooLong}
+use Rattle.rules.specs.Limits.{numberBytes}
+use Rattle.rules.specs.declared.Refusal.the-variants.{NumberTooLong}
 use Rattle.integers.specs.Positional.{bytesValue, wordsValue}
 use Rattle.integers.proofs.Positional.{positional-drop}
 use Rattle.signed_digits.specs.Naf.{residue, lowDigit, rest}

@@ -5,14 +5,15 @@ use Prim.Native.Nat.{ℕ, _<_, _≤_}
 use borrow.Author.Tests.{lt-ltb, le-ltb}
 use lib.IntN.{pos}
 use lib.ListN.{length, drop, List·getD-map}
-use Rattle.limits.specs.Limits.{numberBytes}
-use Rattle.limits.specs.declared.Refusal.the-variants.{NumberTooLong, RoomTooSmall}
+use Rattle.rules.specs.Limits.{numberBytes}
+use Rattle.rules.specs.declared.Refusal.the-variants.{NumberTooLong, RoomTooSmall}
 use Rattle.integers.specs.Positional.{bytesValue}
 use Rattle.integers.specs.Tabulate.{tabulate}
 use Rattle.integers.proofs.Tabulate.{tabulate-of}
 use Rattle.signed_digits.specs.Naf.{canonical}
 use Rattle.signed_digits.specs.Bytes.{digitByte}
-use Rattle.recoding.specs.declared.Recoded.the-variants.{Length, Refused}
+use Rattle.rules.specs.declared.Written.the-variants.{Length, Refused}
+use Rattle.rules.proofs.Fitted.{too-small, fits}
 use Rattle.recoding.specs.Recode.{recoding, recodeAnswer, recodeBuffer}
 use Rattle.recoding.specs.Internal.{placeByte}
 
@@ -26,16 +27,16 @@ module _ (number out : List ℕ) where
   pub too-long : numberBytes < length number → (recodeAnswer number (length out) ≡ Refused NumberTooLong) × (recodeBuffer number out ≡ out)
   too-long h = let t = lt-ltb numberBytes (length number) h in (rw t, rw t)
 
-  pub too-small : (n : ℕ) → n ≡ length (recoding number) → length number ≤ numberBytes → length out < n
+  pub no-room : (n : ℕ) → n ≡ length (recoding number) → length number ≤ numberBytes → length out < n
       → (recodeAnswer number (length out) ≡ Refused (RoomTooSmall n)) × (recodeBuffer number out ≡ out)
-  too-small n e h l =
+  no-room n e h l =
       let t = le-ltb numberBytes (length number) h in
-      let u = lt-ltb (length out) (length (recoding number)) (rw e at l) in
+      let u = too-small (recoding number) (length out) (rw e at l) in
       (rw (t, u, e), rw (t, u))
 
-  pub fits : (n : ℕ) → n ≡ length (recoding number) → length number ≤ numberBytes → n ≤ length out
+  pub done : (n : ℕ) → n ≡ length (recoding number) → length number ≤ numberBytes → n ≤ length out
       → (recodeAnswer number (length out) ≡ Length n) × (recodeBuffer number out ≡ tabulate (placeByte (bytesValue number)) n ++ drop n out)
-  fits n e h l =
+  done n e h l =
       let t = le-ltb numberBytes (length number) h in
-      let u = le-ltb (length out) (length (recoding number)) (rw e at l) in
+      let u = fits (recoding number) (length out) (rw e at l) in
       (rw (t, u, e), rw (t, u, e) (ap (λ (s : List ℕ). s ++ drop (length (recoding number)) out) (recoding-table number)))

@@ -10,8 +10,10 @@ use lib.Dec.{ltb}
 use lib.IntN.{ℤ, pos}
 use lib.ListN.{length, take, drop, replicate}
 use lib.Pow.{pow-add}
-use Rattle.limits.specs.Limits.{numberBytes}
-use Rattle.limits.specs.Outcome.{Outcome, refused, answered, written}
+use Rattle.rules.specs.Limits.{numberBytes}
+use Rattle.rules.specs.Outcome.{Outcome, refused, answered, writtenOutcome}
+use Rattle.rules.specs.Memory.{fitted}
+use Rattle.rules.proofs.Fitted.{too-small, fits, Fitting, small, fine, fitting}
 use Rattle.integers.specs.Positional.{positional, bytesValue}
 use Rattle.integers.proofs.Positional.{Below, positional-append, positional-lt, positional-zeros}
 use Rattle.signed_digits.specs.Strings.{value}
@@ -20,7 +22,7 @@ use Rattle.signed_digits.specs.Naf.{canonical, naf, digitsOf}
 use Rattle.signed_digits.specs.Bytes.{digitBytes}
 use Rattle.signed_digits.proofs.Canonical.{canonical-form, canonical-value, canonical-only}
 use Rattle.signed_digits.proofs.Length.{length-at-most}
-use Rattle.recoding.specs.Recode.{recoding, recodeAnswer, recodeBuffer, recodeOutcome}
+use Rattle.recoding.specs.Recode.{recoding, recodeAnswer}
 use Rattle.recoding.proofs.Triple.{power-of-bytes}
 use Rattle.recoding.proofs.Count.{length-recoding}
 
@@ -29,62 +31,51 @@ use Rattle.recoding.proofs.Count.{length-recoding}
 module _ (number : List ℕ) (room : ℕ) where
   -- the outcome, in document 01's numbers
   abbrev pub outcome : Outcome
-  outcome = recodeOutcome (recodeAnswer number room)
+  outcome = writtenOutcome (recodeAnswer number room)
 
   data Case : Type 0 where
     long : numberBytes < length number → outcome ≡ refused 1 0 → Case
-    small : length number ≤ numberBytes → room < length (recoding number) → outcome ≡ refused 6 (length (recoding number)) → Case
-    fine : length number ≤ numberBytes → length (recoding number) ≤ room → outcome ≡ answered (length (recoding number) ∷ []) → Case
+    short : length number ≤ numberBytes → outcome ≡ writtenOutcome (fitted (recoding number) room) → Case
 
-  cases : Case
-  cases = go (ltb numberBytes (length number)) (ltb room (length (recoding number))) refl refl
+  case : Case
+  case = go (ltb numberBytes (length number)) refl
     where
-      go : (a b : Bool) → ltb numberBytes (length number) ≡ a → ltb room (length (recoding number)) ≡ b → Case
-      go true b p q = long (ltb-true _ _ p) (rw p)
-      go false true p q = small (ltb-false _ _ p) (ltb-true _ _ q) (rw (p, q))
-      go false false p q = fine (ltb-false _ _ p) (ltb-false _ _ q) (rw (p, q))
+      go : (t : Bool) → ltb numberBytes (length number) ≡ t → Case
+      go true e = long (ltb-true _ _ e) (rw e)
+      go false e = short (ltb-false _ _ e) (rw e)
 
   -- 1, place 0: the number is longer than the limit
   pub refuses-1 : outcome ≡ refused 1 0 ↔ numberBytes < length number
-  refuses-1 = (λ e. to cases e, λ h. from cases h)
+  refuses-1 = (λ e. to case (fitting (recoding number) room) e, λ h. rw (lt-ltb numberBytes (length number) h))
     where
-      to : Case → outcome ≡ refused 1 0 → numberBytes < length number
-      to (long h o) e = h
-      to (small h l o) e = let z : _≡_ {A = ℕ} 6 1 = cc in absurd (omega arith)
-      to (fine h l o) e = let z : _≡_ {A = ℕ} 6 1 = cc in absurd (omega arith)
-
-      from : Case → numberBytes < length number → outcome ≡ refused 1 0
-      from (long h o) k = o
-      from (small h l o) k = absurd (omega arith)
-      from (fine h l o) k = absurd (omega arith)
+      to : Case → Fitting (recoding number) room → outcome ≡ refused 1 0 → numberBytes < length number
+      to (long h o) f e = h
+      to (short h o) (small l p) e = let z : _≡_ {A = ℕ} 6 1 = cc in absurd (omega arith)
+      to (short h o) (fine l p) e = let z : _≡_ {A = ℕ} 6 1 = cc in absurd (omega arith)
 
   -- 6, place the bytes needed: the digits are more than the bytes lent
   pub refuses-6 : (p : ℕ) → outcome ≡ refused 6 p ↔ (length number ≤ numberBytes) × (room < length (recoding number)) × (p ≡ length (recoding number))
-  refuses-6 p = (λ e. to cases e, λ h. from cases h)
+  refuses-6 p = (λ e. to case (fitting (recoding number) room) e, λ h. from (h .0) (h .1) (h .2))
     where
-      to : Case → outcome ≡ refused 6 p → (length number ≤ numberBytes) × (room < length (recoding number)) × (p ≡ length (recoding number))
-      to (long h o) e = let z : _≡_ {A = ℕ} 6 1 = cc in absurd (omega arith)
-      to (small h l o) e = (h, l, cc)
-      to (fine h l o) e = let z : _≡_ {A = ℕ} 6 1 = cc in absurd (omega arith)
+      to : Case → Fitting (recoding number) room → outcome ≡ refused 6 p → (length number ≤ numberBytes) × (room < length (recoding number)) × (p ≡ length (recoding number))
+      to (long h o) f e = let z : _≡_ {A = ℕ} 6 1 = cc in absurd (omega arith)
+      to (short h o) (small l q) e = (h, l, cc)
+      to (short h o) (fine l q) e = let z : _≡_ {A = ℕ} 6 1 = cc in absurd (omega arith)
 
-      from : Case → (length number ≤ numberBytes) × (room < length (recoding number)) × (p ≡ length (recoding number)) → outcome ≡ refused 6 p
-      from (long h o) k = absurd (omega arith)
-      from (small h l o) k = cc
-      from (fine h l o) k = absurd (omega arith)
+      from : length number ≤ numberBytes → room < length (recoding number) → p ≡ length (recoding number) → outcome ≡ refused 6 p
+      from h l e = rw (le-ltb numberBytes (length number) h, too-small (recoding number) room l, e)
 
   -- otherwise the length is answered
   pub answers : (vs : List ℕ) → outcome ≡ answered vs ↔ (length number ≤ numberBytes) × (length (recoding number) ≤ room) × (vs ≡ length (recoding number) ∷ [])
-  answers vs = (λ e. to cases e, λ h. from cases h)
+  answers vs = (λ e. to case (fitting (recoding number) room) e, λ h. from (h .0) (h .1) (h .2))
     where
-      to : Case → outcome ≡ answered vs → (length number ≤ numberBytes) × (length (recoding number) ≤ room) × (vs ≡ length (recoding number) ∷ [])
-      to (long h o) e = let z : _≡_ {A = ℕ} 6 1 = cc in absurd (omega arith)
-      to (small h l o) e = let z : _≡_ {A = ℕ} 6 1 = cc in absurd (omega arith)
-      to (fine h l o) e = (h, l, cc)
+      to : Case → Fitting (recoding number) room → outcome ≡ answered vs → (length number ≤ numberBytes) × (length (recoding number) ≤ room) × (vs ≡ length (recoding number) ∷ [])
+      to (long h o) f e = let z : _≡_ {A = ℕ} 6 1 = cc in absurd (omega arith)
+      to (short h o) (small l q) e = let z : _≡_ {A = ℕ} 6 1 = cc in absurd (omega arith)
+      to (short h o) (fine l q) e = (h, l, cc)
 
-      from : Case → (length number ≤ numberBytes) × (length (recoding number) ≤ room) × (vs ≡ length (recoding number) ∷ []) → outcome ≡ answered vs
-      from (long h o) k = absurd (omega arith)
-      from (small h l o) k = absurd (omega arith)
-      from (fine h l o) k = cc
+      from : length number ≤ numberBytes → length (recoding number) ≤ room → vs ≡ length (recoding number) ∷ [] → outcome ≡ answered vs
+      from h l e = rw (le-ltb numberBytes (length number) h, fits (recoding number) room l, e)
 
 -- ---- what is written
 

@@ -7,7 +7,7 @@ use native.Mathlib.Numerals.{add-one}
 use native.Mathlib.Omega.{arith}
 use lib.IntN.{ℤ, pos}
 use lib.ListN.{length}
-use Rattle.limits.specs.Limits.{numberBytes}
+use Rattle.rules.specs.Limits.{numberBytes}
 use Rattle.signed_digits.specs.Naf.{lowDigit, rest, canonical}
 use Rattle.signed_digits.specs.Bytes.{digitByte, digitBytes}
 use Rattle.signed_digits.proofs.Steps.{naf-zero, naf-step}

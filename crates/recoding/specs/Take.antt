@@ -6,9 +6,9 @@ use Prim.Native.Nat.{ℕ, zero, suc, _+_}
 use lib.Dec.{ltb}
 use lib.IntN.{ℤ, pos}
 use lib.ListN.{length, replicate}
-use Rattle.limits.specs.Limits.{numberBytes, numberWords}
-use Rattle.limits.specs.Outcome.{Outcome, answered, refusal}
-use Rattle.limits.specs.declared.Refusal.the-variants.{NumberTooLong}
+use Rattle.rules.specs.Limits.{numberBytes, numberWords}
+use Rattle.rules.specs.Outcome.{Outcome, answered, refusal}
+use Rattle.rules.specs.declared.Refusal.the-variants.{NumberTooLong}
 use Rattle.integers.specs.Positional.{bytesValue, wordsValue}
 use Rattle.signed_digits.specs.Naf.{lowDigit, rest, canonical}
 use Rattle.signed_digits.specs.Bytes.{digitByte, digitBytes}

@@ -6,7 +6,7 @@ ghost use mathlib.Core.Path.{_≡_};
 ghost use mathlib.Core.List.{_++_};
 ghost use Prim.Native.Nat.{_+_, _*_, _≤_};
 ghost use lib.ListN.{length, take, drop};
-ghost use Rattle.limits.specs.Limits.{numberBytes};
+ghost use Rattle.rules.specs.Limits.{numberBytes};
 ghost use Rattle.integers.specs.Positional.{bytesValue};
 ghost use Rattle.integers.specs.Tabulate.{tabulate};
 ghost use Rattle.recoding.specs.Recode.{recoding};

@@ -2,9 +2,9 @@
 use integers::halved;
 use integers::is_zero;
 use integers::words_of;
-use limits::NUMBER_BYTES;
-use limits::NUMBER_WORDS;
-use limits::Refusal;
+use rules::NUMBER_BYTES;
+use rules::NUMBER_WORDS;
+use rules::Refusal;
 ghost use mathlib.Core.Path.{_≡_};
 ghost use lib.Dec.{eqb};
 ghost use Rattle.signed_digits.specs.Naf.{lowDigit};

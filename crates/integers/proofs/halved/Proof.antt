@@ -5,7 +5,7 @@ use native.Mathlib.Omega.{arith}
 use lib.ListN.{length, getD}
 use mir.Syntax.{w64}
 use mir.Val.{Fits}
-use Rattle.limits.specs.Limits.{numberWords}
+use Rattle.rules.specs.Limits.{numberWords}
 use Rattle.integers.proofs.Words.{Halving, halving-none, halving-word, halving-step}
 use borrow.Author.Needs.{needs}
 use Rattle.integers.proofs.halved.Statement.{statement}

@@ -5,7 +5,7 @@ use borrow.Author.Count.{below-more}
 use borrow.Author.Tests.{eq-eqb, ne-eqb}
 use native.Mathlib.Omega.{arith}
 use lib.ListN.{getD, length}
-use Rattle.limits.specs.Limits.{numberWords}
+use Rattle.rules.specs.Limits.{numberWords}
 use Rattle.integers.specs.Positional.{wordsValue}
 use Rattle.integers.proofs.Positional.{positional-zero, positional-nonzero}
 use borrow.Author.Needs.{needs}

@@ -4,7 +4,7 @@ use mathlib.Core.List.{List, _++_, append-nil}
 use Prim.Native.Nat.{ℕ, _≤_, _-_, _+_}
 use native.Mathlib.Omega.{arith}
 use lib.ListN.{length, drop, set, replicate}
-use Rattle.limits.specs.Limits.{numberWords}
+use Rattle.rules.specs.Limits.{numberWords}
 use Rattle.integers.specs.Positional.{wordsValue}
 use Rattle.integers.specs.Tabulate.{tabulate}
 use Rattle.integers.proofs.Tabulate.{tabulate-more}

@@ -1,6 +1,6 @@
 -- `recoding::recode` meets its contract: at each return the tests that led there say which outcome holds. Assumes nothing.
 use mathlib.Core.Path.{sym, _∙_}
-use Rattle.recoding.proofs.Outcomes.{too-long, too-small, fits}
+use Rattle.recoding.proofs.Outcomes.{too-long, no-room, done}
 use borrow.Author.Needs.{needs}
 use Rattle.recoding.proofs.recode.Statement.{statement}
 use Rattle.recoding.proofs.recode.Tie as tie
@@ -22,7 +22,7 @@ returns-2 : tie.Need-returns-2
 returns-2 c =
     let args = c .before .before .before .before .before .args in
     let n = c .before .count in
-    let o = too-small (args .number .now) (args .out .now) (n .result) (n .ensures) (c .before .before .if1 .left) (c .if2 .taken) in
+    let o = no-room (args .number .now) (args .out .now) (n .result) (n .ensures) (c .before .before .if1 .left) (c .if2 .taken) in
     (sym (o .0), sym (o .1))
 
 write-requires : tie.Need-write-requires
@@ -35,7 +35,7 @@ returns-3 : tie.Need-returns-3
 returns-3 c =
     let args = c .before .before .before .before .before .before .before .before .before .args in
     let n = c .before .before .before .before .before .count in
-    let o = fits (args .number .now) (args .out .now) (n .result) (n .ensures) (search needs) (search needs) in
+    let o = done (args .number .now) (args .out .now) (n .result) (n .ensures) (search needs) (search needs) in
     (sym (o .0), c .before .before .write .ensures ∙ sym (o .1))
 
 pub recode-spec : {M : Type 1} → statement M

@@ -1,7 +1,7 @@
 -- `recoding::recoder::Recoder::start` meets its contract. Assumes nothing.
 use mathlib.Core.Path.{refl}
 use lib.ListN.{replicate}
-use Rattle.limits.specs.Limits.{numberWords}
+use Rattle.rules.specs.Limits.{numberWords}
 use Rattle.integers.specs.Positional.{positional}
 use Rattle.recoding.proofs.Moves.{refused-is, ready-is}
 use borrow.Author.Needs.{needs}

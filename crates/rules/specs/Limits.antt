@@ -1,6 +1,6 @@
 -- Every limit of document 01, by name. No other file writes one as a number, but for the constants of src/lib.rt, which `current` shows to be these.
 use Prim.Native.Nat.{ℕ, _+_, _*_, _/_, _^_}
-use Rattle.limits.specs.declared.Limits.{Limits}
+use Rattle.rules.specs.declared.Limits.{Limits}
 
 -- a number has at most so many bytes
 abbrev pub numberBytes : ℕ

@@ -1,10 +1,10 @@
-// The limits of document 01, and the refusals that every call shares.
+// What every call of document 01 shares: the limits, the refusals, and the forms of an answer.
 //
 // A limit is written here and in specs/Limits.antt, and nowhere else: `current` shows that the two
 // agree.
 ghost use mathlib.Core.Path.{_≡_};
-ghost use Rattle.limits.specs.Limits.{documented};
-ghost use Rattle.limits.specs.Refusals.{refusalNumber, refusalPlace};
+ghost use Rattle.rules.specs.Limits.{documented};
+ghost use Rattle.rules.specs.Refusals.{refusalNumber, refusalPlace};
 
 // The most bytes of a number.
 pub const NUMBER_BYTES: usize = 32;
@@ -117,4 +117,24 @@ impl Refusal {
             Refusal::WrongEnd(step) => step,
         }
     }
+}
+
+// The answer of a call that writes into a lent buffer: how many bytes stand there now, from its
+// start.
+pub enum Written {
+    Length(usize),
+    Refused(Refusal),
+}
+
+// How many steps of each kind a plan has.
+pub struct Counts {
+    pub doublings: usize,
+    pub additions: usize,
+    pub subtractions: usize,
+}
+
+// The answer of a call that counts steps.
+pub enum Counted {
+    Steps(Counts),
+    Refused(Refusal),
 }

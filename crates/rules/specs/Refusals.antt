@@ -1,7 +1,7 @@
 -- Document 01's table "When a call says no": the number and the place of each refusal.
 use Prim.Native.Nat.{ℕ}
-use Rattle.limits.specs.declared.Refusal.{Refusal}
-use Rattle.limits.specs.declared.Refusal.the-variants.{NumberTooLong, NumberIsZero, MethodOrWidth, NotADigit, StringTooLong, RoomTooSmall, PlanLength, WorkSpaceTooShort, StepUnsound, ValueIsZero, ValueTooLarge, WrongEnd}
+use Rattle.rules.specs.declared.Refusal.{Refusal}
+use Rattle.rules.specs.declared.Refusal.the-variants.{NumberTooLong, NumberIsZero, MethodOrWidth, NotADigit, StringTooLong, RoomTooSmall, PlanLength, WorkSpaceTooShort, StepUnsound, ValueIsZero, ValueTooLarge, WrongEnd}
 
 abbrev pub refusalNumber : Refusal → ℕ
 refusalNumber NumberTooLong = 1

@@ -1,0 +1,5 @@
+-- What every call of document 01 shares.
+pub mod Limits
+pub mod Refusals
+pub mod Outcome
+pub mod Memory

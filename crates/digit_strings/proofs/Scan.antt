@@ -1,0 +1,74 @@
+-- The scan for a byte that is no digit, one place more, and what its end says. Assumes nothing.
+use mathlib.Core.Path.{_≡_, refl, sym, ap, _∙_}
+use mathlib.Core.Bool.{Bool, true, false, cond}
+use mathlib.Core.List.{List, [], _∷_}
+use Prim.Native.Nat.{ℕ, zero, suc, _+_, _<_, _≤_}
+use native.Mathlib.Numerals.{add-one}
+use native.Mathlib.Omega.{arith}
+use borrow.Author.Tests.{lt-ltb, le-ltb, ltb-true, ltb-false}
+use lib.Dec.{ltb}
+use lib.ListN.{length, getD, drop}
+use lib.Seq.{drop-cons, drop-length}
+use Rattle.rules.specs.Limits.{stringDigits}
+use Rattle.rules.specs.declared.Refusal.{Refusal}
+use Rattle.rules.specs.declared.Refusal.the-variants.{NotADigit, StringTooLong}
+use Rattle.digit_strings.specs.Checked.{isDigit, firstBad, checked, DigitString}
+
+module _ (s : List ℕ) where
+  pub here : (i : ℕ) → i < length s → isDigit (getD s i 0) ≡ false → firstBad (drop i s) ≡ 0
+  unfolding firstBad
+  here i h b = rw (drop-cons s i 0, b)
+
+  pub later : (i : ℕ) → i < length s → isDigit (getD s i 0) ≡ true → firstBad (drop i s) ≡ suc (firstBad (drop (i + 1) s))
+  unfolding firstBad
+  later i h b = rw (add-one, drop-cons s i 0, b)
+
+  pub never : firstBad (drop (length s) s) ≡ 0
+  unfolding firstBad
+  never = rw drop-length
+
+-- below the first bad place all are digits, and at it none is
+pub below-bad : (s : List ℕ) (i : ℕ) → i < firstBad s → isDigit (getD s i 0) ≡ true
+unfolding firstBad
+below-bad [] i h = absurd (omega arith)
+below-bad (b ∷ s) i h = go (isDigit b) refl i h (λ k. below-bad s k)
+  where
+    go : (t : Bool) → isDigit b ≡ t → (i : ℕ) → i < cond t (suc (firstBad s)) 0 → ((k : ℕ) → k < firstBad s → isDigit (getD s k 0) ≡ true) → isDigit (getD (b ∷ s) i 0) ≡ true
+    go true e zero h rest = e
+    go true e (suc i) h rest = rest i (omega arith)
+    go false e i h rest = absurd (omega arith)
+
+pub at-bad : (s : List ℕ) → firstBad s < length s → isDigit (getD s (firstBad s) 0) ≡ false
+unfolding firstBad
+at-bad [] h = absurd (omega arith)
+at-bad (b ∷ s) h = go (isDigit b) refl h (λ k. at-bad s k)
+  where
+    go : (t : Bool) → isDigit b ≡ t → cond t (suc (firstBad s)) 0 < length (b ∷ s) → (firstBad s < length s → isDigit (getD s (firstBad s) 0) ≡ false) → isDigit (getD (b ∷ s) (cond t (suc (firstBad s)) 0) 0) ≡ false
+    go true e h rest = rest (omega arith)
+    go false e h rest = e
+
+-- where the scan finds nothing, the string is one of digits
+pub all-digits : (s : List ℕ) → length s ≤ stringDigits → length s ≤ firstBad s → DigitString s
+all-digits s h l = record { within = h; digits = λ i p. below-bad s i (omega arith) }
+
+pub none-bad : (s : List ℕ) → DigitString s → length s ≤ firstBad s
+none-bad s d = go (ltb (firstBad s) (length s)) refl
+  where
+    go : (t : Bool) → ltb (firstBad s) (length s) ≡ t → length s ≤ firstBad s
+    go true e =
+        let h = ltb-true _ _ e in
+        let z : false ≡ true = sym (at-bad s h) ∙ d .digits (firstBad s) h in
+        let y : _≡_ {A = ℕ} 0 1 = cc in
+        absurd (omega arith)
+    go false e = ltb-false _ _ e
+
+-- ---- `checked`, by cases
+module _ {A : Type 0} (refuse : Refusal → A) (s : List ℕ) (answer : A) where
+  pub checked-long : stringDigits < length s → checked refuse s answer ≡ refuse StringTooLong
+  checked-long h = rw (lt-ltb stringDigits (length s) h)
+
+  pub checked-bad : length s ≤ stringDigits → firstBad s < length s → checked refuse s answer ≡ refuse (NotADigit (firstBad s))
+  checked-bad h l = rw (le-ltb stringDigits (length s) h, lt-ltb (firstBad s) (length s) l)
+
+  pub checked-good : DigitString s → checked refuse s answer ≡ answer
+  checked-good d = rw (le-ltb stringDigits (length s) (d .within), le-ltb (firstBad s) (length s) (none-bad s d))

@@ -1,6 +1,9 @@
 -- Natural numbers in a buffer, least significant first.
-use Prim.Native.Nat.{ℕ, _+_, _*_, _/_, _%_, _^_}
+use mathlib.Core.Path.{_≡_}
+use mathlib.Core.Logic.{_≢_}
 use mathlib.Core.List.{List, [], _∷_}
+use Prim.Native.Nat.{ℕ, zero, suc, _+_, _-_, _*_, _/_, _%_, _^_, _<_, _≤_}
+use lib.ListN.{length, getD, drop}
 
 -- the sum of each element times the base to the power of its place
 unfoldable pub positional : ℕ → List ℕ → ℕ
@@ -18,3 +21,18 @@ wordsValue words = positional (2 ^ 64) words
 -- the binary digit of v at place i
 unfoldable pub bit : ℕ → ℕ → ℕ
 bit v i = v / 2 ^ i % 2
+
+-- the bytes of a number with no high zero byte, at most f of them; n itself is enough
+unfoldable pub bytesUpTo : ℕ → ℕ → List ℕ
+bytesUpTo zero n = []
+bytesUpTo (suc f) zero = []
+bytesUpTo (suc f) (suc n) = suc n % 256 ∷ bytesUpTo f (suc n / 256)
+
+unfoldable pub bytesOf : ℕ → List ℕ
+bytesOf n = bytesUpTo n n
+
+-- the bytes below n have the whole value, and n is as small as can be
+pub record Significant (number : List ℕ) (n : ℕ) : Type 0 where
+  pub within : n ≤ length number
+  pub whole : bytesValue (drop n number) ≡ 0
+  pub top : 0 < n → getD number (n - 1) 0 ≢ 0

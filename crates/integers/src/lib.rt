@@ -5,7 +5,7 @@ ghost use Prim.Native.Nat.{_+_, _/_, _<_, _≤_, min};
 ghost use lib.Dec.{eqb};
 ghost use lib.ListN.{length, take, drop, getD};
 ghost use Rattle.rules.specs.Limits.{numberBytes};
-ghost use Rattle.integers.specs.Positional.{bytesValue, wordsValue};
+ghost use Rattle.integers.specs.Positional.{bytesValue, wordsValue, Significant};
 
 // The byte at a place: 0 above the number.
 pub fn byte_at(number: &[u8], place: usize) -> u64
@@ -16,6 +16,20 @@ pub fn byte_at(number: &[u8], place: usize) -> u64
     } else {
         0
     }
+}
+
+// How many bytes the number has without its high zero bytes.
+pub fn significant(number: &[u8]) -> usize
+    ensures { λ r. ⌜ Significant (now (number .entry)) r ⌝ }
+{
+    let mut n = number.len();
+    while 0 < n {
+        if number[n - 1] != 0 {
+            return n;
+        }
+        n -= 1;
+    }
+    n
 }
 
 fn least(a: usize, b: usize) -> usize

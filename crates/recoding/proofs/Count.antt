@@ -6,13 +6,13 @@ use native.Mathlib.Omega.{arith}
 use lib.Count.{leadingZeros, leading-length}
 use lib.IntN.{pos}
 use lib.ListN.{length, getD, drop, length-map}
-use Rattle.integers.specs.Positional.{bytesValue}
+use Rattle.integers.specs.Positional.{bytesValue, Significant}
 use Rattle.integers.proofs.Positional.{Below, positional-drop, positional-div}
 use Rattle.signed_digits.specs.Naf.{canonical}
 use Rattle.signed_digits.specs.Bytes.{digitByte}
 use Rattle.signed_digits.proofs.Steps.{naf-zero}
 use Rattle.recoding.specs.Recode.{recoding}
-use Rattle.recoding.specs.Internal.{tripleCarry, Significant}
+use Rattle.recoding.specs.Internal.{tripleCarry}
 use Rattle.recoding.proofs.Triple.{triple-div, digit-count}
 
 pub length-recoding : (number : List ℕ) → length (recoding number) ≡ length (canonical (pos (bytesValue number)))

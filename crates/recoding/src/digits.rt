@@ -2,6 +2,7 @@
 // place i is the binary digit of 3 e at i + 1, less that of e. So no digit waits for another, and
 // the work is linear in the number's bytes.
 use integers::byte_at;
+use integers::significant;
 ghost use mathlib.Core.Path.{_≡_};
 ghost use mathlib.Core.List.{_++_};
 ghost use Prim.Native.Nat.{_+_, _*_, _≤_};
@@ -10,21 +11,7 @@ ghost use Rattle.rules.specs.Limits.{numberBytes};
 ghost use Rattle.integers.specs.Positional.{bytesValue};
 ghost use Rattle.integers.specs.Tabulate.{tabulate};
 ghost use Rattle.recoding.specs.Recode.{recoding};
-ghost use Rattle.recoding.specs.Internal.{placeByte, tripleCarry, difference, Significant};
-
-// How many bytes the number has without its high zero bytes.
-fn significant(number: &[u8]) -> usize
-    ensures { λ r. ⌜ Significant (now (number .entry)) r ⌝ }
-{
-    let mut n = number.len();
-    while 0 < n {
-        if number[n - 1] != 0 {
-            return n;
-        }
-        n -= 1;
-    }
-    n
-}
+ghost use Rattle.recoding.specs.Internal.{placeByte, tripleCarry, difference};
 
 // What three times the low n bytes carry into byte n.
 fn carry_into(number: &[u8], n: usize) -> u64

@@ -99,7 +99,7 @@ impl Recoder {
 }
 
 // The byte of the lowest digit of a number.
-fn digit_byte(number: u64) -> u8
+pub fn digit_byte(number: u64) -> u8
     ensures { λ r. ⌜ r ≡ digitByte (lowDigit 2 number) ⌝ }
 {
     if number % 2 == 0 {

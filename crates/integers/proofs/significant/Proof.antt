@@ -1,16 +1,16 @@
--- `recoding::digits::significant` meets its contract: the bytes from n on are zero. Assumes nothing.
+-- `integers::significant` meets its contract: the bytes from n on are zero. Assumes nothing.
 use mathlib.Core.Path.{_≡_, ap}
 use Prim.Native.Nat.{ℕ, suc, _≤_, _-_}
 use native.Mathlib.Omega.{arith}
 use lib.ListN.{length, drop}
 use lib.Seq.{drop-length}
 use Rattle.integers.specs.Positional.{positional, bytesValue}
 use Rattle.integers.proofs.Positional.{positional-drop}
 use borrow.Author.Needs.{needs}
-use Rattle.recoding.proofs.digits.significant.Statement.{statement}
-use Rattle.recoding.proofs.digits.significant.Tie as tie
-use Rattle.recoding.proofs.digits.significant.Reads as reads
-use Rattle.recoding.proofs.digits.significant.Lts as lts
+use Rattle.integers.proofs.significant.Statement.{statement}
+use Rattle.integers.proofs.significant.Tie as tie
+use Rattle.integers.proofs.significant.Reads as reads
+use Rattle.integers.proofs.significant.Lts as lts
 
 abbrev Inv-loop : tie.InvT-loop
 Inv-loop number n₀ n = (n ≤ length number) × (bytesValue (drop n number) ≡ 0)

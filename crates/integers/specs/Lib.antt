@@ -1,2 +1,3 @@
 pub mod Positional
+pub mod Signed
 pub mod Tabulate

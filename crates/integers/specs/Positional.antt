@@ -36,3 +36,8 @@ pub record Significant (number : List ℕ) (n : ℕ) : Type 0 where
   pub within : n ≤ length number
   pub whole : bytesValue (drop n number) ≡ 0
   pub top : 0 < n → getD number (n - 1) 0 ≢ 0
+
+-- the n low bytes of a number
+unfoldable pub lowBytes : ℕ → ℕ → List ℕ
+lowBytes zero v = []
+lowBytes (suc n) v = v % 256 ∷ lowBytes n (v / 256)

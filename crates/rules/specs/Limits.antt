@@ -26,6 +26,10 @@ planSteps = 640
 abbrev pub valueBytes : ℕ
 valueBytes = 33
 
+-- the words of eight bytes that hold such a size; the top one holds a single byte
+abbrev pub valueWords : ℕ
+valueWords = valueBytes / 8 + 1
+
 -- a value's size is below this
 abbrev pub valueBound : ℕ
 valueBound = 2 ^ (8 * valueBytes)

@@ -23,6 +23,9 @@ pub const PLAN_STEPS: usize = 640;
 // Each value of a plan has a size of this many bytes, so it is below 2 to the power of 264.
 pub const VALUE_BYTES: usize = 33;
 
+// The words of eight bytes that hold such a size. The top one holds a single byte.
+pub const VALUE_WORDS: usize = VALUE_BYTES / 8 + 1;
+
 // A record of the checker's work space: a sign byte and a size.
 pub const RECORD_BYTES: usize = 1 + VALUE_BYTES;
 

@@ -1,0 +1,6 @@
+-- Addition-subtraction chains: steps, their bytes, the values at the positions, soundness, counts, records.
+pub mod Steps
+pub mod Values
+pub mod Sound
+pub mod Counts
+pub mod Records

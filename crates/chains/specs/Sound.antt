@@ -1,0 +1,29 @@
+-- What makes a plan sound, for any list of steps: by the places of its steps, apart from the order in which a checker looks.
+use mathlib.Core.Path.{_≡_}
+use mathlib.Core.Logic.{_≢_}
+use mathlib.Core.List.{List}
+use Prim.Native.Nat.{ℕ, suc, _+_, _<_, _≤_}
+use lib.IntN.{ℤ, pos, natAbs}
+use lib.ListN.{length, getD}
+use Rattle.rules.specs.Limits.{valueBound}
+use Rattle.chains.specs.Steps.{Step, add, subtracting}
+use Rattle.chains.specs.Values.{at, valuesOf}
+
+-- step i, for i = 1 to r, is the one with i - 1 steps before it
+abbrev pub stepAt : List Step → ℕ → Step
+stepAt steps n = getD steps n (add 0 0)
+
+-- the operation is known, and both positions are below the step's own
+pub record Named (i : ℕ) (s : Step) : Type 0 where
+  pub operation : s .operation ≤ subtracting
+  pub first : s .first < i
+  pub second : s .second < i
+
+-- a value that a concentrator has a form for: not zero, and of size below the bound
+pub record Held (z : ℤ) : Type 0 where
+  pub nonzero : z ≢ pos 0
+  pub small : natAbs z < valueBound
+
+pub record Sound (steps : List Step) : Type 0 where
+  pub named : (n : ℕ) → n < length steps → Named (suc n) (stepAt steps n)
+  pub held : (n : ℕ) → n < length steps → Held (at (valuesOf steps) (suc n))

@@ -1,0 +1,12 @@
+-- Binary digits and their number.
+use Prim.Native.Nat.{ℕ, zero, suc, _/_}
+
+-- how many binary digits n has, at most f of them; n itself is enough
+unfoldable pub lengthUpTo : ℕ → ℕ → ℕ
+lengthUpTo zero n = 0
+lengthUpTo (suc f) zero = 0
+lengthUpTo (suc f) (suc n) = suc (lengthUpTo f (suc n / 2))
+
+-- the bit length: 0 for 0. The top bit of n stands at place bitLength n - 1
+unfoldable pub bitLength : ℕ → ℕ
+bitLength n = lengthUpTo n n

@@ -1,0 +1,8 @@
+-- Document 01, "The methods": the steps that each method gives for a number e above zero. A method has a file here.
+pub mod Building
+pub mod Bits
+pub mod Binary
+pub mod FixedWindows
+pub mod SlidingWindows
+pub mod NonAdjacentForm
+pub mod Method

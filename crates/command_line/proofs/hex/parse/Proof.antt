@@ -2,12 +2,12 @@ use mathlib.Core.Path.{_≡_}
 use Prim.Native.Nat.{_≤_, _-_}
 use lib.ListN.{length}
 use borrow.Author.Needs.{needs}
-use Rattle.lesmutka.proofs.hex.parse.Statement.{statement}
-use Rattle.lesmutka.proofs.hex.parse.Tie as tie
-use Rattle.lesmutka.proofs.hex.parse.Reads as reads
-use Rattle.lesmutka.proofs.hex.parse.Lts as lts
-use Rattle.lesmutka.proofs.hex.place.Reads as place-reads
-use Rattle.lesmutka.proofs.hex.value_of.Reads as value-of-reads
+use Rattle.command_line.proofs.hex.parse.Statement.{statement}
+use Rattle.command_line.proofs.hex.parse.Tie as tie
+use Rattle.command_line.proofs.hex.parse.Reads as reads
+use Rattle.command_line.proofs.hex.parse.Lts as lts
+use Rattle.command_line.proofs.hex.place.Reads as place-reads
+use Rattle.command_line.proofs.hex.value_of.Reads as value-of-reads
 
 abbrev Inv-loop : tie.InvT-loop
 Inv-loop text bytes₀ i₀ bytes i = (i ≤ length text) × (length bytes ≡ length bytes₀)

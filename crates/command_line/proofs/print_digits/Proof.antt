@@ -1,12 +1,12 @@
 use mathlib.Core.Path.{_≡_}
 use lib.ListN.{length}
 use borrow.Author.Needs.{needs}
-use Rattle.lesmutka.proofs.print_digits.Statement.{statement}
-use Rattle.lesmutka.proofs.print_digits.Tie as tie
-use Rattle.lesmutka.proofs.print_digits.Reads as reads
-use Rattle.lesmutka.proofs.print_digits.Lts as lts
-use Rattle.lesmutka.proofs.print.Reads as print-reads
-use Rattle.lesmutka.proofs.print_digit.Reads as print-digit-reads
+use Rattle.command_line.proofs.print_digits.Statement.{statement}
+use Rattle.command_line.proofs.print_digits.Tie as tie
+use Rattle.command_line.proofs.print_digits.Reads as reads
+use Rattle.command_line.proofs.print_digits.Lts as lts
+use Rattle.command_line.proofs.print.Reads as print-reads
+use Rattle.command_line.proofs.print_digit.Reads as print-digit-reads
 
 abbrev Inv-loop : tie.InvT-loop
 Inv-loop digits n i₀ t4 i = length t4 ≡ 1

@@ -1,3 +1,4 @@
 pub mod Positional
 pub mod Tabulate
 pub mod Words
+pub mod LowBytes

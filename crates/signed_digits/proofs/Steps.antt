@@ -15,7 +15,7 @@ use Rattle.signed_digits.specs.Naf.{residue, lowDigit, rest, digitsOf, n
 -- ---- what is left is smaller
 
 -- m - k, where it is not below zero
-minus-smaller : (m k : ℕ) → k ≤ m → pos m -ℤ pos k ≡ pos (m - k)
+pub minus-smaller : (m k : ℕ) → k ≤ m → pos m -ℤ pos k ≡ pos (m - k)
 minus-smaller m zero h = ap pos (omega arith)
 minus-smaller m (suc k) h = rw (le-ltb m (suc k) h)
 

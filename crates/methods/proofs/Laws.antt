@@ -1,0 +1,183 @@
+-- What the methods share: a plan in the making whose latest position holds a known value, doublings of it, and adding or subtracting what stands at a
+-- known position. Assumes nothing.
+use mathlib.Core.Path.{_≡_, refl, sym, ap, _∙_}
+use mathlib.Core.Logic.{_≢_}
+use mathlib.Core.Bool.{true, false}
+use mathlib.Core.List.{List, [], _∷_, _++_}
+use Prim.Native.Nat.{ℕ, zero, suc, _+_, _*_, _-_, _^_, _<_, _≤_}
+use native.Mathlib.Decide.{decLt}
+use native.Mathlib.Nat.{pow-succ', mul-assoc, mul-comm, mul-le-mul-left, lt-of-le-of-lt}
+use native.Mathlib.Numerals.{add-one}
+use native.Mathlib.Omega.{arith}
+use lib.IntN.{ℤ, pos, natAbs, pos-+ℤ-pos, _+ℤ_, _-ℤ_}
+use lib.ListN.{length, getD, length-append, List·getD-append}
+use lib.Pow.{pow-pos}
+use lib.Seq.{getD-at}
+use Rattle.rules.specs.Limits.{valueBound}
+use Rattle.chains.specs.Steps.{Step, add, subtract}
+use Rattle.chains.specs.Values.{at, start, stepValue, extend, valuesOf, endOf}
+use Rattle.chains.specs.Sound.{stepAt, Named, Held, Sound}
+use Rattle.chains.proofs.Values.{extend-append, extend-keeps, length-values}
+use Rattle.signed_digits.proofs.Steps.{minus-smaller}
+use Rattle.methods.specs.Building.{Building, none, followed, double, addAt, subtractAt, doubled, downFrom}
+
+-- ---- one step more
+
+pub values-followed : (steps : List Step) (s : Step) → valuesOf (steps ++ (s ∷ [])) ≡ valuesOf steps ++ (stepValue (valuesOf steps) s ∷ [])
+unfolding valuesOf extend
+values-followed steps s = extend-append (pos 1 ∷ []) steps (s ∷ [])
+
+-- the positions before keep their values
+pub value-kept : (steps : List Step) (s : Step) (p : ℕ) → p ≤ length steps → at (valuesOf (steps ++ (s ∷ []))) p ≡ at (valuesOf steps) p
+value-kept steps s p h =
+    ap (λ (l : List ℤ). at l p) (values-followed steps s) ∙ List·getD-append (valuesOf steps) (stepValue (valuesOf steps) s ∷ []) (pos 0) p (omega (arith, length-values steps))
+
+pub value-new : (steps : List Step) (s : Step) → at (valuesOf (steps ++ (s ∷ []))) (suc (length steps)) ≡ stepValue (valuesOf steps) s
+value-new steps s =
+    ap (λ (l : List ℤ). at l (suc (length steps))) (values-followed steps s) ∙ getD-at (valuesOf steps) (stepValue (valuesOf steps) s) [] (pos 0) (suc (length steps)) (length-values steps)
+
+pub sound-none : Sound []
+sound-none = record { named = λ n h. absurd (omega arith); held = λ n h. absurd (omega arith) }
+
+pub sound-followed : (steps : List Step) (s : Step) → Sound steps → Named (suc (length steps)) s → Held (stepValue (valuesOf steps) s) → Sound (steps ++ (s ∷ []))
+sound-followed steps s all n v = record { named = named; held = held }
+  where
+    named : (i : ℕ) → i < length (steps ++ (s ∷ [])) → Named (suc i) (stepAt (steps ++ (s ∷ [])) i)
+    named i h = go (decLt i (length steps))
+      where
+        go : Dec (i < length steps) → Named (suc i) (stepAt (steps ++ (s ∷ [])) i)
+        go (yes l) = rw (List·getD-append steps (s ∷ []) (add 0 0) i l) (all .named i l)
+        go (no l) =
+            let e : i ≡ length steps = omega (arith, length-append steps (s ∷ [])) in
+            rw (e, getD-at steps s [] (add 0 0) (length steps) refl) n
+
+    held : (i : ℕ) → i < length (steps ++ (s ∷ [])) → Held (at (valuesOf (steps ++ (s ∷ []))) (suc i))
+    held i h = go (decLt i (length steps))
+      where
+        go : Dec (i < length steps) → Held (at (valuesOf (steps ++ (s ∷ []))) (suc i))
+        go (yes l) = rw (value-kept steps s (suc i) (omega arith)) (all .held i l)
+        go (no l) =
+            let e : i ≡ length steps = omega (arith, length-append steps (s ∷ [])) in
+            rw (e, value-new steps s) v
+
+-- ---- a plan in the making
+
+-- a value of size below the limit; kept shut, since the limit is too long for omega
+unfoldable pub Small : ℕ → Type 0
+Small v = v < valueBound
+
+pub small-below : (a b : ℕ) → a ≤ b → Small b → Small a
+unfolding Small
+small-below a b h s = lt-of-le-of-lt h s
+
+-- all steps so far are sound, and the latest position holds v
+pub record Holds (b : Building) (v : ℕ) : Type 0 where
+  pub sound : Sound (b .steps)
+  pub within : b .latest ≤ length (b .steps)
+  pub value : at (valuesOf (b .steps)) (b .latest) ≡ pos v
+
+-- position p, filled already, holds w
+pub record Stands (b : Building) (p w : ℕ) : Type 0 where
+  pub filled : p ≤ length (b .steps)
+  pub value : at (valuesOf (b .steps)) p ≡ pos w
+
+pub none-holds : Holds none 1
+unfolding valuesOf extend
+none-holds = record { sound = sound-none; within = omega arith; value = refl }
+
+pub latest-followed : (b : Building) (s : Step) → followed b s .latest ≡ length (followed b s .steps)
+unfolding followed
+latest-followed b s = sym (length-append (b .steps) (s ∷ []))
+
+pub length-followed : (b : Building) (s : Step) → length (followed b s .steps) ≡ length (b .steps) + 1
+unfolding followed
+length-followed b s = length-append (b .steps) (s ∷ [])
+
+-- what stands stays
+pub stands-followed : (b : Building) (s : Step) (p w : ℕ) → Stands b p w → Stands (followed b s) p w
+unfolding followed
+stands-followed b s p w t = record { filled = rw length-append (omega (arith, t .filled)); value = value-kept (b .steps) s p (t .filled) ∙ t .value }
+
+-- position 0 holds 1 from the start
+pub one-stands : (b : Building) → Stands b 0 1
+unfolding valuesOf
+one-stands b = record { filled = omega arith; value = extend-keeps start (b .steps) 0 (omega arith) }
+
+zero-not : (v : ℕ) → 0 < v → v ≡ 0 → ⊥
+zero-not v p e = omega arith
+
+pub followed-holds : (b : Building) (s : Step) (v : ℕ) → Sound (b .steps) → Named (suc (length (b .steps))) s → stepValue (valuesOf (b .steps)) s ≡ pos v
+    → 0 < v → Small v → Holds (followed b s) v
+unfolding followed Small
+followed-holds b s v all n e p l = record {
+  sound = sound-followed (b .steps) s all n (rw e (record { nonzero = λ z. let y : v ≡ 0 = cc in zero-not v p y; small = l }));
+  within = rw length-append (omega arith);
+  value = rw add-one (value-new (b .steps) s ∙ e);
+}
+
+-- ---- the three kinds of step
+
+-- the latest is below the next position
+named-add : (b : Building) (p : ℕ) → b .latest ≤ length (b .steps) → p ≤ length (b .steps) → Named (suc (length (b .steps))) (add (b .latest) p)
+named-add b p h l = record { operation = omega arith; first = omega arith; second = omega arith }
+
+pub add-holds : (b : Building) (p v w : ℕ) → Holds b v → Stands b p w → 0 < v + w → Small (v + w) → Holds (addAt p b) (v + w)
+unfolding stepValue
+add-holds b p v w h t some small =
+    followed-holds b (add (b .latest) p) (v + w) (h .sound) (named-add b p (h .within) (t .filled)) (rw (h .value, t .value)) some small
+
+pub double-holds : (b : Building) (v : ℕ) → Holds b v → 0 < v → Small (2 * v) → Holds (double b) (2 * v)
+double-holds b v h some small =
+    let e : 2 * v ≡ v + v = omega arith in
+    rw e (add-holds b (b .latest) v v h (record { filled = h .within; value = h .value }) (omega arith) (rw e at small))
+
+pub subtract-holds : (b : Building) (p v w : ℕ) → Holds b v → Stands b p w → w < v → Small v → Holds (subtractAt p b) (v - w)
+unfolding stepValue
+subtract-holds b p v w h t less small =
+    followed-holds b (subtract (b .latest) p) (v - w) (h .sound) (record { operation = omega arith; first = omega (arith, h .within); second = omega (arith, t .filled) })
+    (rw (h .value, t .value) (minus-smaller v w (omega arith))) (omega arith) (small-below (v - w) v (omega arith) small)
+
+-- a doubling, then what stands at p added or taken away
+pub double-add : (b : Building) (p v w : ℕ) → Holds b v → Stands b p w → 0 < v → Small (2 * v + w) → Holds (addAt p (double b)) (2 * v + w)
+double-add b p v w h t some small =
+    add-holds (double b) p (2 * v) w (double-holds b v h some (small-below (2 * v) (2 * v + w) (omega arith) small))
+    (stands-followed b (add (b .latest) (b .latest)) p w t) (omega arith) small
+
+pub double-subtract : (b : Building) (p v w : ℕ) → Holds b v → Stands b p w → w < 2 * v → Small (2 * v) → Holds (subtractAt p (double b)) (2 * v - w)
+double-subtract b p v w h t less small =
+    subtract-holds (double b) p (2 * v) w (double-holds b v h (omega arith) small) (stands-followed b (add (b .latest) (b .latest)) p w t) less small
+
+-- ---- repeated
+
+-- n doublings, with what stood before
+pub doubled-holds : (n : ℕ) (b : Building) (v : ℕ) → Holds b v → 0 < v → Small (v * 2 ^ n) → Holds (doubled n b) (v * 2 ^ n)
+unfolding doubled
+doubled-holds zero b v h some small = let e : v * 2 ^ 0 ≡ v = omega arith in rw e h
+doubled-holds (suc n) b v h some small =
+    let e : v * 2 ^ suc n ≡ 2 * v * 2 ^ n = rw (pow-succ', ← mul-assoc v 2 (2 ^ n), mul-comm v 2) in
+    let one : 2 * v ≤ 2 * v * 2 ^ n = omega (arith, mul-le-mul-left (2 * v) (pow-pos n)) in
+    rw e (doubled-holds n (double b) (2 * v) (double-holds b v h some (small-below (2 * v) (2 * v * 2 ^ n) one (rw e at small))) (omega arith) (rw e at small))
+
+pub stands-doubled : (n : ℕ) (b : Building) (p w : ℕ) → Stands b p w → Stands (doubled n b) p w
+unfolding doubled
+stands-doubled zero b p w t = t
+stands-doubled (suc n) b p w t = stands-doubled n (double b) p w (stands-followed b (add (b .latest) (b .latest)) p w t)
+
+pub length-doubled : (n : ℕ) (b : Building) → length (doubled n b .steps) ≡ length (b .steps) + n
+unfolding doubled
+length-doubled zero b = omega arith
+length-doubled (suc n) b = omega (arith, length-doubled n (double b), length-followed b (add (b .latest) (b .latest)))
+
+-- from n places down to none
+pub down-from {ℓ} : (P : ℕ → Building → Type ℓ) (f : ℕ → Building → Building) (n : ℕ) (b : Building) → ((i : ℕ) (b : Building) → i < n → P (suc i) b → P i (f i b)) → P n b → P 0 (downFrom f n b)
+unfolding downFrom
+down-from P f zero b step h = h
+down-from P f (suc n) b step h = down-from P f n (f n b) (λ i c l q. step i c (omega arith) q) (step n b (omega arith) h)
+
+-- ---- what every method comes to: sound steps that end at the number
+pub record Made (steps : List Step) (e : ℕ) : Type 0 where
+  pub sound : Sound steps
+  pub end : endOf steps ≡ pos e
+
+pub made : (b : Building) (e : ℕ) → Holds b e → b .latest ≡ length (b .steps) → Made (b .steps) e
+made b e h l = record { sound = h .sound; end = rw (← l) (h .value) }

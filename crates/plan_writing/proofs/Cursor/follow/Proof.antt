@@ -1,0 +1,30 @@
+-- `plan_writing::Cursor::follow` meets its contract. Assumes nothing.
+use mathlib.Core.Path.{refl}
+use Rattle.plan_writing.specs.Writing.{stepOf}
+use Rattle.plan_writing.proofs.Puts.{followed-writing}
+use borrow.Author.Needs.{needs}
+use Rattle.plan_writing.proofs.Cursor.follow.Statement.{statement}
+use Rattle.plan_writing.proofs.Cursor.follow.Tie as tie
+use Rattle.plan_writing.proofs.Cursor.follow.Reads as reads
+use Rattle.plan_writing.proofs.Cursor.follow.Lts as lts
+use Rattle.plan_writing.proofs.put.Reads as put-reads
+
+put-requires : tie.Need-put-requires
+put-requires c κs = search needs
+
+add-t10 : tie.Need-add-t10
+add-t10 c = search needs
+
+add-t11 : tie.Need-add-t11
+add-t11 c = search needs
+
+same-length : tie.Need-same-length
+same-length c = search needs
+
+returns : tie.Need-returns
+returns c =
+    let args = c .before .before .before .before .before .args in
+    (refl, λ lent b w. followed-writing lent (args .out .now) (c .before .before .put .last .0) (args .self) b (stepOf (args .operation) (args .j) (args .k)) w (c .before .before .put .ensures))
+
+pub follow-spec : {M : Type 1} → statement M
+follow-spec = tie.close (tie.spec put-requires add-t10 add-t11 same-length returns)

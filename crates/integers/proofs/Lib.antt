@@ -1,4 +1,5 @@
 pub mod Positional
+pub mod Bits
 pub mod Tabulate
 pub mod Words
 pub mod LowBytes

@@ -1,3 +1,4 @@
 pub mod Positional
+pub mod Bits
 pub mod Signed
 pub mod Tabulate

@@ -18,10 +18,6 @@ bytesValue bytes = positional 256 bytes
 abbrev pub wordsValue : List ℕ → ℕ
 wordsValue words = positional (2 ^ 64) words
 
--- the binary digit of v at place i
-unfoldable pub bit : ℕ → ℕ → ℕ
-bit v i = v / 2 ^ i % 2
-
 -- the bytes of a number with no high zero byte, at most f of them; n itself is enough
 unfoldable pub bytesUpTo : ℕ → ℕ → List ℕ
 bytesUpTo zero n = []

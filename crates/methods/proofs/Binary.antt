@@ -9,15 +9,14 @@ use native.Mathlib.Omega.{arith}
 use lib.Arith.{bin-ind}
 use lib.ListN.{length}
 use Rattle.rules.specs.Limits.{valueBound}
-use Rattle.integers.specs.Positional.{bit}
 use lib.Count.{ones, onesIn, ones-step}
 use lib.Pow.{shr-shr}
 use Rattle.chains.specs.Steps.{add}
 use Rattle.chains.specs.Counts.{counts, countsOf}
 use Rattle.methods.specs.Building.{Building, none, double, addAt, downFrom}
-use Rattle.methods.specs.Bits.{bitLength}
+use Rattle.integers.specs.Bits.{bit, bitLength}
 use Rattle.methods.specs.Binary.{atBit, binarySteps}
-use Rattle.methods.proofs.Bits.{some-bits, top-bit, above-top, place-down, bit-small, quotient-le, quotient-none}
+use Rattle.integers.proofs.Bits.{some-bits, top-bit, above-top, place-down, bit-small, quotient-le, quotient-none}
 use Rattle.methods.proofs.Counted.{countsIn, counts-double, counts-add, not-before}
 use Rattle.methods.proofs.Laws.{Small, small-below, Holds, Made, none-holds, one-stands, double-holds, double-add, latest-followed, length-followed, down-from, made}
 

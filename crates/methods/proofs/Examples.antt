@@ -4,12 +4,11 @@ use mathlib.Core.List.{List, [], _∷_, map}
 use Prim.Native.Nat.{ℕ, _^_, _-_}
 use lib.IntN.{ℤ, pos}
 use lib.ListN.{length}
-use Rattle.integers.specs.Positional.{bit}
 use Rattle.signed_digits.specs.Naf.{residue, lowDigit, rest, digitsOf, naf}
 use Rattle.chains.specs.Steps.{planBytesOf, stepBytesOf}
 use Rattle.chains.specs.Values.{valuesOf, extend, stepValue, endOf}
 use Rattle.methods.specs.Building.{followed, doubled, downFrom}
-use Rattle.methods.specs.Bits.{lengthUpTo, bitLength}
+use Rattle.integers.specs.Bits.{bit, lengthUpTo, bitLength}
 use Rattle.methods.specs.Binary.{binarySteps}
 use Rattle.methods.specs.FixedWindows.{ladder, windowSteps, fixedWindowSteps}
 use Rattle.methods.specs.SlidingWindows.{oddTable, longest, slide, slidingWindowSteps}

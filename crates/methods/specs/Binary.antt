@@ -1,10 +1,9 @@
 -- Method 1, binary. From the bit below the top bit down: double; if the bit is 1, add(latest, 0).
 use Prim.Native.Nat.{ℕ, zero, suc, _-_}
 use mathlib.Core.List.{List}
-use Rattle.integers.specs.Positional.{bit}
 use Rattle.chains.specs.Steps.{Step}
 use Rattle.methods.specs.Building.{Building, none, double, addAt, downFrom}
-use Rattle.methods.specs.Bits.{bitLength}
+use Rattle.integers.specs.Bits.{bit, bitLength}
 
 abbrev pub atBit : ℕ → Building → Building
 atBit zero b = double b

@@ -5,7 +5,7 @@ use mathlib.Core.List.{List, [], _∷_, _++_}
 use lib.Dec.{ltb}
 use Rattle.chains.specs.Steps.{Step, add}
 use Rattle.methods.specs.Building.{Building, doubled, addAt, downFrom}
-use Rattle.methods.specs.Bits.{bitLength}
+use Rattle.integers.specs.Bits.{bitLength}
 
 -- the steps add(i-1, 0) for i = 1 to n, so value v stands at position v-1
 unfoldable pub ladder : ℕ → List Step

@@ -3,10 +3,9 @@ use Prim.Native.Nat.{ℕ, zero, suc, _+_, _-_, _/_, _%_, _^_, _≤_}
 use mathlib.Core.Bool.{Bool, true, false, cond}
 use mathlib.Core.List.{List, [], _∷_, _++_}
 use lib.Dec.{ltb, leb, eqb}
-use Rattle.integers.specs.Positional.{bit}
 use Rattle.chains.specs.Steps.{Step, add}
 use Rattle.methods.specs.Building.{Building, double, doubled, addAt}
-use Rattle.methods.specs.Bits.{bitLength}
+use Rattle.integers.specs.Bits.{bit, bitLength}
 
 -- The table: add(0,0), add(1,0), then add(i-1, 1) for i = 3 on; its first n steps. Odd v above 1 stands at position (v+1)/2, and 1 at position 0.
 abbrev pub tableStep : ℕ → Step

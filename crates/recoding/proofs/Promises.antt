@@ -16,6 +16,7 @@ use Rattle.rules.specs.Memory.{fitted}
 use Rattle.rules.proofs.Fitted.{too-small, fits, Fitting, small, fine, fitting}
 use Rattle.integers.specs.Positional.{positional, bytesValue}
 use Rattle.integers.proofs.Positional.{Below, positional-append, positional-lt, positional-zeros}
+use Rattle.integers.proofs.Bits.{power-of-bytes}
 use Rattle.signed_digits.specs.Strings.{value}
 use Rattle.signed_digits.specs.Form.{Canonical}
 use Rattle.signed_digits.specs.Naf.{canonical, naf, digitsOf}
@@ -23,7 +24,6 @@ use Rattle.signed_digits.specs.Bytes.{digitBytes}
 use Rattle.signed_digits.proofs.Canonical.{canonical-form, canonical-value, canonical-only}
 use Rattle.signed_digits.proofs.Length.{length-at-most}
 use Rattle.recoding.specs.Recode.{recoding, recodeAnswer}
-use Rattle.recoding.proofs.Triple.{power-of-bytes}
 use Rattle.recoding.proofs.Count.{length-recoding}
 
 -- ---- each refusal is given exactly when the rules say, and no other

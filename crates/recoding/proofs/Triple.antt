@@ -8,8 +8,9 @@ use native.Mathlib.Omega.{arith}
 use lib.Arith.{mod-mul}
 use lib.IntN.{pos}
 use lib.ListN.{getD, length}
-use lib.Pow.{pow-add, shr-shr, field, mod-mod-pow}
-use Rattle.integers.specs.Positional.{bit}
+use lib.Pow.{pow-add, shr-shr}
+use Rattle.integers.specs.Bits.{bit}
+use Rattle.integers.proofs.Bits.{power-of-bytes, low-bits}
 use Rattle.signed_digits.specs.Naf.{canonical}
 use Rattle.signed_digits.proofs.Length.{length-at-most}
 use Rattle.signed_digits.proofs.Triple.{digit-byte-at}
@@ -54,22 +55,6 @@ carry-step e k =
     rw (g, f, ← div-div-eq-div-mul, a, add-mul-div-left (3 * s) (3 * b) (power-positive k)) (omega arith)
 
 -- ---- the digits of a byte
-
-pub power-of-bytes : (k : ℕ) → 256 ^ k ≡ 2 ^ (8 * k)
-power-of-bytes zero = refl
-power-of-bytes (suc k) =
-    let e : 8 * suc k ≡ 8 * k + 8 = omega arith in
-    rw (e, pow-add, pow-suc 256 k, power-of-bytes k)
-
--- binary digits below place 8 depend on the low byte alone
-low-bits : (x y j : ℕ) → x % 256 ≡ y % 256 → j < 8 → x / 2 ^ j % 2 ≡ y / 2 ^ j % 2
-low-bits x y j h l = sym (seen x) ∙ ap (λ (v : ℕ). v / 2 ^ j % 2) h ∙ seen y
-  where
-    e : 8 ≡ (7 - j + 1) + j
-    e = omega arith
-
-    seen : (v : ℕ) → v % 256 / 2 ^ j % 2 ≡ v / 2 ^ j % 2
-    seen v = ap (λ (n : ℕ). v % 2 ^ n / 2 ^ j % 2) e ∙ ap (λ (n : ℕ). n % 2) (field v (7 - j + 1) j) ∙ mod-mod-pow (v / 2 ^ j) (7 - j) 1
 
 -- the places of a byte, one place up
 split-place : (v k j : ℕ) → v / 2 ^ (8 * k + j + 1) ≡ v / 256 ^ k / 2 / 2 ^ j

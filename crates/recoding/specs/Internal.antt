@@ -1,7 +1,7 @@
 -- What the private functions of recode compute. No promise speaks of these.
 use Prim.Native.Nat.{ℕ, _+_, _*_, _/_, _%_, _^_}
 use lib.IntN.{pos}
-use Rattle.integers.specs.Positional.{bit}
+use Rattle.integers.specs.Bits.{bit}
 use Rattle.signed_digits.specs.Strings.{digitAt}
 use Rattle.signed_digits.specs.Naf.{canonical}
 use Rattle.signed_digits.specs.Bytes.{digitByte}

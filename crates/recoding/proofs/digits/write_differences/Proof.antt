@@ -5,7 +5,7 @@ use Prim.Native.Nat.{_≤_, _-_, _+_, _*_}
 use native.Mathlib.Omega.{arith}
 use native.Mathlib.Nat.{add-zero}
 use lib.ListN.{length, take, drop, take-append-drop}
-use Rattle.integers.specs.Positional.{bit}
+use Rattle.integers.specs.Bits.{bit}
 use Rattle.integers.specs.Tabulate.{tabulate}
 use Rattle.integers.proofs.Tabulate.{block-more}
 use Rattle.recoding.specs.Internal.{difference}

@@ -4,9 +4,8 @@ use mathlib.Core.Logic.{_↔_}
 use Prim.Native.Nat.{ℕ, zero, suc, _+_, _*_, _-_, _/_, _%_, _^_, _<_, _≤_}
 use native.Mathlib.Nat.{pow-suc, mul-comm, div-lt-iff-lt-mul, div-le-self}
 use native.Mathlib.Omega.{arith}
-use lib.Pow.{pow-pos, shr-shr}
-use Rattle.integers.specs.Positional.{bit}
-use Rattle.methods.specs.Bits.{lengthUpTo, bitLength}
+use lib.Pow.{pow-pos, pow-add, shr-shr, field, mod-mod-pow}
+use Rattle.integers.specs.Bits.{bit, lengthUpTo, bitLength}
 
 length-up-to : (f n k : ℕ) → n ≤ f → (lengthUpTo f n ≤ k → n < 2 ^ k) × (n < 2 ^ k → lengthUpTo f n ≤ k)
 unfolding lengthUpTo
@@ -76,3 +75,21 @@ quotient-le e i = div-le-self e (2 ^ i)
 
 pub quotient-none : (e : ℕ) → e / 2 ^ 0 ≡ e
 quotient-none e = omega arith
+
+-- ---- bytes
+
+pub power-of-bytes : (k : ℕ) → 256 ^ k ≡ 2 ^ (8 * k)
+power-of-bytes zero = refl
+power-of-bytes (suc k) =
+    let e : 8 * suc k ≡ 8 * k + 8 = omega arith in
+    rw (e, pow-add, pow-suc 256 k, power-of-bytes k)
+
+-- binary digits below place 8 depend on the low byte alone
+pub low-bits : (x y j : ℕ) → x % 256 ≡ y % 256 → j < 8 → x / 2 ^ j % 2 ≡ y / 2 ^ j % 2
+low-bits x y j h l = sym (seen x) ∙ ap (λ (v : ℕ). v / 2 ^ j % 2) h ∙ seen y
+  where
+    e : 8 ≡ (7 - j + 1) + j
+    e = omega arith
+
+    seen : (v : ℕ) → v % 256 / 2 ^ j % 2 ≡ v / 2 ^ j % 2
+    seen v = ap (λ (n : ℕ). v % 2 ^ n / 2 ^ j % 2) e ∙ ap (λ (n : ℕ). n % 2) (field v (7 - j + 1) j) ∙ mod-mod-pow (v / 2 ^ j) (7 - j) 1

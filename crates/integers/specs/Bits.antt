@@ -1,5 +1,9 @@
 -- Binary digits and their number.
-use Prim.Native.Nat.{ℕ, zero, suc, _/_}
+use Prim.Native.Nat.{ℕ, zero, suc, _/_, _%_, _^_}
+
+-- the binary digit of v at place i
+unfoldable pub bit : ℕ → ℕ → ℕ
+bit v i = v / 2 ^ i % 2
 
 -- how many binary digits n has, at most f of them; n itself is enough
 unfoldable pub lengthUpTo : ℕ → ℕ → ℕ

@@ -1,7 +1,7 @@
 -- Plans as bytes and as steps: reading undoes writing, each step stands at its own place, and counts add up. Assumes nothing.
-use mathlib.Core.Path.{_≡_, refl, sym, ap, _∙_}
+use mathlib.Core.Path.{_≡_, refl, ap, _∙_}
 use mathlib.Core.List.{List, [], _∷_, _++_}
-use Prim.Native.Nat.{ℕ, zero, suc, _+_, _*_, _/_, _%_, _^_, _<_, _≤_}
+use Prim.Native.Nat.{ℕ, zero, suc, _+_, _*_, _/_, _%_, _^_, _<_}
 use native.Mathlib.Nat.{zero-add, add-assoc}
 use native.Mathlib.Omega.{arith}
 use lib.ListN.{length, drop, length-append}
@@ -10,7 +10,7 @@ use Rattle.rules.specs.Limits.{stepBytes}
 use Rattle.integers.specs.Positional.{positional}
 use Rattle.chains.specs.Steps.{Step, readStep, readSteps, stepsOf, stepBytesOf, planBytesOf}
 use Rattle.chains.specs.Sound.{stepAt}
-use Rattle.chains.specs.Counts.{counts, plus, stepCounts, countsOf}
+use Rattle.chains.specs.Counts.{plus, countsOf}
 
 -- ---- how many
 

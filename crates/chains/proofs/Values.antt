@@ -1,11 +1,11 @@
 -- The values at the positions of a chain: each step adds one and changes none before it. Assumes nothing.
 use mathlib.Core.Path.{_≡_, refl, sym, ap, _∙_}
 use mathlib.Core.List.{List, [], _∷_, _++_}
-use Prim.Native.Nat.{ℕ, zero, suc, _+_, _<_, _≤_}
+use Prim.Native.Nat.{ℕ, suc, _+_, _<_, _≤_}
 use native.Mathlib.Nat.{add-zero}
 use native.Mathlib.Omega.{arith}
 use lib.IntN.{ℤ, pos}
-use lib.ListN.{length, getD, take, drop, length-append, List·getD-append, take-append-drop}
+use lib.ListN.{length, take, drop, length-append, List·getD-append, take-append-drop}
 use lib.Seq.{length-take-le, take-all, take-length, take-take, take-append-seam, take-suc, getD-take, getD-at}
 use Rattle.chains.specs.Steps.{Step, add}
 use Rattle.chains.specs.Values.{at, stepValue, extend, start, valuesOf}

@@ -1,11 +1,16 @@
 -- The bit length, and the quotients by powers of two that a scan from the top meets. Assumes nothing.
 use mathlib.Core.Path.{_≡_, refl, sym, ap, _∙_}
 use mathlib.Core.Logic.{_↔_}
+use mathlib.Core.List.{List}
 use Prim.Native.Nat.{ℕ, zero, suc, _+_, _*_, _-_, _/_, _%_, _^_, _<_, _≤_}
-use native.Mathlib.Nat.{pow-suc, mul-comm, div-lt-iff-lt-mul, div-le-self}
+use native.Mathlib.Nat.{pow-suc, mul-comm, mod-mod, div-lt-iff-lt-mul, div-le-self}
 use native.Mathlib.Omega.{arith}
+use lib.Count.{ones, ones-cat, leadingZeros, leading-length}
+use lib.ListN.{length, getD, drop}
 use lib.Pow.{pow-pos, pow-add, shr-shr, field, mod-mod-pow}
 use Rattle.integers.specs.Bits.{bit, lengthUpTo, bitLength}
+use Rattle.integers.specs.Positional.{bytesValue, Significant}
+use Rattle.integers.proofs.Positional.{Below, positional-drop, positional-div, positional-at}
 
 length-up-to : (f n k : ℕ) → n ≤ f → (lengthUpTo f n ≤ k → n < 2 ^ k) × (n < 2 ^ k → lengthUpTo f n ≤ k)
 unfolding lengthUpTo
@@ -93,3 +98,60 @@ low-bits x y j h l = sym (seen x) ∙ ap (λ (v : ℕ). v / 2 ^ j % 2) h ∙ see
 
     seen : (v : ℕ) → v % 256 / 2 ^ j % 2 ≡ v / 2 ^ j % 2
     seen v = ap (λ (n : ℕ). v % 2 ^ n / 2 ^ j % 2) e ∙ ap (λ (n : ℕ). n % 2) (field v (7 - j + 1) j) ∙ mod-mod-pow (v / 2 ^ j) (7 - j) 1
+
+power-positive : (k : ℕ) → 0 < 256 ^ k
+power-positive k = rw (power-of-bytes k) (pow-pos (8 * k))
+
+-- a bound on the bytes from k on
+pub quotient-bound : (v k n : ℕ) → v / 256 ^ k < 2 ^ n ↔ v < 2 ^ (8 * k + n)
+quotient-bound v k n =
+    let s : 2 ^ n * 256 ^ k ≡ 2 ^ (8 * k + n) = rw (power-of-bytes k, ← pow-add) (ap (λ (i : ℕ). 2 ^ i) (omega arith)) in
+    rw (← s) (div-lt-iff-lt-mul (power-positive k))
+
+-- the bit length, by the bit length m of what stands from byte k on
+pub length-from : (v k m : ℕ) → v / 256 ^ k < 2 ^ m → 2 ^ m ≤ 2 * (v / 256 ^ k) + 1 → 0 < v / 256 ^ k → bitLength v ≡ 8 * k + m
+length-from v k zero h l p = absurd (omega arith)
+length-from v k (suc m) h l p =
+    let most : bitLength v ≤ 8 * k + suc m = bit-length-iff v (8 * k + suc m) .1 (quotient-bound v k (suc m) .0 h) in
+    let few : bitLength v ≤ 8 * k + m → ⊥ =
+    λ g. let c = quotient-bound v k m .1 (bit-length-iff v (8 * k + m) .0 g) in omega (arith, pow-suc 2 m) in
+    omega arith
+
+-- a binary digit stands in its byte
+pub bit-of-byte : (l : List ℕ) (place : ℕ) → Below 256 l → getD l (place / 8) 0 / 2 ^ (place % 8) % 2 ≡ bit (bytesValue l) place
+unfolding bit
+bit-of-byte l place b =
+    let v : ℕ = bytesValue l in
+    let q : ℕ = place / 8 in
+    let r : ℕ = place % 8 in
+    let e : place ≡ 8 * q + r = omega arith in
+    let s : v / 2 ^ place ≡ v / 256 ^ q / 2 ^ r = ap (λ (k : ℕ). v / 2 ^ k) e ∙ sym (shr-shr v (8 * q) r) ∙ rw (power-of-bytes q) in
+    rw (s, positional-at 256 l q b) (low-bits (v / 256 ^ q % 256) (v / 256 ^ q) r (mod-mod (v / 256 ^ q) 256) (omega arith))
+
+-- the ones of a byte below others
+pub ones-byte : (l : List ℕ) (i : ℕ) → Below 256 l → i < length l → ones (bytesValue (drop i l)) ≡ ones (bytesValue (drop (suc i) l)) + ones (getD l i 0)
+ones-byte l i b h =
+    let e : bytesValue (drop i l) ≡ bytesValue (drop (suc i) l) * 2 ^ 8 + getD l i 0 = omega (arith, positional-drop 256 l i) in
+    rw e (ones-cat 8 (bytesValue (drop (suc i) l)) (getD l i 0) (b i))
+
+-- ---- the bit length by the highest byte
+
+pub zero-length : (l : List ℕ) → bytesValue l ≡ 0 → bitLength (bytesValue l) ≡ 0
+unfolding bitLength lengthUpTo
+zero-length l z = rw z
+
+-- the highest byte is all that is left above the others
+pub top-byte : (l : List ℕ) (n : ℕ) → Below 256 l → Significant l n → 0 < n → getD l (n - 1) 0 ≡ bytesValue l / 256 ^ (n - 1)
+top-byte l n b s some =
+    let e : n ≡ suc (n - 1) = omega arith in
+    omega (arith, positional-drop 256 l (n - 1), s .whole, ap (λ (i : ℕ). bytesValue (drop i l)) e, positional-div 256 l (n - 1) b)
+
+pub length-by-top : (l : List ℕ) (n : ℕ) → Below 256 l → Significant l n → 0 < n → 8 * (n - 1) + (64 - leadingZeros 64 (getD l (n - 1) 0)) ≡ bitLength (bytesValue l)
+length-by-top l n b s some =
+    let t : ℕ = getD l (n - 1) 0 in
+    let byte : t < 256 = b (n - 1) in
+    let (m, zeros, low, high) = leading-length 64 t (omega arith) in
+    let e = top-byte l n b s some in
+    let nonzero : 0 < t = omega (arith, s .top some) in
+    let c = length-from (bytesValue l) (n - 1) m (omega arith) (omega arith) (omega arith) in
+    omega arith

@@ -2,9 +2,11 @@
 use rules::NUMBER_WORDS;
 ghost use mathlib.Core.Path.{_≡_};
 ghost use Prim.Native.Nat.{_+_, _/_, _<_, _≤_, min};
+ghost use lib.Count;
 ghost use lib.Dec.{eqb};
 ghost use lib.ListN.{length, take, drop, getD};
 ghost use Rattle.rules.specs.Limits.{numberBytes};
+ghost use Rattle.integers.specs.Bits.{bit, bitLength};
 ghost use Rattle.integers.specs.Positional.{bytesValue, wordsValue, Significant};
 
 // The byte at a place: 0 above the number.
@@ -30,6 +32,39 @@ pub fn significant(number: &[u8]) -> usize
         n -= 1;
     }
     n
+}
+
+// The binary digit at a place.
+pub fn bit_at(number: &[u8], place: usize) -> u64
+    ensures { λ r. ⌜ r ≡ bit (bytesValue (now (number .entry))) place ⌝ }
+{
+    (byte_at(number, place / 8) >> (place % 8)) % 2
+}
+
+// How many binary digits a number has.
+pub fn bit_length(number: &[u8]) -> usize
+    requires { ⌜ length (now number) ≤ numberBytes ⌝ }
+    ensures { λ r. ⌜ r ≡ bitLength (bytesValue (now (number .entry))) ⌝ }
+{
+    let n = significant(number);
+    if n == 0 {
+        return 0;
+    }
+    8 * (n - 1) + (64 - u64::leading_zeros(byte_at(number, n - 1)) as usize)
+}
+
+// How many of them are 1.
+pub fn ones(number: &[u8]) -> usize
+    requires { ⌜ length (now number) ≤ numberBytes ⌝ }
+    ensures { λ r. ⌜ r ≡ Count.ones (bytesValue (now (number .entry))) ⌝ }
+{
+    let mut total = 0;
+    let mut i = number.len();
+    while 0 < i {
+        i -= 1;
+        total += u8::count_ones(number[i]) as usize;
+    }
+    total
 }
 
 fn least(a: usize, b: usize) -> usize

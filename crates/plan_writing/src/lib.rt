@@ -1,6 +1,5 @@
 // Writing the steps of a plan one after the other.
 use rules::STEP_BYTES;
-
 ghost use mathlib.Core.Path.{_≡_};
 ghost use mathlib.Core.List.{List, _++_};
 ghost use Prim.Native.Nat.{ℕ, _+_, _*_, _≤_, _<_};

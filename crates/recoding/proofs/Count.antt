@@ -7,7 +7,8 @@ use lib.Count.{leadingZeros, leading-length}
 use lib.IntN.{pos}
 use lib.ListN.{length, getD, drop, length-map}
 use Rattle.integers.specs.Positional.{bytesValue, Significant}
-use Rattle.integers.proofs.Positional.{Below, positional-drop, positional-div}
+use Rattle.integers.proofs.Positional.{Below, positional-nonzero}
+use Rattle.integers.proofs.Bits.{top-byte, length-from}
 use Rattle.signed_digits.specs.Naf.{canonical}
 use Rattle.signed_digits.specs.Bytes.{digitByte}
 use Rattle.signed_digits.proofs.Steps.{naf-zero}
@@ -20,14 +21,8 @@ unfolding recoding
 length-recoding number = length-map (canonical (pos (bytesValue number))) digitByte
 
 module _ (number : List ℕ) (n : ℕ) (bytes : Below 256 number) (s : Significant number n) (some : 0 < n) where
-  -- the highest byte is all that is left above the others
-  top-byte : getD number (n - 1) 0 ≡ bytesValue number / 256 ^ (n - 1)
-  top-byte =
-      let e : n ≡ suc (n - 1) = omega arith in
-      omega (arith, positional-drop 256 number (n - 1), s .whole, ap (λ (i : ℕ). bytesValue (drop i number)) e, positional-div 256 number (n - 1) bytes)
-
   top-triple : 3 * getD number (n - 1) 0 + tripleCarry (bytesValue number) (n - 1) ≡ 3 * bytesValue number / 256 ^ (n - 1)
-  top-triple = rw (top-byte, triple-div)
+  top-triple = rw (top-byte number n bytes s some, triple-div)
 
   pub count-is : (top : ℕ) → top ≡ 3 * getD number (n - 1) 0 + tripleCarry (bytesValue number) (n - 1) → top < 2 ^ 64
       → (leadingZeros 64 top ≤ 63) × (8 * (n - 1) + (63 - leadingZeros 64 top) ≡ length (recoding number))
@@ -35,13 +30,19 @@ module _ (number : List ℕ) (n : ℕ) (bytes : Below 256 number) (s : Significa
       let nonzero : 0 < getD number (n - 1) 0 = omega (arith, s .top some) in
       let (m, zeros, low, high) = leading-length 64 top h in
       let t : top ≡ 3 * bytesValue number / 256 ^ (n - 1) = e ∙ top-triple in
-      let c = digit-count (bytesValue number) (n - 1) m (omega arith) (omega arith) (omega arith) in
-      let some-digits : 1 ≤ m = go m low in
+      let c = length-from (3 * bytesValue number) (n - 1) m (omega arith) (omega arith) (omega arith) in
+      let positive : 0 < bytesValue number = go (bytesValue number) refl in
+      let d = digit-count (bytesValue number) positive in
+      let some-digits : 1 ≤ m = least m low in
       (omega arith, omega (arith, length-recoding number))
     where
-      go : (m : ℕ) → top < 2 ^ m → 1 ≤ m
-      go zero l = absurd (omega (arith, s .top some))
-      go (suc m) l = omega arith
+      go : (v : ℕ) → bytesValue number ≡ v → 0 < v
+      go zero z = absurd (positional-nonzero 256 number (n - 1) (omega arith) (s .top some) z)
+      go (suc v) z = omega arith
+
+      least : (m : ℕ) → top < 2 ^ m → 1 ≤ m
+      least zero l = absurd (omega (arith, s .top some))
+      least (suc m) l = omega arith
 
 -- a number with no significant byte is zero
 pub count-zero : (number : List ℕ) → bytesValue number ≡ 0 → length (recoding number) ≡ 0

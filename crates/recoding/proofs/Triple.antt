@@ -9,8 +9,8 @@ use lib.Arith.{mod-mul}
 use lib.IntN.{pos}
 use lib.ListN.{getD, length}
 use lib.Pow.{pow-add, shr-shr}
-use Rattle.integers.specs.Bits.{bit}
-use Rattle.integers.proofs.Bits.{power-of-bytes, low-bits}
+use Rattle.integers.specs.Bits.{bit, bitLength}
+use Rattle.integers.proofs.Bits.{power-of-bytes, low-bits, bit-length-iff}
 use Rattle.signed_digits.specs.Naf.{canonical}
 use Rattle.signed_digits.proofs.Length.{length-at-most}
 use Rattle.signed_digits.proofs.Triple.{digit-byte-at}
@@ -97,25 +97,15 @@ byte-digit e k j h =
 
 -- ---- how many digits
 
--- 2 ^ n bounds 3 e where it bounds the quotient
-quotient-bound : (e k n : ℕ) → 3 * e / 256 ^ k < 2 ^ n ↔ 3 * e < 2 ^ (8 * k + n)
-quotient-bound e k n =
-    let s : 2 ^ n * 256 ^ k ≡ 2 ^ (8 * k + n) = rw (power-of-bytes k, ← pow-add) (ap (λ (i : ℕ). 2 ^ i) (omega arith)) in
-    rw (← s) (div-lt-iff-lt-mul (power-positive k))
-
--- the quotient of 3 e has m binary digits
-pub digit-count : (e k m : ℕ) → 3 * e / 256 ^ k < 2 ^ m → 2 ^ m ≤ 2 * (3 * e / 256 ^ k) + 1 → 0 < 3 * e / 256 ^ k → length (canonical (pos e)) ≡ 8 * k + (m - 1)
-digit-count e k zero h l p = absurd (omega arith)
-digit-count e k (suc m) h l p = go (8 * k + m) refl
+-- one less than three times the number has in binary
+pub digit-count : (e : ℕ) → 0 < e → length (canonical (pos e)) + 1 ≡ bitLength (3 * e)
+digit-count e some =
+    let n : ℕ = length (canonical (pos e)) in
+    let most : bitLength (3 * e) ≤ n + 1 = bit-length-iff (3 * e) (n + 1) .1 (length-at-most e n .0 (omega arith)) in
+    go (bitLength (3 * e)) refl most
   where
-    most : length (canonical (pos e)) ≤ 8 * k + m
-    most = length-at-most e (8 * k + m) .1 (rw (add-one, ← add-suc) (quotient-bound e k (suc m) .0 h))
-
-    go : (n : ℕ) → 8 * k + m ≡ n → length (canonical (pos e)) ≡ 8 * k + (suc m - 1)
-    go zero f = omega (arith, most)
-    go (suc n) f =
-        let few : length (canonical (pos e)) ≤ n → ⊥ =
-        λ g. let b : 3 * e < 2 ^ (8 * k + m) = rw f (rw add-one at (length-at-most e n .0 g)) in
-        let c = quotient-bound e k m .1 b in
-        omega (arith, pow-suc 2 m) in
-        omega (arith, most)
+    go : (k : ℕ) → bitLength (3 * e) ≡ k → bitLength (3 * e) ≤ length (canonical (pos e)) + 1 → length (canonical (pos e)) + 1 ≡ k
+    go zero z h = absurd (omega (arith, bit-length-iff (3 * e) 0 .0 (omega arith)))
+    go (suc k) z h =
+        let few : length (canonical (pos e)) ≤ k = length-at-most e k .1 (rw add-one (bit-length-iff (3 * e) (suc k) .0 (omega arith))) in
+        omega arith

@@ -7,7 +7,7 @@ use native.Mathlib.Nat.{pow-suc, mul-comm, mod-mod, div-lt-iff-lt-mul, div-le-se
 use native.Mathlib.Omega.{arith}
 use lib.Count.{ones, ones-cat, leadingZeros, leading-length}
 use lib.ListN.{length, getD, drop}
-use lib.Pow.{pow-pos, pow-add, shr-shr, field, mod-mod-pow}
+use lib.Pow.{pow-pos, pow-add, shr-shr, split, field, mod-mod-pow}
 use Rattle.integers.specs.Bits.{bit, lengthUpTo, bitLength}
 use Rattle.integers.specs.Positional.{bytesValue, Significant}
 use Rattle.integers.proofs.Positional.{Below, positional-drop, positional-div, positional-at}
@@ -80,6 +80,10 @@ quotient-le e i = div-le-self e (2 ^ i)
 
 pub quotient-none : (e : ℕ) → e / 2 ^ 0 ≡ e
 quotient-none e = omega arith
+
+-- l places down: the quotient moved up, and the l bits between
+pub places-down : (e i l : ℕ) → e / 2 ^ i ≡ e / 2 ^ (i + l) * 2 ^ l + e / 2 ^ i % 2 ^ l
+places-down e i l = sym (rw (shr-shr e i l) at (split (e / 2 ^ i) l))
 
 -- ---- bytes
 

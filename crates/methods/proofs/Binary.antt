@@ -16,15 +16,15 @@ use Rattle.chains.specs.Counts.{counts, countsOf}
 use Rattle.methods.specs.Building.{Building, none, double, addAt, downFrom}
 use Rattle.integers.specs.Bits.{bit, bitLength}
 use Rattle.methods.specs.Binary.{atBit, binarySteps}
-use Rattle.integers.proofs.Bits.{some-bits, top-bit, above-top, place-down, bit-small, quotient-le, quotient-none}
+use Rattle.integers.proofs.Bits.{some-bits, top-bit, above-top, place-down, bit-small, quotient-none}
 use Rattle.methods.proofs.Counted.{countsIn, counts-double, counts-add, not-before}
-use Rattle.methods.proofs.Laws.{Small, small-below, Holds, Made, none-holds, one-stands, double-holds, double-add, latest-followed, length-followed, down-from, made}
+use Rattle.methods.proofs.Laws.{Small, quotient-small, Holds, Made, none-holds, one-stands, double-holds, double-add, latest-followed, length-followed, down-from, made}
 
 ones-place : (e i : ℕ) → e / 2 ^ i % 2 + ones (e / 2 ^ i / 2) ≡ bit e i + ones (e / 2 ^ suc i)
 unfolding bit
 ones-place e i = rw (shr-shr e i 1, add-one)
 
-ones-positive : (n : ℕ) → 0 < n → 0 < ones n
+pub ones-positive : (n : ℕ) → 0 < n → 0 < ones n
 ones-positive = bin-ind (λ (n : ℕ). 0 < n → 0 < ones n) (λ h. absurd (omega arith)) (λ n ih h. step n ih h (decLt 0 (n / 2)))
   where
     step : (n : ℕ) → (0 < n / 2 → 0 < ones (n / 2)) → 0 < n → Dec (0 < n / 2) → 0 < ones n
@@ -35,6 +35,12 @@ none-counted : countsIn none ≡ counts 0 (ones 1 - 1) 0
 unfolding countsOf ones onesIn
 none-counted = refl
 
+-- how many steps a bit takes
+pub length-at-bit : (x : ℕ) (b : Building) → x < 2 → length (atBit x b .steps) ≡ length (b .steps) + x + 1
+length-at-bit zero b h = omega (arith, length-followed b (add (b .latest) (b .latest)))
+length-at-bit (suc zero) b h = omega (arith, length-followed b (add (b .latest) (b .latest)), length-followed (double b) (add (double b .latest) 0))
+length-at-bit (suc (suc x)) b h = absurd (omega arith)
+
 -- Above place i: the latest holds the bits from i on. Each bit below the top took a doubling, and an addition where it is 1.
 record Above (e i : ℕ) (b : Building) : Type 0 where
   holds : Holds b (e / 2 ^ i)
@@ -43,9 +49,6 @@ record Above (e i : ℕ) (b : Building) : Type 0 where
   counted : countsIn b ≡ counts (bitLength e - 1 - i) (ones (e / 2 ^ i) - 1) 0
 
 module _ (e : ℕ) (some : 0 < e) (small : Small e) where
-  quotient-small : (i : ℕ) → Small (e / 2 ^ i)
-  quotient-small i = small-below (e / 2 ^ i) e (quotient-le e i) small
-
   at-bit : (i x : ℕ) (b : Building) → i < bitLength e - 1 → bit e i ≡ x → Above e (suc i) b → Above e i (atBit x b)
   at-bit i x b l y a = go x y
     where
@@ -70,7 +73,7 @@ module _ (e : ℕ) (some : 0 < e) (small : Small e) where
           let c : bitLength e - 1 - i ≡ d + 1 = omega arith in
           let o : ones (e / 2 ^ i) ≡ ones v = omega (arith, weight) in
           record {
-            holds = rw q (double-holds b v (a .holds) positive (rw q at (quotient-small i)));
+            holds = rw q (double-holds b v (a .holds) positive (rw q at (quotient-small e i small)));
             latest = latest-followed b (add (b .latest) (b .latest));
             few = omega (arith, a .few, length-followed b (add (b .latest) (b .latest)));
             counted = rw (c, o) (counts-double b d (ones v - 1) 0 (a .counted));
@@ -80,7 +83,7 @@ module _ (e : ℕ) (some : 0 < e) (small : Small e) where
           let c : bitLength e - 1 - i ≡ d + 1 = omega arith in
           let o : ones (e / 2 ^ i) - 1 ≡ ones v - 1 + 1 = omega (arith, weight, ones-positive v positive) in
           record {
-            holds = rw q (double-add b 0 v 1 (a .holds) (one-stands b) positive (rw q at (quotient-small i)));
+            holds = rw q (double-add b 0 v 1 (a .holds) (one-stands b) positive (rw q at (quotient-small e i small)));
             latest = latest-followed (double b) (add (double b .latest) 0);
             few = omega (arith, a .few, length-followed b (add (b .latest) (b .latest)), length-followed (double b) (add (double b .latest) 0));
             counted = rw (c, o) (counts-add (double b) (d + 1) (ones v - 1) 0 (counts-double b d (ones v - 1) 0 (a .counted)) 0 (not-before b (add (b .latest) (b .latest)) 0 (omega arith)));

@@ -1,18 +1,21 @@
 -- Counts of a plan in the making, one step more. Assumes nothing.
 use mathlib.Core.Path.{_≡_, refl, sym, ap, _∙_}
+use mathlib.Core.Bool.{Bool, true, false, cond}
 use mathlib.Core.Logic.{_≢_}
 use mathlib.Core.List.{List, [], _∷_, _++_}
 use Prim.Native.Nat.{ℕ, zero, suc, _+_, _<_, _≤_}
 use borrow.Author.Tests.{eq-eqb, ne-eqb}
 use native.Mathlib.Nat.{add-zero, add-assoc}
 use native.Mathlib.Omega.{arith}
+use lib.Dec.{eqb}
 use lib.ListN.{length}
 use Rattle.rules.specs.declared.Counts.{Counts}
-use Rattle.chains.specs.Steps.{Step, add, subtract}
+use Rattle.chains.specs.Steps.{Step, adding, add, subtract}
 use Rattle.chains.specs.Counts.{counts, stepCounts, plus, countsOf}
 use Rattle.chains.proofs.Bytes.{counts-append}
+use Rattle.signed_digits.proofs.Parts.{cond-cases}
 use Rattle.methods.specs.Building.{Building, followed, double, addAt, subtractAt, doubled}
-use Rattle.methods.proofs.Laws.{latest-followed, length-followed}
+use Rattle.methods.proofs.Laws.{latest-followed, length-followed, length-doubled, latest-doubled}
 
 -- the counts so far
 abbrev pub countsIn : Building → Counts
@@ -48,3 +51,28 @@ counts-doubled (suc n) b d a s e =
 -- a position just filled is not one that was filled before
 pub not-before : (b : Building) (s : Step) (p : ℕ) → p ≤ length (b .steps) → followed b s .latest ≢ p
 not-before b s p h e = omega (arith, latest-followed b s, length-followed b s)
+
+pub not-before-doubled : (n : ℕ) (b : Building) (p : ℕ) → 1 ≤ n → p ≤ length (b .steps) → doubled n b .latest ≢ p
+not-before-doubled n b p some h e = omega (arith, latest-doubled n b some, length-doubled n b)
+
+-- how many steps are counted
+abbrev pub total : Counts → ℕ
+total c = c .doublings + c .additions + c .subtractions
+
+step-once : (s : Step) → total (stepCounts s) ≡ 1
+unfolding stepCounts
+step-once s =
+    cond-cases (eqb (s .operation) adding) (cond (eqb (s .first) (s .second)) (counts 1 0 0) (counts 0 1 0)) (counts 0 0 1) (λ c. total c ≡ 1)
+    (λ o. cond-cases (eqb (s .first) (s .second)) (counts 1 0 0) (counts 0 1 0) (λ c. total c ≡ 1) (λ p. refl) (λ p. refl))
+    (λ o. refl)
+
+-- each step is counted once
+pub length-counted : (steps : List Step) → length steps ≡ total (countsOf steps)
+unfolding countsOf
+length-counted [] = refl
+length-counted (s ∷ steps) = omega (arith, step-once s, length-counted steps)
+
+-- the counts of either plan
+pub counts-cond : (c : Bool) (xs ys : List Step) → countsOf (cond c xs ys) ≡ cond c (countsOf xs) (countsOf ys)
+counts-cond true xs ys = refl
+counts-cond false xs ys = refl

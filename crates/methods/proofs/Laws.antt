@@ -4,16 +4,19 @@ use mathlib.Core.Path.{_≡_, refl, sym, ap, _∙_}
 use mathlib.Core.Logic.{_≢_}
 use mathlib.Core.Bool.{true, false}
 use mathlib.Core.List.{List, [], _∷_, _++_}
-use Prim.Native.Nat.{ℕ, zero, suc, _+_, _*_, _-_, _^_, _<_, _≤_}
+use Prim.Native.Nat.{ℕ, zero, suc, _+_, _*_, _-_, _/_, _^_, _<_, _≤_}
 use native.Mathlib.Decide.{decLt}
-use native.Mathlib.Nat.{pow-succ', mul-assoc, mul-comm, mul-le-mul-left, lt-of-le-of-lt}
+use native.Mathlib.Nat.{pow-succ', mul-assoc, mul-comm, mul-le-mul-left, mul-pos, lt-of-le-of-lt}
 use native.Mathlib.Numerals.{add-one}
 use native.Mathlib.Omega.{arith}
 use lib.IntN.{ℤ, pos, natAbs, pos-+ℤ-pos, _+ℤ_, _-ℤ_}
 use lib.ListN.{length, getD, length-append, List·getD-append}
-use lib.Pow.{pow-pos}
+use lib.Dec.{lit<}
+use lib.Pow.{pow-pos, shr-le}
 use lib.Seq.{getD-at}
-use Rattle.rules.specs.Limits.{valueBound}
+use Rattle.rules.specs.Limits.{numberBytes, valueBound}
+use Rattle.integers.specs.Positional.{bytesValue}
+use Rattle.integers.proofs.Positional.{Below, positional-lt}
 use Rattle.chains.specs.Steps.{Step, add, subtract}
 use Rattle.chains.specs.Values.{at, start, stepValue, extend, valuesOf, endOf}
 use Rattle.chains.specs.Sound.{stepAt, Named, Held, Sound}
@@ -69,6 +72,17 @@ Small v = v < valueBound
 pub small-below : (a b : ℕ) → a ≤ b → Small b → Small a
 unfolding Small
 small-below a b h s = lt-of-le-of-lt h s
+
+-- a number within the limit is small, with one to spare
+pub number-small : (number : List ℕ) → Below 256 number → length number ≤ numberBytes → Small (bytesValue number + 1)
+unfolding Small
+number-small number b h =
+    let v : bytesValue number < 256 ^ numberBytes = positional-lt 256 numberBytes number h b in
+    let u : bytesValue number + 1 ≤ 256 ^ numberBytes = rw add-one v in
+    lt-of-le-of-lt u (lit< tt)
+
+pub quotient-small : (e i : ℕ) → Small e → Small (e / 2 ^ i)
+quotient-small e i s = small-below (e / 2 ^ i) e (shr-le e i) s
 
 -- all steps so far are sound, and the latest position holds v
 pub record Holds (b : Building) (v : ℕ) : Type 0 where
@@ -168,11 +182,30 @@ unfolding doubled
 length-doubled zero b = omega arith
 length-doubled (suc n) b = omega (arith, length-doubled n (double b), length-followed b (add (b .latest) (b .latest)))
 
+-- after a doubling the latest is the last position
+pub latest-doubled : (n : ℕ) (b : Building) → 1 ≤ n → doubled n b .latest ≡ length (doubled n b .steps)
+unfolding doubled
+latest-doubled zero b h = absurd (omega arith)
+latest-doubled (suc zero) b h = latest-followed b (add (b .latest) (b .latest))
+latest-doubled (suc (suc n)) b h = latest-doubled (suc n) (double b) (omega arith)
+
+-- n doublings, then what stands at p added
+pub doubled-add : (n : ℕ) (b : Building) (p v w : ℕ) → Holds b v → Stands b p w → 0 < v → Small (v * 2 ^ n + w) → Holds (addAt p (doubled n b)) (v * 2 ^ n + w)
+doubled-add n b p v w h t some small =
+    add-holds (doubled n b) p (v * 2 ^ n) w (doubled-holds n b v h some (small-below (v * 2 ^ n) (v * 2 ^ n + w) (omega arith) small))
+    (stands-doubled n b p w t) (omega (arith, mul-pos some (pow-pos n))) small
+
 -- from n places down to none
 pub down-from {ℓ} : (P : ℕ → Building → Type ℓ) (f : ℕ → Building → Building) (n : ℕ) (b : Building) → ((i : ℕ) (b : Building) → i < n → P (suc i) b → P i (f i b)) → P n b → P 0 (downFrom f n b)
 unfolding downFrom
 down-from P f zero b step h = h
 down-from P f (suc n) b step h = down-from P f n (f n b) (λ i c l q. step i c (omega arith) q) (step n b (omega arith) h)
+
+-- steps are only added
+pub down-grows : (f : ℕ → Building → Building) (n : ℕ) (b : Building) → ((i : ℕ) (b : Building) → length (b .steps) ≤ length (f i b .steps)) → length (b .steps) ≤ length (downFrom f n b .steps)
+unfolding downFrom
+down-grows f zero b more = omega arith
+down-grows f (suc n) b more = omega (arith, more n b, down-grows f n (f n b) more)
 
 -- ---- what every method comes to: sound steps that end at the number
 pub record Made (steps : List Step) (e : ℕ) : Type 0 where

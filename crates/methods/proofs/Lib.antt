@@ -1,5 +1,7 @@
 pub mod Laws
 pub mod Counted
 pub mod Binary
+pub mod FixedWindows
+pub mod SlidingWindows
 pub mod NonAdjacentForm
 pub mod Examples

@@ -17,7 +17,7 @@ use Rattle.chains.specs.Counts.{counts, countsOf}
 use Rattle.methods.specs.Building.{Building, none, double, downFrom}
 use Rattle.integers.specs.Bits.{bitLength}
 use Rattle.methods.specs.NonAdjacentForm.{atDigit, digitSteps, nafSteps}
-use Rattle.methods.specs.NafForecast.{plusDigits, minusDigits}
+use Rattle.methods.specs.Forecast.{plusDigits, minusDigits}
 use Rattle.integers.proofs.Bits.{bit-length-iff}
 use Rattle.methods.proofs.Laws.{Small, small-below, Holds, Made, none-holds, one-stands, double-holds, double-add, double-subtract, latest-followed, length-followed, down-from, made}
 use Rattle.methods.proofs.Counted.{countsIn, counts-double, counts-add, counts-subtract, not-before}

@@ -4,5 +4,5 @@ pub mod Binary
 pub mod FixedWindows
 pub mod SlidingWindows
 pub mod NonAdjacentForm
-pub mod NafForecast
 pub mod Method
+pub mod Forecast

@@ -1,0 +1,225 @@
+-- Method 2: its steps are sound and end at the number, how many there are, and their counts. Assumes nothing.
+use mathlib.Core.Path.{_≡_, refl, sym, ap, subst, _∙_}
+use mathlib.Core.Bool.{cond}
+use Prim.Native.Nat.{ℕ, zero, suc, _+_, _*_, _-_, _/_, _^_, _<_, _≤_}
+use borrow.Author.Tests.{ltb-true, ltb-false}
+use native.Mathlib.Decide.{decLt}
+use native.Mathlib.Nat.{lt-of-not-le, not-le-of-lt, add-zero, add-mul, mul-zero, mul-suc, mul-le-mul-left, mod-lt, mul-div-le, lt-mul-div-succ, le-div-iff-mul-le, div-le-self}
+use native.Mathlib.Numerals.{add-one}
+use native.Mathlib.Omega.{arith}
+use lib.Dec.{ltb, eqb, eqb·suc-zero}
+use lib.ListN.{length, length-append}
+use lib.Pow.{pow-pos, shr-shr, shr-mod, split}
+use Rattle.signed_digits.proofs.Parts.{cond-cases}
+use Rattle.chains.specs.Steps.{Step, add}
+use Rattle.chains.specs.Counts.{counts, countsOf}
+use Rattle.methods.specs.Building.{Building, none, followed, addAt, doubled, downFrom}
+use Rattle.integers.specs.Bits.{bitLength}
+use Rattle.methods.specs.FixedWindows.{ladder, window, topWindow, atWindow, windowSteps, fixedWindowSteps}
+use Rattle.methods.specs.Forecast.{tableCounts, nonzeroWindows}
+use Rattle.integers.proofs.Bits.{bit-length-iff, above-top, quotient-le, quotient-none}
+use Rattle.methods.proofs.Counted.{countsIn, counts-double, counts-add, counts-doubled, counts-cond, not-before-doubled, total, length-counted}
+use Rattle.methods.proofs.Laws.{value-kept, Small, small-below, Holds, Stands, Made, none-holds, one-stands, stands-followed, stands-doubled, latest-followed, latest-doubled, add-holds, doubled-holds, down-from, made}
+
+-- ---- the ladder
+
+-- n steps of it, and the latest at position p
+abbrev laddered : ℕ → ℕ → Building
+laddered n p = record { steps = ladder n; latest = p }
+
+pub length-ladder : (n : ℕ) → length (ladder n) ≡ n
+unfolding ladder
+length-ladder zero = refl
+length-ladder (suc n) = rw length-append (omega (arith, length-ladder n))
+
+-- value p + 1 stands at position p
+ladder-holds : (n : ℕ) → Small (suc n) → (p : ℕ) → p ≤ n → Holds (laddered n p) (suc p)
+unfolding ladder followed
+ladder-holds zero small p h = let z : p ≡ 0 = omega arith in rw z none-holds
+ladder-holds (suc n) small p h = go (decLt n p) (ladder-holds n (small-below (suc n) (suc (suc n)) (omega arith) small))
+  where
+    top : Holds (laddered n n) (suc n) → Holds (addAt 0 (laddered n n)) (suc n + 1)
+    top b = add-holds (laddered n n) 0 (suc n) 1 b (one-stands (laddered n n)) (omega arith) (rw add-one small)
+
+    go : Dec (n < p) → ((p : ℕ) → p ≤ n → Holds (laddered n p) (suc p)) → Holds (laddered (suc n) p) (suc p)
+    go (yes l) below =
+        let q : p ≡ length (ladder n) + 1 = omega (arith, length-ladder n) in
+        let v : suc p ≡ suc n + 1 = omega arith in
+        rw (v, q) (top (below n (omega arith)))
+    go (no l) below =
+        let t = top (below n (omega arith)) in
+        record {
+          sound = t .sound;
+          within = omega (arith, t .within, length-ladder n);
+          value = value-kept (ladder n) (add n 0) p (omega (arith, length-ladder n)) ∙ below p (omega arith) .value;
+        }
+
+pub ladder-counts : (n : ℕ) → countsOf (ladder n) ≡ tableCounts n
+unfolding ladder tableCounts countsOf followed
+ladder-counts zero = refl
+ladder-counts (suc zero) = counts-double none 0 0 0 refl
+ladder-counts (suc (suc n)) = counts-add (laddered (suc n) (suc n)) 1 n 0 (ladder-counts (suc n)) 0 (omega arith) ∙ rw add-one
+
+ladder-total : (n : ℕ) → total (tableCounts n) ≡ n
+unfolding tableCounts
+ladder-total zero = refl
+ladder-total (suc n) = omega arith
+
+-- no step of it subtracts
+ladder-adds : (n : ℕ) → tableCounts n ≡ counts (tableCounts n .doublings) (tableCounts n .additions) 0
+unfolding tableCounts
+ladder-adds zero = refl
+ladder-adds (suc n) = refl
+
+-- ---- the windows
+
+-- one window down: the quotient moved up by d places, and the window
+window-down : (e d i : ℕ) → e / 2 ^ (d * i) ≡ e / 2 ^ (d * suc i) * 2 ^ d + window e d i
+window-down e d i = rw (mul-suc d i, ← shr-shr e (d * i) d) (sym (split (e / 2 ^ (d * i)) d))
+
+window-small : (e d i : ℕ) → window e d i < 2 ^ d
+window-small e d i = mod-lt (e / 2 ^ (d * i)) (pow-pos d)
+
+-- the lower windows lie below the top bit
+windows-below-top : (e d : ℕ) → d * topWindow e d ≤ bitLength e - 1
+windows-below-top e d = mul-div-le (bitLength e - 1) d
+
+module _ (e d : ℕ) (some : 0 < e) (wide : 1 ≤ d) where
+  -- at and below the top window something is left
+  above-top-window : (i : ℕ) → i ≤ topWindow e d → 0 < e / 2 ^ (d * i)
+  above-top-window i h = above-top e some (d * i) (omega (arith, mul-le-mul-left d h, windows-below-top e d))
+
+  -- the top window alone
+  top-window : window e d (topWindow e d) ≡ e / 2 ^ (d * topWindow e d)
+  top-window =
+      let t : ℕ = topWindow e d in
+      shr-mod d (d * t) (bit-length-iff e (d + d * t) .0 (omega (arith, lt-mul-div-succ (bitLength e - 1) wide, mul-suc d t)))
+
+  lower-window : 2 ^ d ≤ e → 0 < topWindow e d
+  lower-window h =
+      let more : d < bitLength e = lt-of-not-le (λ l. not-le-of-lt (bit-length-iff e d .0 l) h) in
+      le-div-iff-mul-le wide .1 (omega arith)
+
+-- ---- the values
+
+-- Above window i: the latest holds the windows from i on, and the table stands. Once a lower window is done, the latest is the last position.
+record Above (e d i : ℕ) (b : Building) : Type 0 where
+  holds : Holds b (e / 2 ^ (d * i))
+  table : (p : ℕ) → p + 2 ≤ 2 ^ d → Stands b p (suc p)
+  latest : i < topWindow e d → b .latest ≡ length (b .steps)
+
+module _ (e d : ℕ) (some : 0 < e) (wide : 1 ≤ d) (small : Small e) (small-table : Small (2 ^ d)) where
+  at-window : (i v : ℕ) (b : Building) → i < topWindow e d → window e d i ≡ v → Above e d (suc i) b → Above e d i (atWindow d v b)
+  at-window i v b l y a = go v y
+    where
+      q : ℕ
+      q = e / 2 ^ (d * suc i)
+
+      down : e / 2 ^ (d * i) ≡ q * 2 ^ d + window e d i
+      down = window-down e d i
+
+      part-small : (w : ℕ) → w ≤ e / 2 ^ (d * i) → Small w
+      part-small w h = small-below w e (omega (arith, quotient-le e (d * i))) small
+
+      moved : Holds (doubled d b) (q * 2 ^ d)
+      moved = doubled-holds d b q (a .holds) (above-top-window e d some wide (suc i) l) (part-small (q * 2 ^ d) (omega (arith, down)))
+
+      kept : (p : ℕ) → p + 2 ≤ 2 ^ d → Stands (doubled d b) p (suc p)
+      kept p h = stands-doubled d b p (suc p) (a .table p h)
+
+      go : (v : ℕ) → window e d i ≡ v → Above e d i (atWindow d v b)
+      go zero y =
+          let w : e / 2 ^ (d * i) ≡ q * 2 ^ d = omega (arith, down) in
+          record { holds = rw w moved; table = kept; latest = λ h. latest-doubled d b wide }
+      go (suc p) y =
+          let w : e / 2 ^ (d * i) ≡ q * 2 ^ d + suc p = omega (arith, down) in
+          let s : Step = add (doubled d b .latest) p in
+          record {
+            holds = rw w (add-holds (doubled d b) p (q * 2 ^ d) (suc p) moved (kept p (omega (arith, window-small e d i))) (omega arith) (part-small (q * 2 ^ d + suc p) (omega arith)));
+            table = λ r h. stands-followed (doubled d b) s r (suc r) (kept r h);
+            latest = λ h. latest-followed (doubled d b) s;
+          }
+
+  all : Above e d 0 (downFrom (λ i b. atWindow d (window e d i) b) (topWindow e d) (laddered (2 ^ d - 2) (window e d (topWindow e d) - 1)))
+  all = down-from (Above e d) (λ i b. atWindow d (window e d i) b) (topWindow e d) _ (λ i b l a. at-window i (window e d i) b l refl a) start
+    where
+      t : ℕ
+      t = topWindow e d
+
+      entry : (p : ℕ) → p ≤ 2 ^ d - 2 → Holds (laddered (2 ^ d - 2) p) (suc p)
+      entry = ladder-holds (2 ^ d - 2) (small-below (suc (2 ^ d - 2)) (2 ^ d) (omega (arith, pow-pos d)) small-table)
+
+      start : Above e d t (laddered (2 ^ d - 2) (window e d t - 1))
+      start =
+          let p : ℕ = window e d t - 1 in
+          let v : suc p ≡ e / 2 ^ (d * t) = omega (arith, top-window e d some wide, above-top-window e d some wide t (omega arith)) in
+          record {
+            holds = subst (Holds (laddered (2 ^ d - 2) p)) v (entry p (omega (arith, window-small e d t)));
+            table = λ r h. let s = entry r (omega arith) in record { filled = s .within; value = s .value };
+            latest = λ h. absurd (omega arith);
+          }
+
+-- ---- the counts
+
+nonzero-windows-le : (e d n : ℕ) → nonzeroWindows e d n ≤ n
+unfolding nonzeroWindows
+nonzero-windows-le e d zero = omega arith
+nonzero-windows-le e d (suc i) =
+    let one : cond (eqb (window e d i) 0) 0 1 ≤ 1 = cond-cases (eqb (window e d i) 0) 0 1 (λ n. n ≤ 1) (λ t. omega arith) (λ t. omega arith) in
+    omega (arith, nonzero-windows-le e d i)
+
+-- a lower window: d doublings, and an addition where it is not zero
+at-window-counts : (d v : ℕ) (b : Building) (x y : ℕ) → v < 2 ^ d → 2 ^ d ≤ x + y + 2 → countsIn b ≡ counts x y 0
+    → countsIn (atWindow d v b) ≡ counts (x + d) (y + cond (eqb v 0) 0 1) 0
+at-window-counts d zero b x y l h c = counts-doubled d b x y 0 c ∙ simp add-zero
+at-window-counts zero (suc p) b x y l h c = absurd (omega arith)
+at-window-counts (suc d) (suc p) b x y l h c =
+    let filled : length (b .steps) ≡ x + y + 0 = length-counted (b .steps) ∙ ap total c in
+    rw (eqb·suc-zero p)
+    (counts-add (doubled (suc d) b) (x + suc d) y 0 (counts-doubled (suc d) b x y 0 c) p (not-before-doubled (suc d) b p (omega arith) (omega arith)))
+
+windows-counts : (e d n : ℕ) (b : Building) (x y : ℕ) → 2 ^ d ≤ x + y + 2 → countsIn b ≡ counts x y 0
+    → countsIn (downFrom (λ i b. atWindow d (window e d i) b) n b) ≡ counts (x + d * n) (y + nonzeroWindows e d n) 0
+unfolding downFrom nonzeroWindows
+windows-counts e d zero b x y h c = c ∙ simp (mul-zero, add-zero)
+windows-counts e d (suc i) b x y h c =
+    let v : ℕ = window e d i in
+    let one : ℕ = cond (eqb v 0) 0 1 in
+    let f : x + d * suc i ≡ x + d + d * i = omega (arith, mul-suc d i) in
+    let g : y + (nonzeroWindows e d i + one) ≡ y + one + nonzeroWindows e d i = omega arith in
+    rw (f, g) (windows-counts e d i (atWindow d v b) (x + d) (y + one) (omega arith) (at-window-counts d v b x y (window-small e d i) h c))
+
+module _ (e d : ℕ) where
+  -- below 2 ^ d a ladder; otherwise the table, d doublings for each lower window, and an addition for each that is not zero
+  pub fixed-counts : countsOf (fixedWindowSteps e d) ≡ cond (ltb e (2 ^ d)) (tableCounts (e - 1))
+      (counts (tableCounts (2 ^ d - 2) .doublings + d * topWindow e d) (tableCounts (2 ^ d - 2) .additions + nonzeroWindows e d (topWindow e d)) 0)
+  unfolding fixedWindowSteps windowSteps
+  fixed-counts =
+      let n : ℕ = 2 ^ d - 2 in
+      let t : ℕ = topWindow e d in
+      let long : 2 ^ d ≤ tableCounts n .doublings + tableCounts n .additions + 2 = omega (arith, ladder-total n, ap total (ladder-adds n)) in
+      counts-cond (ltb e (2 ^ d)) (ladder (e - 1)) (windowSteps e d)
+      ∙ rw (ladder-counts (e - 1), windows-counts e d t (laddered n (window e d t - 1)) (tableCounts n .doublings) (tableCounts n .additions) long (ladder-counts n ∙ ladder-adds n))
+
+  -- Brauer's bound: the table, and for each lower window d doublings and at most one addition
+  pub fixed-brauer : length (fixedWindowSteps e d) ≤ 2 ^ d - 2 + (d + 1) * topWindow e d
+  fixed-brauer =
+      rw (length-counted (fixedWindowSteps e d), fixed-counts)
+      (cond-cases (ltb e (2 ^ d)) _ _ (λ c. total c ≤ 2 ^ d - 2 + (d + 1) * topWindow e d)
+      (λ t. omega (arith, ladder-total (e - 1), ltb-true e (2 ^ d) t))
+      (λ t. omega (arith, ladder-total (2 ^ d - 2), add-mul d 1 (topWindow e d), nonzero-windows-le e d (topWindow e d))))
+
+module _ (e d : ℕ) (some : 0 < e) (wide : 1 ≤ d) where
+  pub fixed-made : Small e → Small (2 ^ d) → Made (fixedWindowSteps e d) e
+  unfolding fixedWindowSteps windowSteps
+  fixed-made small small-table =
+      let last : ℕ = e - 1 in
+      let v : suc last ≡ e = omega arith in
+      let a = all e d some wide small small-table in
+      cond-cases (ltb e (2 ^ d)) (ladder last) (windowSteps e d) (λ steps. Made steps e)
+      (λ t. made (laddered last last) e (subst (Holds (laddered last last)) v (ladder-holds last (rw v small) last (omega arith))) (sym (length-ladder last)))
+      (λ t. rw (mul-zero d, quotient-none e) at (made _ (e / 2 ^ (d * 0)) (a .holds) (a .latest (lower-window e d some wide (ltb-false e (2 ^ d) t)))))
+
+  -- the table, and at most two steps for each bit below the top
+  pub fixed-short : length (fixedWindowSteps e d) ≤ 2 ^ d + 2 * (bitLength e - 1)
+  fixed-short = omega (arith, fixed-brauer e d, add-mul d 1 (topWindow e d), windows-below-top e d, div-le-self (bitLength e - 1) d)

@@ -1,0 +1,378 @@
+-- Method 3: its steps are sound and end at the number, how many there are, and their counts. Assumes nothing.
+use mathlib.Core.Path.{_≡_, refl, sym, ap, _∙_, subst}
+use mathlib.Core.Logic.{_≢_}
+use mathlib.Core.List.{List, [], _∷_, _++_}
+use Prim.Native.Nat.{ℕ, zero, suc, _+_, _*_, _-_, _/_, _%_, _^_, _<_, _≤_}
+use borrow.Author.Tests.{eqb-true, eqb-false, eq-eqb, ne-eqb, le-leb, lt-leb, lt-ltb, le-ltb}
+use native.Mathlib.Decide.{decLe, decLt, ℕ-discrete}
+use native.Mathlib.Nat.{add-zero, sub-zero, pow-succ', mod-lt, lt-of-lt-of-le}
+use native.Mathlib.Numerals.{add-one}
+use native.Mathlib.Omega.{arith}
+use lib.Dec.{eqb}
+use lib.IntN.{pos}
+use lib.ListN.{length, length-append}
+use lib.Pow.{pow-pos, pow-mono, mod-mod-pow}
+use Rattle.rules.specs.declared.Counts.{Counts}
+use Rattle.signed_digits.proofs.Parts.{cond-cases}
+use Rattle.chains.specs.Steps.{Step, add}
+use Rattle.chains.specs.Counts.{counts, stepCounts, countsOf}
+use Rattle.methods.specs.Building.{Building, followed, double, addAt, doubled}
+use Rattle.integers.specs.Bits.{bit, bitLength}
+use Rattle.methods.specs.SlidingWindows.{tableStep, oddTable, oddPosition, tableSize, longest, windowValue, slide, scanFrom, slidingWindowSteps}
+use Rattle.methods.specs.Forecast.{tableCounts, laterWindows, scanCounts, slidingWindowCounts}
+use Rattle.integers.proofs.Bits.{bit-length-iff, top-bit, place-down, places-down, bit-small, quotient-none}
+use Rattle.methods.proofs.Counted.{countsIn, counts-double, counts-add, counts-doubled}
+use Rattle.methods.proofs.Laws.{Small, small-below, quotient-small, Holds, Stands, Made, none-holds, one-stands, add-holds, double-holds, doubled-add, stands-followed, stands-doubled, latest-followed, latest-doubled, length-followed, length-doubled, made}
+
+-- ---- the table
+
+-- what its position p holds: 1, 2, then the odd numbers from 3 on
+tableValue : ℕ → ℕ
+tableValue zero = 1
+tableValue (suc zero) = 2
+tableValue (suc (suc p)) = 2 * p + 3
+
+odd-value : (p : ℕ) → 2 ≤ p → tableValue p + 1 ≡ 2 * p
+unfolding tableValue
+odd-value zero h = absurd (omega arith)
+odd-value (suc zero) h = absurd (omega arith)
+odd-value (suc (suc p)) h = omega arith
+
+position-less : (p : ℕ) → p < tableValue p
+unfolding tableValue
+position-less zero = omega arith
+position-less (suc zero) = omega arith
+position-less (suc (suc p)) = omega arith
+
+position-value : (v : ℕ) → v % 2 ≡ 1 → tableValue (oddPosition v) ≡ v
+unfolding tableValue
+position-value v o =
+    cond-cases (eqb v 1) 0 ((v + 1) / 2) (λ p. tableValue p ≡ v) (λ t. sym (eqb-true v 1 t))
+    (λ t. let n : v ≢ 1 = eqb-false v 1 t in omega (arith, odd-value ((v + 1) / 2) (omega arith)))
+
+-- its first n steps; each adds to the latest what stands before it
+abbrev table : ℕ → Building
+table n = record { steps = oddTable n; latest = n }
+
+length-table : (n : ℕ) → length (oddTable n) ≡ n
+unfolding oddTable
+length-table zero = refl
+length-table (suc n) = omega (arith, length-append (oddTable n) (tableStep n ∷ []), length-table n)
+
+table-step : (n : ℕ) → tableStep n ≡ add n (tableStep n .second)
+table-step zero = refl
+table-step (suc zero) = refl
+table-step (suc (suc n)) = refl
+
+second-before : (n : ℕ) → tableStep n .second ≤ n - 1
+second-before zero = omega arith
+second-before (suc zero) = omega arith
+second-before (suc (suc n)) = omega arith
+
+table-next : (n : ℕ) → table (suc n) ≡ addAt (tableStep n .second) (table n)
+unfolding oddTable followed
+table-next n =
+    let l : suc n ≡ length (oddTable n) + 1 = omega (arith, length-table n) in
+    λ i. record { steps = oddTable n ++ (table-step n i ∷ []); latest = l i }
+
+value-next : (n : ℕ) → tableValue (suc n) ≡ tableValue n + tableValue (tableStep n .second)
+unfolding tableValue
+value-next zero = refl
+value-next (suc zero) = refl
+value-next (suc (suc n)) = omega arith
+
+record Filled (n : ℕ) : Type 0 where
+  holds : Holds (table n) (tableValue n)
+  stands : (p : ℕ) → p ≤ n → Stands (table n) p (tableValue p)
+
+filled-next : (n : ℕ) → Small (tableValue (suc n)) → Filled n → Filled (suc n)
+filled-next n small f = record { holds = holds; stands = stands }
+  where
+    q : ℕ
+    q = tableStep n .second
+
+    holds : Holds (table (suc n)) (tableValue (suc n))
+    holds =
+        rw (table-next n, value-next n)
+        (add-holds (table n) q (tableValue n) (tableValue q) (f .holds) (f .stands q (omega (arith, second-before n))) (omega (arith, position-less n)) (rw (value-next n) at small))
+
+    stands : (p : ℕ) → p ≤ suc n → Stands (table (suc n)) p (tableValue p)
+    stands p h =
+        elim (decLt n p) [
+          | yes l ↦ let e : p ≡ suc n = omega arith in rw e (record { filled = holds .within; value = holds .value })
+          | no l ↦ rw (table-next n) (stands-followed (table n) (add n q) p (tableValue p) (f .stands p (omega arith)))
+        ]
+
+filled : (n : ℕ) → Small (tableValue n) → Filled n
+unfolding tableValue oddTable
+filled zero small = record { holds = none-holds; stands = λ p h. let z : p ≡ 0 = omega arith in rw z (one-stands (table 0)) }
+filled (suc n) small = filled-next n small (filled n (small-below (tableValue n) (tableValue (suc n)) (omega (arith, value-next n)) small))
+
+table-counted : (n : ℕ) → countsIn (table n) ≡ tableCounts n
+unfolding tableCounts oddTable countsOf stepCounts
+table-counted zero = refl
+table-counted (suc zero) = refl
+table-counted (suc (suc n)) =
+    ap countsIn (table-next (suc n))
+    ∙ counts-add (table (suc n)) 1 n 0 (table-counted (suc n)) (tableStep (suc n) .second) (λ e. omega (arith, second-before (suc n)))
+    ∙ ap (λ (a : ℕ). counts 1 a 0) (add-one n)
+
+no-subtractions : (n : ℕ) → tableCounts n ≡ counts (tableCounts n .doublings) (tableCounts n .additions) 0
+unfolding tableCounts
+no-subtractions zero = refl
+no-subtractions (suc n) = refl
+
+-- an odd number below 2 ^ d: the whole table holds it
+record Entry (d v : ℕ) : Type 0 where
+  odd : v % 2 ≡ 1
+  narrow : v < 2 ^ d
+
+module _ (d : ℕ) (wide : 1 ≤ d) where
+  -- no step for d = 1, and otherwise half of 2 ^ d
+  size-cases : (P : ℕ → Type 0) → (d ≡ 1 → P 0) → ((h : ℕ) → 2 ≤ h → 2 ^ d ≡ 2 * h → P h) → P (tableSize d)
+  size-cases P one more =
+      elim (decLt d 2) [
+        | yes l ↦ rw (lt-ltb d 2 l) (one (omega arith))
+        | no l ↦
+            let s : d ≡ suc (d - 1) = omega arith in
+            rw (le-ltb d 2 (omega arith)) (more (2 ^ (d - 1)) (pow-mono {i = 1} (omega arith)) (ap (λ (n : ℕ). 2 ^ n) s ∙ pow-succ' 2 (d - 1)))
+      ]
+
+  table-narrow : tableValue (tableSize d) ≤ 2 ^ d
+  unfolding tableValue
+  table-narrow = size-cases (λ s. tableValue s ≤ 2 ^ d) (λ one. pow-pos d) (λ h two twice. omega (arith, odd-value h two))
+
+  entry-within : (v : ℕ) → Entry d v → oddPosition v ≤ tableSize d
+  entry-within v t =
+      size-cases (λ s. oddPosition v ≤ s) (λ one. let z : v ≡ 1 = omega (arith, rw one at (t .narrow)) in rw z (omega arith))
+      (λ h two twice. cond-cases (eqb v 1) 0 ((v + 1) / 2) (λ p. p ≤ h) (λ u. omega arith) (λ u. omega (arith, t .narrow)))
+
+-- ---- windows
+
+-- l bits from place n down, at most d, that end in 1
+record Window (e n d l : ℕ) : Type 0 where
+  some : 1 ≤ l
+  narrow : l ≤ d
+  within : l ≤ suc n
+  ends : bit e (suc n - l) ≡ 1
+
+window-wider : {e n d l : ℕ} → Window e n d l → Window e n (suc d) l
+window-wider w = record { some = w .some; narrow = omega (arith, w .narrow); within = w .within; ends = w .ends }
+
+longest-window : (e n d : ℕ) → bit e n ≡ 1 → 1 ≤ d → Window e n d (longest e n d)
+unfolding longest
+longest-window e n zero b h = absurd (omega arith)
+longest-window e n (suc l) b h =
+    elim (decLe l n) [
+      | yes t ↦ rw (le-leb l n t) (elim (ℕ-discrete (bit e (n - l)) 1) [
+        | yes o ↦
+            let s : suc n - suc l ≡ n - l = omega arith in
+            rw (eq-eqb (bit e (n - l)) 1 o) (record { some = omega arith; narrow = omega arith; within = omega arith; ends = rw s o })
+        | no z ↦
+            let p : l ≢ 0 = λ q. z (rw (q, sub-zero n) b) in
+            rw (ne-eqb (bit e (n - l)) 1 z) (window-wider (longest-window e n l b (omega arith)))
+      ])
+      | no t ↦ rw (lt-leb l n (omega arith)) (window-wider (longest-window e n l b (omega arith)))
+    ]
+
+low-bit : (x l : ℕ) → 1 ≤ l → x % 2 ^ l % 2 ≡ x % 2
+low-bit x zero h = absurd (omega arith)
+low-bit x (suc k) h = rw add-one at (mod-mod-pow x k 1)
+
+module _ {e n d l : ℕ} (w : Window e n d l) where
+  window-entry : Entry d (windowValue e n l)
+  unfolding bit
+  window-entry = record {
+    odd = low-bit (e / 2 ^ (suc n - l)) l (w .some) ∙ w .ends;
+    narrow = lt-of-lt-of-le (mod-lt (e / 2 ^ (suc n - l)) (pow-pos l)) (pow-mono (w .narrow));
+  }
+
+  window-down : e / 2 ^ (suc n - l) ≡ e / 2 ^ suc n * 2 ^ l + windowValue e n l
+  window-down =
+      let s : suc n - l + l ≡ suc n = omega (arith, w .within) in
+      rw s at (places-down e (suc n - l) l)
+
+-- ---- the scan
+
+-- the place below the window that begins at place n, and the plan after that window
+abbrev belowWindow : ℕ → ℕ → ℕ → ℕ
+belowWindow e d n = suc n - longest e n d
+
+abbrev atWindow : ℕ → ℕ → ℕ → Building → Building
+atWindow e d n b = addAt (oddPosition (windowValue e n (longest e n d))) (doubled (longest e n d) b)
+
+-- `slide` without its fuel: from place i and b the scan comes to c, and meets w windows
+data Scan (e d : ℕ) : ℕ → Building → ℕ → Building → Type 0 where
+  done : {b : Building} → Scan e d 0 b 0 b
+  window : (n : ℕ) (b : Building) {w : ℕ} {c : Building} → bit e n ≡ 1 → Scan e d (belowWindow e d n) (atWindow e d n b) w c → Scan e d (suc n) b (suc w) c
+  zero-bit : (n : ℕ) (b : Building) {w : ℕ} {c : Building} → bit e n ≢ 1 → Scan e d n (double b) w c → Scan e d (suc n) b w c
+
+-- At place i: the latest holds the bits from i on, and each entry of the table stands. At place 0 the latest is the position filled last.
+record Reached (e d i : ℕ) (b : Building) : Type 0 where
+  holds : Holds b (e / 2 ^ i)
+  positive : 0 < e / 2 ^ i
+  stands : (v : ℕ) → Entry d v → Stands b (oddPosition v) v
+  last : i ≡ 0 → b .latest ≡ length (b .steps)
+
+module _ (e d : ℕ) (wide : 1 ≤ d) where
+  scan : (f i : ℕ) (b : Building) → i ≤ f → Scan e d i b (laterWindows e d f i) (slide e d f i b)
+  unfolding slide laterWindows
+  scan zero zero b h = done
+  scan zero (suc n) b h = absurd (omega arith)
+  scan (suc f) zero b h = done
+  scan (suc f) (suc n) b h =
+      elim (ℕ-discrete (bit e n) 1) [
+        | yes o ↦ rw (eq-eqb (bit e n) 1 o) (window n b o (scan f (belowWindow e d n) (atWindow e d n b) (omega (arith, longest-window e n d o wide .some))))
+        | no z ↦ rw (ne-eqb (bit e n) 1 z) (zero-bit n b z (scan f n (double b) (omega arith)))
+      ]
+
+  length-window : (n : ℕ) (b : Building) → length (atWindow e d n b .steps) ≡ length (b .steps) + longest e n d + 1
+  length-window n b = length-followed (doubled (longest e n d) b) _ ∙ ap (λ (m : ℕ). m + 1) (length-doubled (longest e n d) b)
+
+  -- at most two steps for each bit
+  scan-short : {i w : ℕ} {b c : Building} → Scan e d i b w c → length (c .steps) ≤ length (b .steps) + 2 * i
+  scan-short done = omega arith
+  scan-short (window n b o s) = let w = longest-window e n d o wide in omega (arith, scan-short s, length-window n b)
+  scan-short (zero-bit n b z s) = omega (arith, scan-short s, length-followed b (add (b .latest) (b .latest)))
+
+  -- a doubling for each bit, and an addition for each window
+  scan-counted : {i w : ℕ} {b c : Building} → Scan e d i b w c → tableSize d ≤ length (b .steps)
+      → (x y : ℕ) → countsIn b ≡ counts x y 0 → countsIn c ≡ counts (x + i) (y + w) 0
+  scan-counted done t x y q = q ∙ simp add-zero
+  scan-counted (window n b {w} o s) t x y q =
+      let l : ℕ = longest e n d in
+      let v : Window e n d l = longest-window e n d o wide in
+      let f : x + suc n ≡ x + l + (suc n - l) = omega arith in
+      let g : y + suc w ≡ y + 1 + w = omega arith in
+      let apart : doubled l b .latest ≢ oddPosition (windowValue e n l) = omega (arith, latest-doubled l b (v .some), length-doubled l b, entry-within d wide (windowValue e n l) (window-entry v)) in
+      rw (f, g) (scan-counted s (omega (arith, length-window n b)) (x + l) (y + 1) (counts-add (doubled l b) (x + l) y 0 (counts-doubled l b x y 0 q) _ apart))
+  scan-counted (zero-bit n b z s) t x y q =
+      let f : x + suc n ≡ x + 1 + n = omega arith in
+      rw f (scan-counted s (omega (arith, length-followed b (add (b .latest) (b .latest)))) (x + 1) y (counts-double b x y 0 q))
+
+  module _ (small : Small e) where
+    at-window : (n : ℕ) (b : Building) → bit e n ≡ 1 → Reached e d (suc n) b → Reached e d (belowWindow e d n) (atWindow e d n b)
+    at-window n b o r = record {
+      holds =
+          subst (λ (v : ℕ). Holds (atWindow e d n b) v) (sym down)
+          (doubled-add l b (oddPosition x) (e / 2 ^ suc n) x (r .holds) (r .stands x entry) (r .positive) (subst Small down (quotient-small e (suc n - l) small)));
+      positive = omega (arith, down, entry .odd);
+      stands = λ v t. stands-followed (doubled l b) _ (oddPosition v) v (stands-doubled l b (oddPosition v) v (r .stands v t));
+      last = λ z. latest-followed (doubled l b) _;
+    }
+      where
+        l : ℕ
+        l = longest e n d
+
+        x : ℕ
+        x = windowValue e n l
+
+        entry : Entry d x
+        entry = window-entry (longest-window e n d o wide)
+
+        down : e / 2 ^ (suc n - l) ≡ e / 2 ^ suc n * 2 ^ l + x
+        down = window-down (longest-window e n d o wide)
+
+    at-zero : (n : ℕ) (b : Building) → bit e n ≢ 1 → Reached e d (suc n) b → Reached e d n (double b)
+    at-zero n b z r =
+        let down : e / 2 ^ n ≡ 2 * (e / 2 ^ suc n) = omega (arith, place-down e n, bit-small e n) in
+        record {
+          holds = rw down (double-holds b (e / 2 ^ suc n) (r .holds) (r .positive) (rw down at (quotient-small e n small)));
+          positive = omega (arith, r .positive);
+          stands = λ v t. stands-followed b _ (oddPosition v) v (r .stands v t);
+          last = λ z. latest-followed b _;
+        }
+
+    scan-reached : {i w : ℕ} {b c : Building} → Scan e d i b w c → Reached e d i b → Reached e d 0 c
+    scan-reached done r = r
+    scan-reached (window n b o s) r = scan-reached s (at-window n b o r)
+    scan-reached (zero-bit n b z s) r = scan-reached s (at-zero n b z r)
+
+-- ---- from the top bit
+
+abbrev top : ℕ → ℕ
+top e = bitLength e - 1
+
+-- the table, and latest set to the position of the first window
+abbrev atFirst : ℕ → ℕ → Building
+atFirst e d = record { steps = oddTable (tableSize d); latest = oddPosition (windowValue e (top e) (longest e (top e) d)) }
+
+module _ (e d : ℕ) (some : 0 < e) (wide : 1 ≤ d) where
+  first-window : Window e (top e) d (longest e (top e) d)
+  first-window = longest-window e (top e) d (omega (arith, place-down e (top e), top-bit e some, bit-small e (top e))) wide
+
+  first-value : e / 2 ^ belowWindow e d (top e) ≡ windowValue e (top e) (longest e (top e) d)
+  first-value =
+      let z : e / 2 ^ suc (top e) ≡ 0 = omega (arith, place-down e (top e), top-bit e some) in
+      omega (arith, rw z at (window-down first-window))
+
+  -- a number that is one window is an entry of the table
+  whole-entry : belowWindow e d (top e) ≡ 0 → Entry d e
+  unfolding bit
+  whole-entry z =
+      let w = first-window in
+      record { odd = omega (arith, rw z at (w .ends)); narrow = bit-length-iff e d .0 (omega arith) }
+
+  first-reached : (Entry d e → ⊥) → Small (2 ^ d) → Reached e d (belowWindow e d (top e)) (atFirst e d)
+  first-reached more room = record {
+    holds = record { sound = whole .holds .sound; within = first .filled; value = first .value ∙ ap pos (sym first-value) };
+    positive = omega (arith, first-value, window-entry first-window .odd);
+    stands = stands;
+    last = λ z. absurd (more (whole-entry z));
+  }
+    where
+      whole : Filled (tableSize d)
+      whole = filled (tableSize d) (small-below (tableValue (tableSize d)) (2 ^ d) (table-narrow d wide) room)
+
+      stands : (v : ℕ) → Entry d v → Stands (atFirst e d) (oddPosition v) v
+      stands v t =
+          let s = rw (position-value v (t .odd)) at (whole .stands (oddPosition v) (entry-within d wide v t)) in
+          record { filled = s .filled; value = s .value }
+
+      first : Stands (atFirst e d) (atFirst e d .latest) (windowValue e (top e) (longest e (top e) d))
+      first = stands _ (window-entry first-window)
+
+  scan-all : Scan e d (belowWindow e d (top e)) (atFirst e d) (laterWindows e d (top e) (belowWindow e d (top e))) (slide e d (top e) (belowWindow e d (top e)) (atFirst e d))
+  scan-all = scan e d wide (top e) (belowWindow e d (top e)) (atFirst e d) (omega (arith, first-window .some))
+
+  -- the method's two cases, with the counts of each
+  entry-or-scan : (P : List Step → Counts → Type 0) → (Entry d e → P (oddTable (oddPosition e)) (tableCounts (oddPosition e)))
+      → ((Entry d e → ⊥) → P (scanFrom e d (top e)) (scanCounts e d (top e)))
+      → P (slidingWindowSteps e d) (slidingWindowCounts e d)
+  unfolding slidingWindowSteps slidingWindowCounts
+  entry-or-scan P whole more =
+      elim (decLt e (2 ^ d)) [
+        | yes l ↦ rw (lt-ltb e (2 ^ d) l) (elim (ℕ-discrete (e % 2) 1) [
+          | yes o ↦ rw (eq-eqb (e % 2) 1 o) (whole (record { odd = o; narrow = l }))
+          | no z ↦ rw (ne-eqb (e % 2) 1 z) (more (λ t. z (t .odd)))
+        ])
+        | no m ↦ rw (le-ltb e (2 ^ d) (omega arith)) (more (λ t. m (t .narrow)))
+      ]
+
+  pub sliding-made : Small e → Small (2 ^ d) → Made (slidingWindowSteps e d) e
+  sliding-made small room = entry-or-scan (λ s c. Made s e) from-table from-scan
+    where
+      from-table : Entry d e → Made (oddTable (oddPosition e)) e
+      from-table t =
+          let p : ℕ = oddPosition e in
+          let v : tableValue p ≡ e = position-value e (t .odd) in
+          made (table p) e (rw v at (filled p (rw v small) .holds)) (sym (length-table p))
+
+      from-scan : (Entry d e → ⊥) → Made (scanFrom e d (top e)) e
+      from-scan more =
+          let r = scan-reached e d wide small scan-all (first-reached more room) in
+          made _ e (rw (quotient-none e) at (r .holds)) (r .last refl)
+
+  -- at most 2 ^ d steps for the table, and two for each bit below the top
+  pub sliding-short : length (slidingWindowSteps e d) ≤ 2 ^ d + 2 * (bitLength e - 1)
+  sliding-short =
+      entry-or-scan (λ s c. length s ≤ 2 ^ d + 2 * (bitLength e - 1))
+      (λ t. omega (arith, length-table (oddPosition e), position-less (oddPosition e), position-value e (t .odd), t .narrow))
+      (λ more. omega (arith, scan-short e d wide scan-all, first-window .some, length-table (tableSize d), position-less (tableSize d), table-narrow d wide))
+
+  -- each bit below the first window takes a doubling, each later window an addition
+  pub sliding-counts : countsOf (slidingWindowSteps e d) ≡ slidingWindowCounts e d
+  sliding-counts =
+      entry-or-scan (λ s c. countsOf s ≡ c)
+      (λ t. table-counted (oddPosition e))
+      (λ more. scan-counted e d wide scan-all (omega (arith, length-table (tableSize d))) _ _ (table-counted (tableSize d) ∙ no-subtractions (tableSize d)))

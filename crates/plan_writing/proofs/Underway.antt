@@ -1,0 +1,43 @@
+-- A plan that a loop writes from a place down: what is written so far, and that the places below will give the rest. Assumes nothing.
+use mathlib.Core.Path.{_≡_, refl, sym, ap, _∙_}
+use mathlib.Core.List.{List, [], _++_}
+use Prim.Native.Nat.{ℕ, zero, suc, _+_, _*_, _-_, _<_, _≤_}
+use native.Mathlib.Omega.{arith}
+use lib.ListN.{length, drop}
+use Rattle.rules.specs.Limits.{stepBytes}
+use Rattle.chains.specs.Steps.{Step, planBytesOf}
+use Rattle.chains.proofs.Bytes.{length-plan}
+use Rattle.methods.specs.Building.{Building, none, downFrom}
+use Rattle.methods.proofs.Laws.{down-grows}
+use Rattle.plan_writing.specs.declared.Cursor.{Cursor}
+use Rattle.plan_writing.specs.Writing.{Writing}
+
+pub record Underway (lent here : List ℕ) (c : Cursor) (f : ℕ → Building → Building) (i : ℕ) (all : List Step) : Type 0 where
+  pub building : Building
+  pub writing : Writing lent here c building
+  pub rest : downFrom f i building .steps ≡ all
+
+-- nothing is written yet
+pub nothing-written : (lent : List ℕ) (c : Cursor) → c .steps ≡ 0 → c .latest ≡ 0 → Writing lent lent c none
+unfolding planBytesOf
+nothing-written lent c s l = record { steps = s; latest = l; bytes = refl }
+
+module _ (lent here : List ℕ) (c : Cursor) (f : ℕ → Building → Building) (all : List Step) where
+  -- above place i stands i - 1
+  pub down : (i : ℕ) → 0 < i → Underway lent here c f i all → Underway lent here c f (suc (i - 1)) all
+  down i h u = let e : suc (i - 1) ≡ i = omega arith in rw e u
+
+  -- one place down
+  pub underway-next : (next : List ℕ) (d : Cursor) (i : ℕ) → (u : Underway lent here c f (suc i) all) → Writing lent next d (f i (u .building)) → Underway lent next d f i all
+  unfolding downFrom
+  underway-next next d i u w = record { building = f i (u .building); writing = w; rest = u .rest }
+
+  -- the steps of the next place are among all
+  pub underway-room : (i : ℕ) → ((i : ℕ) (b : Building) → length (b .steps) ≤ length (f i b .steps)) → (u : Underway lent here c f (suc i) all) → length (f i (u .building) .steps) ≤ length all
+  unfolding downFrom
+  underway-room i more u = omega (arith, down-grows f i (f i (u .building)) more, ap length (u .rest))
+
+  -- all is written
+  pub underway-end : Underway lent here c f 0 all → here ≡ planBytesOf all ++ drop (length (planBytesOf all)) lent
+  unfolding downFrom
+  underway-end u = u .writing .bytes ∙ rw (u .rest, length-plan all)

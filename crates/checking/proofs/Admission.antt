@@ -10,8 +10,8 @@ use lib.ListN.{length}
 use Rattle.rules.specs.Limits.{numberBytes, stepBytes, planSteps}
 use Rattle.rules.specs.declared.Refusal.the-variants.{NumberTooLong, NumberIsZero, PlanLength, WorkSpaceTooShort}
 use Rattle.integers.specs.Positional.{bytesValue}
-use Rattle.checking.specs.declared.Verdict.{Verdict}
-use Rattle.checking.specs.declared.Verdict.the-variants.{Fine, No}
+use Rattle.rules.specs.declared.Verdict.{Verdict}
+use Rattle.rules.specs.declared.Verdict.the-variants.{Fine, No}
 use Rattle.checking.specs.Check.{roomFor, admission}
 
 -- none of 1, 2, 7 and 8

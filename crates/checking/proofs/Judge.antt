@@ -19,8 +19,8 @@ use Rattle.chains.specs.Steps.{Step, add, subtracting}
 use Rattle.chains.specs.Values.{at, start, stepValue, valuesOf}
 use Rattle.chains.specs.Sound.{stepAt, Named, Held, Sound}
 use Rattle.chains.proofs.Values.{valuesAfter, length-after, after-none, after-all, after-more, value-at}
-use Rattle.checking.specs.declared.Verdict.{Verdict}
-use Rattle.checking.specs.declared.Verdict.the-variants.{Fine, No}
+use Rattle.rules.specs.declared.Verdict.{Verdict}
+use Rattle.rules.specs.declared.Verdict.the-variants.{Fine, No}
 use Rattle.checking.specs.Check.{isNamed, stepVerdict, Judged, judge, isSame}
 
 -- ---- one step

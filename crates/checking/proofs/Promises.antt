@@ -19,8 +19,8 @@ use Rattle.chains.specs.Sound.{stepAt, Named, Sound}
 use Rattle.chains.specs.Counts.{countsOf}
 use Rattle.chains.specs.Records.{recordsOf}
 use Rattle.chains.proofs.Records.{length-records}
-use Rattle.checking.specs.declared.Verdict.{Verdict}
-use Rattle.checking.specs.declared.Verdict.the-variants.{No}
+use Rattle.rules.specs.declared.Verdict.{Verdict}
+use Rattle.rules.specs.declared.Verdict.the-variants.{No}
 use Rattle.checking.specs.Check.{roomFor, admission, Judged, judge, judged, ended, stepsAnswer, checkAnswer, checkSpace}
 use Rattle.checking.proofs.Admission.{Admitted, Admits, number-too-long, number-is-zero, plan-length, space-too-short, admitted, admits, admits-only}
 use Rattle.checking.proofs.Judge.{Tested, unsound, value-is-zero, value-too-large, SoundTo, Judges, sound, stops, judges, judges-only, same-true, same-false}

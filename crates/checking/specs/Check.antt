@@ -11,13 +11,14 @@ use Rattle.rules.specs.declared.Refusal.{Refusal}
 use Rattle.rules.specs.declared.Refusal.the-variants.{NumberTooLong, NumberIsZero, PlanLength, WorkSpaceTooShort, StepUnsound, ValueIsZero, ValueTooLarge, WrongEnd}
 use Rattle.rules.specs.declared.Counted.{Counted}
 use Rattle.rules.specs.declared.Counted.the-variants.{Steps, Refused}
+use Rattle.rules.specs.Outcome.{unlessRefused}
 use Rattle.integers.specs.Positional.{bytesValue}
 use Rattle.chains.specs.Steps.{Step, stepsOf, subtracting}
 use Rattle.chains.specs.Values.{at, start, stepValue}
 use Rattle.chains.specs.Counts.{countsOf}
 use Rattle.chains.specs.Records.{recordsOf}
-use Rattle.checking.specs.declared.Verdict.{Verdict}
-use Rattle.checking.specs.declared.Verdict.the-variants.{Fine, No}
+use Rattle.rules.specs.declared.Verdict.{Verdict}
+use Rattle.rules.specs.declared.Verdict.the-variants.{Fine, No}
 
 -- ---- before the steps: 1, 2, 7, 8
 
@@ -83,12 +84,8 @@ ended Fine end number steps = cond (isSame end (pos (bytesValue number))) (Steps
 unfoldable pub stepsAnswer : List ℕ → List ℕ → Counted
 stepsAnswer number plan = ended (judged plan .verdict) (at (judged plan .values) (length (stepsOf plan))) number (stepsOf plan)
 
-abbrev pub admitted : Verdict → Counted → Counted
-admitted (No r) later = Refused r
-admitted Fine later = later
-
 abbrev pub checkAnswer : List ℕ → List ℕ → ℕ → Counted
-checkAnswer number plan room = admitted (admission number (length plan) room) (stepsAnswer number plan)
+checkAnswer number plan room = unlessRefused (admission number (length plan) room) (stepsAnswer number plan)
 
 -- ---- the work space: untouched at 1, 2, 7 and 8; else the records of the values by then, and the bytes past these stay
 abbrev pub spaceAfter : Verdict → List ℕ → List ℕ → List ℕ

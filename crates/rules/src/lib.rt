@@ -141,3 +141,9 @@ pub enum Counted {
     Steps(Counts),
     Refused(Refusal),
 }
+
+// Whether a test lets a call go on, or why not.
+pub enum Verdict {
+    Fine,
+    No(Refusal),
+}

@@ -4,4 +4,5 @@ pub mod Binary
 pub mod FixedWindows
 pub mod SlidingWindows
 pub mod NonAdjacentForm
+pub mod Every
 pub mod Examples

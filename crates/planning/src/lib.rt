@@ -1,0 +1,1 @@
+// Plans and forecasts for a number, by method and width.

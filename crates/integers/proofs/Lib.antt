@@ -1,5 +1,7 @@
 pub mod Positional
+pub mod LowBytes
 pub mod Bits
 pub mod Tabulate
+pub mod Blocks
 pub mod Words
-pub mod LowBytes
+pub mod Carry

@@ -1,8 +1,8 @@
 -- The low bytes of a number: how many, of which value, and that a string is the low bytes of its own value. Assumes nothing.
-use mathlib.Core.Path.{_≡_, refl, ap}
-use mathlib.Core.List.{List, [], _∷_}
+use mathlib.Core.Path.{_≡_, refl, ap, _∙_}
+use mathlib.Core.List.{List, [], _∷_, _++_}
 use Prim.Native.Nat.{ℕ, zero, suc, _+_, _*_, _/_, _%_, _^_, _<_}
-use native.Mathlib.Nat.{pow-zero, pow-suc, one-le-pow}
+use native.Mathlib.Nat.{zero-add, suc-add, pow-zero, pow-suc, pow-succ', mul-assoc, one-le-pow, mod-eq-of-lt, div-one, div-div-eq-div-mul}
 use native.Mathlib.Omega.{arith}
 use lib.Arith.{mod-mul}
 use lib.ListN.{length, getD}
@@ -35,3 +35,23 @@ low-of (x ∷ l) b =
     let low : (x + 256 * v) % 256 ≡ x = omega arith in
     let high : (x + 256 * v) / 256 ≡ v = omega arith in
     rw (low, high, low-of l (λ i. b (suc i)))
+
+-- enough of them have the whole value
+pub low-whole : (n v : ℕ) → v < 256 ^ n → bytesValue (lowBytes n v) ≡ v
+low-whole n v h = low-value n v ∙ mod-eq-of-lt h
+
+-- the bytes above the m lowest are those of a quotient
+pub low-add : (m n v : ℕ) → lowBytes (m + n) v ≡ lowBytes m v ++ lowBytes n (v / 256 ^ m)
+unfolding lowBytes
+low-add zero n v = rw (zero-add, pow-zero, div-one)
+low-add (suc m) n v = rw (suc-add, low-add m n (v / 256), div-div-eq-div-mul, pow-succ')
+
+-- what stands above them changes nothing
+pub low-above : (n v r : ℕ) → lowBytes n (v + 256 ^ n * r) ≡ lowBytes n v
+unfolding lowBytes
+low-above zero v r = refl
+low-above (suc n) v r =
+    let e : 256 ^ suc n * r ≡ 256 * (256 ^ n * r) = rw (pow-succ', mul-assoc) in
+    let m : (v + 256 ^ suc n * r) % 256 ≡ v % 256 = omega (arith, e) in
+    let d : (v + 256 ^ suc n * r) / 256 ≡ v / 256 + 256 ^ n * r = omega (arith, e) in
+    rw (m, d, low-above n (v / 256) r)

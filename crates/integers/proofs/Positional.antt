@@ -6,7 +6,7 @@ use native.Mathlib.Nat.{pow-zero, pow-suc, pow-succ', mul-add, mul-assoc, mul-co
 use native.Mathlib.Omega.{arith}
 use lib.Arith.{digits-lt}
 use lib.ListN.{length, getD, take, drop, length-take, replicate, length-replicate, getD-replicate}
-use lib.Seq.{take-append-seam, drop-append-seam}
+use lib.Seq.{take-append-seam, drop-append-seam, take-nil}
 use Rattle.integers.specs.Positional.{positional}
 
 -- every element is below the base
@@ -42,6 +42,17 @@ positional-split base (suc n) (x ∷ l) =
     let q : ℕ = positional base (drop n l) in
     let e : base * (p + base ^ n * q) ≡ base * p + base ^ suc n * q = rw (mul-add, pow-succ', mul-assoc) in
     omega (arith, e, ap (λ (y : ℕ). base * y) (positional-split base n l))
+
+-- one element more above the first k; also past the end, where it is 0
+pub positional-take : (base k : ℕ) (l : List ℕ) → positional base (take (suc k) l) ≡ positional base (take k l) + base ^ k * getD l k 0
+unfolding positional
+positional-take base k [] = rw (take-nil, mul-zero)
+positional-take base zero (x ∷ l) = rw (pow-zero, mul-zero) (omega arith)
+positional-take base (suc k) (x ∷ l) =
+    let p : ℕ = positional base (take k l) in
+    let g : ℕ = getD l k 0 in
+    let e : base * (p + base ^ k * g) ≡ base * p + base ^ suc k * g = rw (mul-add, pow-succ', mul-assoc) in
+    omega (arith, e, ap (λ (y : ℕ). base * y) (positional-take base k l))
 
 -- so many elements hold no more
 pub positional-lt : (base k : ℕ) (l : List ℕ) → length l ≤ k → Below base l → positional base l < base ^ k

@@ -1,5 +1,5 @@
 -- Laws of a table that a loop fills, one store a turn. Assumes nothing.
-use mathlib.Core.Path.{_≡_, refl, sym, ap, _∙_}
+use mathlib.Core.Path.{_≡_, refl, sym, _∙_}
 use mathlib.Core.List.{List, [], _∷_, _++_, append-assoc, append-nil}
 use Prim.Native.Nat.{ℕ, zero, suc, _+_, _<_, _≤_}
 use native.Mathlib.Decide.{decLt}
@@ -7,8 +7,9 @@ use native.Mathlib.Nat.{add-zero, add-suc}
 use native.Mathlib.Numerals.{add-one}
 use native.Mathlib.Omega.{arith}
 use lib.ListN.{length, getD, set, take, drop, length-append, List·getD-append}
-use lib.Seq.{set-at, take-at, drop-at, getD-at, drop-cons, drop-drop, length-take-le, ext-getD}
+use lib.Seq.{set-at, take-at, drop-at, getD-at, drop-cons, drop-drop, ext-getD}
 use Rattle.integers.specs.Tabulate.{tabulate}
+use Rattle.integers.proofs.Blocks.{place-one}
 
 pub length-tabulate : (f : ℕ → ℕ) (n : ℕ) → length (tabulate f n) ≡ n
 unfolding tabulate
@@ -25,11 +26,7 @@ tabulate-more f l n h =
 pub block-more : (f : ℕ → ℕ) (l : List ℕ) (at n : ℕ) → at + n < length l
     → set (take at l ++ (tabulate f n ++ drop (at + n) l)) (at + n) (f n) ≡ take at l ++ (tabulate f (n + 1) ++ drop (at + (n + 1)) l)
 unfolding tabulate
-block-more f l at n h =
-    let below : length (take at l ++ tabulate f n) ≡ at + n = rw (length-append, length-take-le at l (omega arith), length-tabulate f n) in
-    let e : at + (n + 1) ≡ suc (at + n) = omega arith in
-    rw (e, add-one, drop-cons l (at + n) 0, ← append-assoc, set-at (take at l ++ tabulate f n) (getD l (at + n) 0) (drop (suc (at + n)) l) (f n) (at + n) below)
-    (simp append-assoc)
+block-more f l at n h = place-one l at n (tabulate f n) (length-tabulate f n) (f n) h ∙ rw add-one
 
 pub tabulate-add : (f : ℕ → ℕ) (m n : ℕ) → tabulate f (m + n) ≡ tabulate f m ++ tabulate (λ j. f (m + j)) n
 unfolding tabulate

@@ -1,16 +1,17 @@
--- Words of eight bytes, read from the top byte down. Assumes nothing.
+-- Words of eight bytes: one, read from the top byte down; all of a number, and its low bytes; halving. Assumes nothing.
 use mathlib.Core.Path.{_≡_, refl, sym, ap, _∙_}
 use mathlib.Core.List.{List, [], _∷_, _++_}
 use Prim.Native.Nat.{ℕ, zero, suc, _+_, _*_, _-_, _/_, _%_, _^_, _<_, _≤_, min}
 use native.Mathlib.Decide.{decLe}
-use native.Mathlib.Nat.{zero-add, add-zero, suc-add, pow-suc, min-eq-left, min-eq-right}
+use native.Mathlib.Nat.{zero-add, add-zero, suc-add, pow-suc, mul-assoc, min-eq-left, min-eq-right}
 use native.Mathlib.Omega.{arith}
 use lib.ListN.{length, getD, set, take, drop, length-take, length-drop, length-set}
 use lib.Pow.{pow-add}
-use lib.Seq.{getD-drop, getD-take, drop-length, length-take-le, take-take, take-all, take-length, take-nil, drop-nil, getD-set-same, drop-set-lt, take-set-le}
-use Rattle.integers.specs.Positional.{positional, bytesValue, wordsValue}
+use lib.Seq.{getD-drop, getD-take, drop-length, drop-drop, length-take-le, take-take, take-all, take-length, take-nil, drop-nil, getD-set-same, drop-set-lt, take-set-le}
+use Rattle.integers.specs.Positional.{positional, bytesValue, wordsValue, lowBytes}
 use Rattle.integers.specs.Tabulate.{tabulate}
-use Rattle.integers.proofs.Positional.{Below, below-take, below-drop, positional-drop, positional-lt, positional-split, positional-append}
+use Rattle.integers.proofs.Positional.{Below, below-take, below-drop, positional-drop, positional-lt, positional-split, positional-append, positional-div}
+use Rattle.integers.proofs.LowBytes.{low-add, low-above}
 use Rattle.integers.proofs.Tabulate.{length-tabulate}
 
 -- the count bytes from `from` on
@@ -67,6 +68,22 @@ words-value l (suc n) =
     let low : bytesValue (take (8 * n + 8) l) ≡ bytesValue (take (8 * n) l) + 256 ^ (8 * n) * wordAt l n =
     rw (positional-split 256 (8 * n) (take (8 * n + 8) l), take-take (8 * n) (8 * n + 8) l (omega arith), drop-take (8 * n) 8 l) in
     rw e (top ∙ ap (λ (v : ℕ). v + (2 ^ 64) ^ n * wordAt l n) (words-value l n) ∙ ap (λ (p : ℕ). bytesValue (take (8 * n) l) + p * wordAt l n) (word-power n) ∙ sym low)
+
+-- a part of a part
+pub part-part : (l : List ℕ) (at size from count : ℕ) → from + count ≤ size → part from count (part at size l) ≡ part (at + from) count l
+part-part l at size from count h =
+    let e : size ≡ from + (size - from) = omega arith in
+    rw (e, drop-take from (size - from) (drop at l), take-take count (size - from) (drop from (drop at l)) (omega arith), drop-drop from at l)
+
+-- the low bytes up to the word at k, and the lowest of that word
+pub words-low : (words : List ℕ) (k n : ℕ) → n ≤ 8 → Below (2 ^ 64) words
+    → lowBytes (8 * k + n) (wordsValue words) ≡ lowBytes (8 * k) (wordsValue words) ++ lowBytes n (getD words k 0)
+words-low words k n h b =
+    let above : ℕ = wordsValue (drop (suc k) words) in
+    let e : 256 ^ 8 ≡ 256 ^ n * 256 ^ (8 - n) = let f : 8 ≡ n + (8 - n) = omega arith in ap (λ (i : ℕ). 256 ^ i) f ∙ pow-add 256 n (8 - n) in
+    let q : wordsValue words / 256 ^ (8 * k) ≡ getD words k 0 + 256 ^ n * (256 ^ (8 - n) * above) =
+    rw (← word-power k, ← positional-div (2 ^ 64) words k b, positional-drop (2 ^ 64) words k, ← mul-assoc (256 ^ n) (256 ^ (8 - n)) above, ← e) in
+    rw (low-add (8 * k) n (wordsValue words), q, low-above n (getD words k 0) (256 ^ (8 - n) * above))
 
 pub take-least : (n : ℕ) (l : List ℕ) → take (min n (length l)) l ≡ take n l
 take-least n l = go (decLe n (length l))

@@ -1,13 +1,15 @@
 // Little-endian numbers: bytes and words.
 use rules::NUMBER_WORDS;
 ghost use mathlib.Core.Path.{_≡_};
-ghost use Prim.Native.Nat.{_+_, _/_, _<_, _≤_, min};
+ghost use mathlib.Core.List.{_++_};
+ghost use Prim.Native.Nat.{_+_, _*_, _/_, _^_, _<_, _≤_, min};
 ghost use lib.Count;
 ghost use lib.Dec.{eqb};
 ghost use lib.ListN.{length, take, drop, getD};
+ghost use mir.Val.{boolByte};
 ghost use Rattle.rules.specs.Limits.{numberBytes};
 ghost use Rattle.integers.specs.Bits.{bit, bitLength};
-ghost use Rattle.integers.specs.Positional.{bytesValue, wordsValue, Significant};
+ghost use Rattle.integers.specs.Positional.{bytesValue, wordsValue, lowBytes, Significant};
 
 // The byte at a place: 0 above the number.
 pub fn byte_at(number: &[u8], place: usize) -> u64
@@ -98,6 +100,14 @@ pub fn word_at(bytes: &[u8], from: usize) -> u64
     word_of(bytes, from, least(8, bytes.len() - from))
 }
 
+// The value of the eight bytes from `from` on.
+pub fn whole_word_at(bytes: &[u8], from: usize) -> u64
+    requires { ⌜ from + 8 ≤ length (now bytes) ⌝ }
+    ensures { λ r. ⌜ r ≡ bytesValue (take 8 (drop from (now (bytes .entry)))) ⌝ }
+{
+    word_of(bytes, from, 8)
+}
+
 // The words of a number, of which bytes above the limit are left out.
 pub fn words_of(number: &[u8]) -> [u64; NUMBER_WORDS]
     ensures { λ r. ⌜ wordsValue r ≡ bytesValue (take numberBytes (now (number .entry))) ⌝ }
@@ -139,4 +149,54 @@ pub fn is_zero(words: [u64; NUMBER_WORDS]) -> bool
         k += 1;
     }
     true
+}
+
+// Writes the eight bytes of a word at `at`.
+pub fn store_word(bytes: &mut [u8], at: usize, word: u64)
+    requires { ⌜ at + 8 ≤ length (now bytes) ⌝ }
+    ensures { λ _. ⌜ now (bytes .exit) ≡ take at (now (bytes .entry)) ++ (lowBytes 8 word ++ drop (at + 8) (now (bytes .entry))) ⌝ }
+{
+    let mut rest = word;
+    let mut i = 0;
+    while i < 8 {
+        bytes[at + i] = (rest % 256) as u8;
+        rest = rest / 256;
+        i += 1;
+    }
+}
+
+// A word of a sum, and whether it carries into the next.
+pub struct SumWord {
+    pub word: u64,
+    pub carry: bool,
+}
+
+// The sum of two words and a carry. A carry is seen because the sum has wrapped.
+pub fn added(a: u64, b: u64, carry: bool) -> SumWord
+    ensures { λ r. ⌜ r .word + 2 ^ 64 * boolByte (r .carry) ≡ a + b + boolByte carry ⌝ }
+{
+    let half = std::num::wrapping_add_u64(a, b);
+    let word = std::num::wrapping_add_u64(half, carry as u64);
+    SumWord {
+        word,
+        carry: (half < a) | (word < half),
+    }
+}
+
+// A word of a difference, and whether it borrows from the next.
+pub struct DifferenceWord {
+    pub word: u64,
+    pub borrow: bool,
+}
+
+// The difference of two words, less a borrow.
+pub fn subtracted(a: u64, b: u64, borrow: bool) -> DifferenceWord
+    ensures { λ r. ⌜ r .word + b + boolByte borrow ≡ a + 2 ^ 64 * boolByte (r .borrow) ⌝ }
+{
+    let less = borrow as u64;
+    let half = std::num::wrapping_sub_u64(a, b);
+    DifferenceWord {
+        word: std::num::wrapping_sub_u64(half, less),
+        borrow: (a < b) | (half < less),
+    }
 }

@@ -1,0 +1,29 @@
+-- `integers::subtracted` meets its contract. Assumes nothing.
+use native.Mathlib.Omega.{arith}
+use Rattle.integers.proofs.Carry.{difference-law}
+use borrow.Author.Needs.{needs}
+use Rattle.integers.proofs.subtracted.Statement.{statement}
+use Rattle.integers.proofs.subtracted.Tie as tie
+use Rattle.integers.proofs.subtracted.Reads as reads
+use Rattle.integers.proofs.subtracted.Lts as lts
+use Rattle.std.proofs.num.wrapping_sub_u64.Reads as wrapping-sub-u64-reads
+
+cast-less : tie.Need-cast-less
+cast-less c = search needs
+
+wrapping-sub-u64-requires : tie.Need-wrapping-sub-u64-requires
+wrapping-sub-u64-requires c κs = search needs
+
+wrapping-sub-u64-requires-2 : tie.Need-wrapping-sub-u64-requires-2
+wrapping-sub-u64-requires-2 c κs = search needs
+
+returns : tie.Need-returns
+returns c =
+    let args = c .before .before .args in
+    let half = c .before .wrapping-sub-u64 in
+    let word = c .wrapping-sub-u642 in
+    difference-law (args .a) (args .b) (args .borrow) (half .result) (word .result) (omega arith) (omega arith) (omega arith) (half .ensures) (word .ensures)
+
+pub subtracted-spec : {M : Type 1} → statement M
+subtracted-spec =
+    tie.close (tie.spec cast-less wrapping-sub-u64-requires wrapping-sub-u64-requires-2 returns)

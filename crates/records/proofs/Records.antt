@@ -1,0 +1,46 @@
+-- Records of a work space: a sign byte, then the bytes of a size. Assumes nothing.
+use mathlib.Core.Path.{_≡_, refl}
+use mathlib.Core.List.{List, [], _∷_}
+use Prim.Native.Nat.{ℕ, suc, _+_, _<_, _≤_}
+use native.Mathlib.Numerals.{add-one, one-add}
+use native.Mathlib.Omega.{arith}
+use lib.Dec.{eqb}
+use lib.IntN.{ℤ, natAbs}
+use lib.ListN.{length, getD, set, take, drop, length-take}
+use lib.Seq.{drop-cons, set-split}
+use Rattle.rules.specs.Limits.{valueBytes, valueBound, recordBytes}
+use Rattle.integers.specs.Positional.{bytesValue, lowBytes}
+use Rattle.integers.specs.Signed.{signOf, signed}
+use Rattle.integers.proofs.Positional.{Below, below-take, below-drop, positional-lt}
+use Rattle.integers.proofs.Words.{part}
+use Rattle.integers.proofs.Blocks.{placed, place-more}
+use Rattle.integers.proofs.LowBytes.{low-whole}
+use Rattle.chains.specs.Records.{recordOf}
+use Rattle.records.proofs.Limits.{bound-bytes}
+use Rattle.records.proofs.Signed.{signed-of}
+
+first-rest : (l : List ℕ) (at n s : ℕ) (t : List ℕ) → at < length l → take (1 + n) (drop at l) ≡ s ∷ t → (getD l at 0 ≡ s) × (part (at + 1) n l ≡ t)
+first-rest l at n s t h e =
+    let f : getD l at 0 ∷ take n (drop (suc at) l) ≡ s ∷ t = rw (one-add, drop-cons l at 0 h) at e in
+    (cc, rw add-one (cc))
+
+-- the bytes of a size are below the bound
+pub size-below : (l : List ℕ) (at : ℕ) → Below 256 l → bytesValue (part at valueBytes l) < valueBound
+size-below l at b =
+    rw bound-bytes (positional-lt 256 valueBytes (part at valueBytes l) (omega (arith, length-take valueBytes (drop at l)))
+    (below-take 256 valueBytes (drop at l) (omega arith) (below-drop 256 at l (omega arith) b)))
+
+module _ (l : List ℕ) (at : ℕ) (fits : at + recordBytes ≤ length l) where
+  -- a record is read back
+  pub record-read : (z : ℤ) → take recordBytes (drop at l) ≡ recordOf z → natAbs z < valueBound
+      → signed (eqb (getD l at 0) 1) (bytesValue (part (at + 1) valueBytes l)) ≡ z
+  unfolding recordOf
+  record-read z e h =
+      let r = first-rest l at valueBytes (signOf z) (lowBytes valueBytes (natAbs z)) (omega arith) e in
+      rw (r .0, r .1, low-whole valueBytes (natAbs z) (rw bound-bytes at h)) (signed-of z)
+
+  -- a record is written
+  pub record-placed : (s : ℕ) (t : List ℕ) → placed (set l at s) (at + 1) valueBytes t ≡ placed l at recordBytes (s ∷ t)
+  record-placed s t =
+      let e : set l at s ≡ placed l at 1 (s ∷ []) = rw add-one (set-split l at s (omega arith)) in
+      rw e (place-more l at 1 (s ∷ []) refl valueBytes t (omega arith))

@@ -1,0 +1,11 @@
+-- The size of a value is that of its words. Assumes nothing.
+use mathlib.Core.Path.{_≡_}
+use lib.IntN.{natAbs}
+use Rattle.integers.specs.Positional.{wordsValue}
+use Rattle.records.specs.declared.Value.{Value}
+use Rattle.records.specs.Value.{integerOf}
+use Rattle.records.proofs.Signed.{size-signed}
+
+pub size-is : (v : Value) → natAbs (integerOf v) ≡ wordsValue (v .words)
+unfolding integerOf
+size-is v = size-signed (v .negative) (wordsValue (v .words))

@@ -1,0 +1,33 @@
+-- `records::is_small` meets its contract. Assumes nothing.
+use Prim.Native.Nat.{_-_, _^_}
+use lib.ListN.{getD}
+use mir.Syntax.{w64}
+use mir.Val.{Fits}
+use Rattle.rules.specs.Limits.{valueWords}
+use Rattle.integers.proofs.Positional.{Below}
+use Rattle.records.proofs.Limits.{bound-top}
+use Rattle.records.proofs.Size.{size-is}
+use Rattle.records.proofs.Sizes.{top-small}
+use borrow.Author.Needs.{needs}
+use Rattle.records.proofs.is_small.Statement.{statement}
+use Rattle.records.proofs.is_small.Tie as tie
+use Rattle.records.proofs.is_small.Reads as reads
+use Rattle.records.proofs.is_small.Lts as lts
+
+sub-result : tie.Need-sub-result
+sub-result c = search needs
+
+mul-result : tie.Need-mul-result
+mul-result c = search needs
+
+array-read-result : tie.Need-array-read-result
+array-read-result c = search needs
+
+returns : tie.Need-returns
+returns c =
+    let v = c .before .args .v in
+    let fits : Below (2 ^ 64) (v .words) = λ i. let f : Fits w64 (getD (v .words) i 0) = search needs in f .fits in
+    rw (size-is v, bound-top) (top-small (v .words) (valueWords - 1) (search needs) fits)
+
+pub is-small-spec : {M : Type 1} → statement M
+is-small-spec = tie.close (tie.spec sub-result mul-result array-read-result returns)

@@ -1,0 +1,32 @@
+-- `records::load` meets its contract. Assumes nothing.
+use Prim.Native.Nat.{_+_}
+use Rattle.records.specs.Value.{integerOf}
+use Rattle.records.proofs.Records.{size-below, record-read}
+use borrow.Author.Needs.{needs}
+use Rattle.records.proofs.load.Statement.{statement}
+use Rattle.records.proofs.load.Tie as tie
+use Rattle.records.proofs.load.Reads as reads
+use Rattle.records.proofs.load.Lts as lts
+use Rattle.records.proofs.load_size.Reads as load-size-reads
+
+add-load-size : tie.Need-add-load-size
+add-load-size c = search needs
+
+load-size-requires : tie.Need-load-size-requires
+load-size-requires c κs = search needs
+
+shared-slice-read-t6 : tie.Need-shared-slice-read-t6
+shared-slice-read-t6 c = search needs
+
+returns : tie.Need-returns
+unfolding integerOf
+returns c =
+    let start = c .before .before .before in
+    let space = start .args .space .now in
+    let at = start .args .at in (
+      rw (c .before .load-size .ensures) (size-below space (at + 1) (λ i. c .shared-slice-known2 .given i .fits)),
+      λ z e h. rw (c .before .load-size .ensures) (record-read space at (start .pre) z e h),
+    )
+
+pub load-spec : {M : Type 1} → statement M
+load-spec = tie.close (tie.spec add-load-size load-size-requires shared-slice-read-t6 returns)

@@ -1,0 +1,94 @@
+-- `records::subtract_size` meets its contract: the k low words are subtracted. Assumes nothing.
+use mathlib.Core.Path.{_≡_}
+use Prim.Native.Nat.{_≤_, _<_, _+_, _*_, _-_, _^_}
+use lib.ListN.{length, getD, set, take, replicate}
+use lib.Seq.{getD-set-same, take-all}
+use mir.Val.{boolByte}
+use Rattle.rules.specs.Limits.{valueWords}
+use Rattle.integers.specs.Positional.{positional, wordsValue}
+use Rattle.integers.proofs.Carry.{Carried, carried-none, carried-more, carried-all, stored-low, stored-lt}
+use Rattle.records.proofs.Sizes.{borrowed}
+use borrow.Author.Needs.{needs}
+use Rattle.records.proofs.subtract_size.Statement.{statement}
+use Rattle.records.proofs.subtract_size.Tie as tie
+use Rattle.records.proofs.subtract_size.Reads as reads
+use Rattle.records.proofs.subtract_size.Lts as lts
+use Rattle.integers.proofs.subtracted.Reads as subtracted-reads
+
+abbrev Inv-loop : tie.InvT-loop
+Inv-loop a b words₀ borrow₀ k₀ words borrow k =
+    (k ≤ valueWords) × (length words ≡ valueWords) × (wordsValue (take k words) < (2 ^ 64) ^ k) × Carried k words b a borrow
+
+abbrev μ-loop : tie.MeasureT-loop
+μ-loop a b words₀ borrow₀ k₀ words borrow k = valueWords - k
+
+loop-holds : tie.Need-loop-holds Inv-loop μ-loop
+unfolding positional
+loop-holds c = (search needs, search needs, search needs, carried-none (replicate valueWords 0) (c .args .t2) (c .args .t1))
+
+mul-subtracted : tie.Need-mul-subtracted Inv-loop μ-loop
+mul-subtracted c = search needs
+
+array-read-subtracted : tie.Need-array-read-subtracted Inv-loop μ-loop
+array-read-subtracted c = search needs
+
+mul-subtracted-2 : tie.Need-mul-subtracted-2 Inv-loop μ-loop
+mul-subtracted-2 c = search needs
+
+array-read-subtracted-2 : tie.Need-array-read-subtracted-2 Inv-loop μ-loop
+array-read-subtracted-2 c = search needs
+
+subtracted-requires : tie.Need-subtracted-requires Inv-loop μ-loop
+subtracted-requires c κs = search needs
+
+mul-words : tie.Need-mul-words Inv-loop μ-loop
+mul-words c = search needs
+
+array-write-words : tie.Need-array-write-words Inv-loop μ-loop
+array-write-words c = search needs
+
+add-k : tie.Need-add-k Inv-loop μ-loop
+add-k c = search needs
+
+loop-less : tie.Need-loop-less Inv-loop μ-loop
+loop-less c = search needs
+
+loop-again : tie.Need-loop-again Inv-loop μ-loop
+loop-again c =
+    let loop = c .before .before .loop in
+    let args = c .before .before .before .args in
+    let k = loop .k in
+    let word = c .subtracted .result in
+    let next = set (loop .words) k (word .word) in
+    let same : Carried k next (args .t2) (args .t1) (loop .borrow) = rw (stored-low (loop .words) k (word .word)) (loop .inv .3) in
+    let here : getD next k 0 + getD (args .t2) k 0 + boolByte (loop .borrow) ≡ getD (args .t1) k 0 + 2 ^ 64 * boolByte (word .borrow) =
+    rw (getD-set-same (loop .words) k (word .word) 0 (search needs)) (c .subtracted .ensures) in
+    (search needs, search needs, stored-lt (loop .words) k (word .word) (search needs) (search needs) (loop .inv .2), carried-more k next (args .t2) (args .t1) (loop .borrow) (word .borrow) same here)
+
+returns : tie.Need-returns Inv-loop μ-loop
+returns c =
+    let loop = c .before .loop in
+    let args = c .before .before .args in
+    let e : loop .k ≡ valueWords = search needs in
+    let small : wordsValue (loop .words) < (2 ^ 64) ^ valueWords = rw (e, take-all valueWords (loop .words) (search needs)) at (loop .inv .2) in
+    let total = carried-all valueWords (loop .words) (args .t2) (args .t1) (loop .borrow) (loop .inv .1) (search needs) (search needs) (rw e at (loop .inv .3)) in
+    borrowed (wordsValue (args .t1)) (wordsValue (args .t2)) (wordsValue (loop .words)) ((2 ^ 64) ^ valueWords) (loop .borrow) small total
+
+pub subtract-size-spec : {M : Type 1} → statement M
+subtract-size-spec =
+    tie.close
+    (tie.spec
+    Inv-loop
+    μ-loop
+    loop-holds
+    mul-subtracted
+    array-read-subtracted
+    mul-subtracted-2
+    array-read-subtracted-2
+    subtracted-requires
+    mul-words
+    array-write-words
+    add-k
+    loop-less
+    loop-again
+    returns)

@@ -1,0 +1,93 @@
+-- `records::sum` meets its contract: the k low words are added. Assumes nothing.
+use mathlib.Core.Path.{_≡_, sym}
+use Prim.Native.Nat.{_≤_, _+_, _*_, _-_, _^_}
+use lib.ListN.{length, getD, set, replicate}
+use lib.Seq.{getD-set-same}
+use mir.Val.{boolByte}
+use Rattle.rules.specs.Limits.{valueWords, valueBound}
+use Rattle.integers.specs.Positional.{wordsValue}
+use Rattle.integers.proofs.Carry.{Carried, carried-none, carried-more, carried-all, stored-low}
+use Rattle.records.proofs.Limits.{bound-twice}
+use Rattle.records.proofs.Sizes.{no-carry}
+use borrow.Author.Needs.{needs}
+use Rattle.records.proofs.sum.Statement.{statement}
+use Rattle.records.proofs.sum.Tie as tie
+use Rattle.records.proofs.sum.Reads as reads
+use Rattle.records.proofs.sum.Lts as lts
+use Rattle.integers.proofs.added.Reads as added-reads
+
+abbrev Inv-loop : tie.InvT-loop
+Inv-loop a b words₀ carry₀ k₀ words carry k = (k ≤ valueWords) × (length words ≡ valueWords) × Carried k a b words carry
+
+abbrev μ-loop : tie.MeasureT-loop
+μ-loop a b words₀ carry₀ k₀ words carry k = valueWords - k
+
+loop-holds : tie.Need-loop-holds Inv-loop μ-loop
+loop-holds c = (search needs, search needs, carried-none (c .args .t1) (c .args .t2) (replicate valueWords 0))
+
+mul-added : tie.Need-mul-added Inv-loop μ-loop
+mul-added c = search needs
+
+array-read-added : tie.Need-array-read-added Inv-loop μ-loop
+array-read-added c = search needs
+
+mul-added-2 : tie.Need-mul-added-2 Inv-loop μ-loop
+mul-added-2 c = search needs
+
+array-read-added-2 : tie.Need-array-read-added-2 Inv-loop μ-loop
+array-read-added-2 c = search needs
+
+added-requires : tie.Need-added-requires Inv-loop μ-loop
+added-requires c κs = search needs
+
+mul-words : tie.Need-mul-words Inv-loop μ-loop
+mul-words c = search needs
+
+array-write-words : tie.Need-array-write-words Inv-loop μ-loop
+array-write-words c = search needs
+
+add-k : tie.Need-add-k Inv-loop μ-loop
+add-k c = search needs
+
+loop-less : tie.Need-loop-less Inv-loop μ-loop
+loop-less c = search needs
+
+loop-again : tie.Need-loop-again Inv-loop μ-loop
+loop-again c =
+    let loop = c .before .before .loop in
+    let args = c .before .before .before .args in
+    let k = loop .k in
+    let word = c .added .result in
+    let same : Carried k (args .t1) (args .t2) (set (loop .words) k (word .word)) (loop .carry) = rw (stored-low (loop .words) k (word .word)) (loop .inv .2) in
+    let here : getD (args .t1) k 0 + getD (args .t2) k 0 + boolByte (loop .carry) ≡ getD (set (loop .words) k (word .word)) k 0 + 2 ^ 64 * boolByte (word .carry) =
+    rw (getD-set-same (loop .words) k (word .word) 0 (search needs)) (sym (c .added .ensures)) in
+    (search needs, search needs, carried-more k (args .t1) (args .t2) (set (loop .words) k (word .word)) (loop .carry) (word .carry) same here)
+
+returns : tie.Need-returns Inv-loop μ-loop
+returns c =
+    let loop = c .before .loop in
+    let start = c .before .before in
+    let a = start .args .t1 in
+    let b = start .args .t2 in
+    let e : loop .k ≡ valueWords = search needs in
+    let total = carried-all valueWords a b (loop .words) (loop .carry) (search needs) (search needs) (loop .inv .1) (rw e at (loop .inv .2)) in
+    no-carry (wordsValue a) (wordsValue b) (wordsValue (loop .words)) ((2 ^ 64) ^ valueWords) valueBound (loop .carry) (start .pre .0) (start .pre .1) bound-twice total
+
+pub sum-spec : {M : Type 1} → statement M
+sum-spec =
+    tie.close
+    (tie.spec
+    Inv-loop
+    μ-loop
+    loop-holds
+    mul-added
+    array-read-added
+    mul-added-2
+    array-read-added-2
+    added-requires
+    mul-words
+    array-write-words
+    add-k
+    loop-less
+    loop-again
+    returns)

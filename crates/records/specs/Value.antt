@@ -1,0 +1,14 @@
+-- A value of a chain as the checker holds it: the words of its size, and whether it is below zero.
+use Prim.Native.Nat.{ℕ, _<_}
+use lib.IntN.{ℤ, natAbs}
+use Rattle.rules.specs.Limits.{valueBound}
+use Rattle.integers.specs.Positional.{wordsValue}
+use Rattle.integers.specs.Signed.{signed}
+use Rattle.records.specs.declared.Value.{Value}
+
+unfoldable pub integerOf : Value → ℤ
+integerOf v = signed (v .negative) (wordsValue (v .words))
+
+-- its size is below the bound
+abbrev pub Small : Value → Type 0
+Small v = wordsValue (v .words) < valueBound

@@ -1,15 +1,18 @@
 -- The bit length, and the quotients by powers of two that a scan from the top meets. Assumes nothing.
 use mathlib.Core.Path.{_≡_, refl, sym, ap, _∙_}
 use mathlib.Core.Logic.{_↔_}
+use mathlib.Core.Bool.{false}
 use mathlib.Core.List.{List}
 use Prim.Native.Nat.{ℕ, zero, suc, _+_, _*_, _-_, _/_, _%_, _^_, _<_, _≤_}
-use native.Mathlib.Nat.{pow-suc, mul-comm, mod-mod, div-lt-iff-lt-mul, div-le-self}
+use native.Mathlib.Nat.{pow-zero, pow-suc, mul-zero, mul-suc, mul-comm, mul-assoc, mul-pos, zero-div, add-mul-div-left, div-lt-iff-lt-mul, div-le-self}
 use native.Mathlib.Omega.{arith}
+use borrow.Author.Tests.{eq-eqb, ne-eqb}
+use lib.Dec.{eqb}
 use lib.Count.{ones, ones-cat, leadingZeros, leading-length}
-use lib.ListN.{length, getD, drop}
+use lib.ListN.{length, getD, drop, drop-of-length-le}
 use lib.Pow.{pow-pos, pow-add, shr-shr, split, field, mod-mod-pow}
 use Rattle.integers.specs.Bits.{bit, lengthUpTo, bitLength}
-use Rattle.integers.specs.Positional.{bytesValue, Significant}
+use Rattle.integers.specs.Positional.{positional, bytesValue, wordsValue, Significant}
 use Rattle.integers.proofs.Positional.{Below, positional-drop, positional-div, positional-at}
 
 length-up-to : (f n k : ℕ) → n ≤ f → (lengthUpTo f n ≤ k → n < 2 ^ k) × (n < 2 ^ k → lengthUpTo f n ≤ k)
@@ -121,16 +124,48 @@ length-from v k (suc m) h l p =
     λ g. let c = quotient-bound v k m .1 (bit-length-iff v (8 * k + m) .0 g) in omega (arith, pow-suc 2 m) in
     omega arith
 
--- a binary digit stands in its byte
-pub bit-of-byte : (l : List ℕ) (place : ℕ) → Below 256 l → getD l (place / 8) 0 / 2 ^ (place % 8) % 2 ≡ bit (bytesValue l) place
+-- ---- elements of a power of two
+
+power-of-power : (b q : ℕ) → (2 ^ b) ^ q ≡ 2 ^ (b * q)
+power-of-power b zero = rw (pow-zero, mul-zero)
+power-of-power b (suc q) = rw (pow-suc (2 ^ b) q, power-of-power b q, mul-suc, pow-add)
+
+-- a binary digit stands in its element, at any base 2 ^ b
+pub bit-of-element : (b : ℕ) (l : List ℕ) (q r : ℕ) → r < b → Below (2 ^ b) l → getD l q 0 / 2 ^ r % 2 ≡ bit (positional (2 ^ b) l) (b * q + r)
 unfolding bit
+bit-of-element b l q r h below =
+    let v : ℕ = positional (2 ^ b) l in
+    let y : ℕ = v / 2 ^ (b * q) in
+    let s : v / 2 ^ (b * q + r) ≡ y / 2 ^ r = sym (shr-shr v (b * q) r) in
+    let e : getD l q 0 ≡ y % 2 ^ b = positional-at (2 ^ b) l q below ∙ ap (λ (p : ℕ). v / p % 2 ^ b) (power-of-power b q) in
+    let c : b ≡ (b - 1 - r + 1) + r = omega arith in
+    rw (s, e) (ap (λ (n : ℕ). y % 2 ^ n / 2 ^ r % 2) c ∙ ap (λ (n : ℕ). n % 2) (field y (b - 1 - r + 1) r) ∙ mod-mod-pow (y / 2 ^ r) (b - 1 - r) 1)
+
+pub bit-of-byte : (l : List ℕ) (place : ℕ) → Below 256 l → getD l (place / 8) 0 / 2 ^ (place % 8) % 2 ≡ bit (bytesValue l) place
 bit-of-byte l place b =
-    let v : ℕ = bytesValue l in
-    let q : ℕ = place / 8 in
-    let r : ℕ = place % 8 in
-    let e : place ≡ 8 * q + r = omega arith in
-    let s : v / 2 ^ place ≡ v / 256 ^ q / 2 ^ r = ap (λ (k : ℕ). v / 2 ^ k) e ∙ sym (shr-shr v (8 * q) r) ∙ rw (power-of-bytes q) in
-    rw (s, positional-at 256 l q b) (low-bits (v / 256 ^ q % 256) (v / 256 ^ q) r (mod-mod (v / 256 ^ q) 256) (omega arith))
+    let e : 8 * (place / 8) + place % 8 ≡ place = omega arith in
+    rw e at (bit-of-element 8 l (place / 8) (place % 8) (omega arith) b)
+
+pub bit-of-word : (l : List ℕ) (place : ℕ) → Below (2 ^ 64) l → getD l (place / 64) 0 / 2 ^ (place % 64) % 2 ≡ bit (wordsValue l) place
+bit-of-word l place b =
+    let e : 64 * (place / 64) + place % 64 ≡ place = omega arith in
+    rw e at (bit-of-element 64 l (place / 64) (place % 64) (omega arith) b)
+
+-- what stands from a place on: the rest of its word, and the words above
+pub from-place : (l : List ℕ) (place : ℕ) → Below (2 ^ 64) l
+    → wordsValue l / 2 ^ place ≡ getD l (place / 64) 0 / 2 ^ (place % 64) + 2 ^ (64 - place % 64) * wordsValue (drop (suc (place / 64)) l)
+from-place l place b =
+    let k : ℕ = place / 64 in
+    let r : ℕ = place % 64 in
+    let w : ℕ = getD l k 0 in
+    let u : ℕ = wordsValue (drop (suc k) l) in
+    let e : place ≡ 64 * k + r = omega arith in
+    let d : wordsValue l / 2 ^ (64 * k) ≡ w + 2 ^ 64 * u =
+    ap (λ (p : ℕ). wordsValue l / p) (sym (power-of-power 64 k)) ∙ sym (positional-div (2 ^ 64) l k b) ∙ positional-drop (2 ^ 64) l k in
+    let sum : 64 ≡ r + (64 - r) = omega arith in
+    let p : 2 ^ 64 ≡ 2 ^ r * 2 ^ (64 - r) = ap (λ (n : ℕ). 2 ^ n) sum ∙ pow-add 2 r (64 - r) in
+    let m : 2 ^ 64 * u ≡ 2 ^ r * (2 ^ (64 - r) * u) = ap (λ (n : ℕ). n * u) p ∙ mul-assoc (2 ^ r) (2 ^ (64 - r)) u in
+    ap (λ (n : ℕ). wordsValue l / 2 ^ n) e ∙ sym (shr-shr (wordsValue l) (64 * k) r) ∙ ap (λ (n : ℕ). n / 2 ^ r) (d ∙ ap (λ (n : ℕ). w + n) m) ∙ add-mul-div-left w (2 ^ (64 - r) * u) (pow-pos r)
 
 -- the ones of a byte below others
 pub ones-byte : (l : List ℕ) (i : ℕ) → Below 256 l → i < length l → ones (bytesValue (drop i l)) ≡ ones (bytesValue (drop (suc i) l)) + ones (getD l i 0)
@@ -159,3 +194,38 @@ length-by-top l n b s some =
     let nonzero : 0 < t = omega (arith, s .top some) in
     let c = length-from (bytesValue l) (n - 1) m (omega arith) (omega arith) (omega arith) in
     omega arith
+
+-- ---- whether words hold nothing
+
+pub zero-word : (l : List ℕ) (k : ℕ) → getD l k 0 ≡ 0 → eqb (wordsValue (drop k l)) 0 ≡ eqb (wordsValue (drop (suc k) l)) 0
+zero-word l k z = go (wordsValue (drop (suc k) l)) (omega (arith, positional-drop (2 ^ 64) l k))
+  where
+    go : (u : ℕ) → wordsValue (drop k l) ≡ 2 ^ 64 * u → eqb (wordsValue (drop k l)) 0 ≡ eqb u 0
+    go zero e = eq-eqb (wordsValue (drop k l)) 0 (omega arith)
+    go (suc u) e = ne-eqb (wordsValue (drop k l)) 0 (λ n. omega arith) ∙ sym (ne-eqb (suc u) 0 (λ n. omega arith))
+
+pub nonzero-word : (l : List ℕ) (k : ℕ) → (getD l k 0 ≡ 0 → ⊥) → eqb (wordsValue (drop k l)) 0 ≡ false
+nonzero-word l k n = ne-eqb (wordsValue (drop k l)) 0 (λ z. n (omega (arith, positional-drop (2 ^ 64) l k)))
+
+-- at and above a place
+pub zero-from : (l : List ℕ) (place : ℕ) → Below (2 ^ 64) l → getD l (place / 64) 0 / 2 ^ (place % 64) ≡ 0
+    → eqb (wordsValue l / 2 ^ place) 0 ≡ eqb (wordsValue (drop (suc (place / 64)) l)) 0
+zero-from l place b z = go (wordsValue (drop (suc (place / 64)) l)) (omega (arith, from-place l place b))
+  where
+    go : (u : ℕ) → wordsValue l / 2 ^ place ≡ 2 ^ (64 - place % 64) * u → eqb (wordsValue l / 2 ^ place) 0 ≡ eqb u 0
+    go zero e = eq-eqb (wordsValue l / 2 ^ place) 0 (e ∙ mul-zero (2 ^ (64 - place % 64)))
+    go (suc u) e =
+        let h : 0 < 2 ^ (64 - place % 64) * suc u = mul-pos (pow-pos (64 - place % 64)) (omega arith) in
+        ne-eqb (wordsValue l / 2 ^ place) 0 (λ n. omega arith) ∙ sym (ne-eqb (suc u) 0 (λ n. omega arith))
+
+pub nonzero-from : (l : List ℕ) (place : ℕ) → Below (2 ^ 64) l → (getD l (place / 64) 0 / 2 ^ (place % 64) ≡ 0 → ⊥) → eqb (wordsValue l / 2 ^ place) 0 ≡ false
+nonzero-from l place b n = ne-eqb (wordsValue l / 2 ^ place) 0 (λ z. n (omega (arith, from-place l place b)))
+
+-- above the last word there is nothing
+pub above-all : (l : List ℕ) (place : ℕ) → Below (2 ^ 64) l → length l ≤ place / 64 → wordsValue l / 2 ^ place ≡ 0
+unfolding positional
+above-all l place b h =
+    let e : 64 * (place / 64) + place % 64 ≡ place = omega arith in
+    let d : wordsValue l / 2 ^ (64 * (place / 64)) ≡ 0 =
+    ap (λ (p : ℕ). wordsValue l / p) (sym (power-of-power 64 (place / 64))) ∙ sym (positional-div (2 ^ 64) l (place / 64) b) ∙ ap wordsValue (drop-of-length-le l h) in
+    ap (λ (n : ℕ). wordsValue l / 2 ^ n) (sym e) ∙ sym (shr-shr (wordsValue l) (64 * (place / 64)) (place % 64)) ∙ ap (λ (n : ℕ). n / 2 ^ (place % 64)) d ∙ zero-div (2 ^ (place % 64))

@@ -7,7 +7,7 @@ ghost use lib.Count;
 ghost use lib.Dec.{eqb};
 ghost use lib.ListN.{length, take, drop, getD};
 ghost use mir.Val.{boolByte};
-ghost use Rattle.rules.specs.Limits.{numberBytes};
+ghost use Rattle.rules.specs.Limits.{numberBytes, numberWords};
 ghost use Rattle.integers.specs.Bits.{bit, bitLength};
 ghost use Rattle.integers.specs.Positional.{bytesValue, wordsValue, lowBytes, Significant};
 
@@ -121,27 +121,24 @@ pub fn words_of(number: &[u8]) -> [u64; NUMBER_WORDS]
     words
 }
 
-// Half of the number that the words hold.
-pub fn halved(words: [u64; NUMBER_WORDS]) -> [u64; NUMBER_WORDS]
-    ensures { λ r. ⌜ wordsValue r ≡ wordsValue words / 2 ⌝ }
+// The binary digit at a place of the number that the words hold.
+pub fn word_bit(words: [u64; NUMBER_WORDS], place: usize) -> u64
+    ensures { λ r. ⌜ r ≡ bit (wordsValue words) place ⌝ }
 {
-    let mut half = words;
-    let mut low: u64 = 0;
-    let mut k = NUMBER_WORDS;
-    while 0 < k {
-        let word = half[k - 1];
-        half[k - 1] = word / 2 + low * 0x8000_0000_0000_0000;
-        low = word % 2;
-        k -= 1;
+    let k = place / 64;
+    if k < NUMBER_WORDS {
+        (words[k] >> (place % 64)) % 2
+    } else {
+        0
     }
-    half
 }
 
-// Whether the words hold zero.
-pub fn is_zero(words: [u64; NUMBER_WORDS]) -> bool
-    ensures { λ r. ⌜ r ≡ eqb (wordsValue words) 0 ⌝ }
+// Whether the words from k on hold nothing.
+fn is_zero_above(words: [u64; NUMBER_WORDS], from: usize) -> bool
+    requires { ⌜ from ≤ numberWords ⌝ }
+    ensures { λ r. ⌜ r ≡ eqb (wordsValue (drop from words)) 0 ⌝ }
 {
-    let mut k = 0;
+    let mut k = from;
     while k < NUMBER_WORDS {
         if words[k] != 0 {
             return false;
@@ -149,6 +146,20 @@ pub fn is_zero(words: [u64; NUMBER_WORDS]) -> bool
         k += 1;
     }
     true
+}
+
+// Whether nothing stands at a place or above it.
+pub fn is_zero_from(words: [u64; NUMBER_WORDS], place: usize) -> bool
+    ensures { λ r. ⌜ r ≡ eqb (wordsValue words / 2 ^ place) 0 ⌝ }
+{
+    let k = place / 64;
+    if NUMBER_WORDS <= k {
+        return true;
+    }
+    if words[k] >> (place % 64) != 0 {
+        return false;
+    }
+    is_zero_above(words, k + 1)
 }
 
 // Writes the eight bytes of a word at `at`.

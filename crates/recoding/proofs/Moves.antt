@@ -1,26 +1,30 @@
 -- One move of a recoder: the lowest digit of v + c, and what is left, by the two low binary digits of v. Assumes nothing.
 use mathlib.Core.Path.{_≡_, refl, sym, ap, _∙_}
-use mathlib.Core.Logic.{_≢_}
+use mathlib.Core.Logic.{_≢_, inl, inr}
 use mathlib.Core.Bool.{Bool, true, false}
 use mathlib.Core.List.{List}
 use Prim.Native.Nat.{ℕ, zero, suc, _+_, _*_, _/_, _%_, _^_, _<_, _≤_}
 use borrow.Author.Tests.{lt-ltb, le-ltb}
+use native.Mathlib.Nat.{add-mul-mod-self-left}
 use native.Mathlib.Omega.{arith}
 use lib.Dec.{leb}
-use lib.ListN.{length, getD, take}
+use lib.ListN.{length, take}
 use lib.Seq.{take-all}
 use mir.Val.{boolByte}
-use Rattle.rules.specs.Limits.{numberBytes}
+use lib.Pow.{shr-shr}
+use Rattle.rules.specs.Limits.{numberBytes, numberWords}
 use Rattle.rules.specs.declared.Refusal.the-variants.{NumberTooLong}
 use Rattle.integers.specs.Positional.{bytesValue, wordsValue}
-use Rattle.integers.proofs.Positional.{positional-drop}
+use Rattle.integers.specs.Bits.{bit}
+use Rattle.integers.proofs.Positional.{Below}
+use Rattle.integers.proofs.Bits.{above-all}
 use Rattle.signed_digits.specs.Naf.{residue, lowDigit, rest}
 use Rattle.signed_digits.specs.Bytes.{digitByte}
 use Rattle.signed_digits.proofs.Steps.{low-digit-2, rest-2, by-four}
 use Rattle.recoding.specs.declared.recoder.Recoder.{Recoder}
 use Rattle.recoding.specs.declared.recoder.Start.the-variants.{Ready, Refused}
 use Rattle.recoding.specs.declared.recoder.Take.the-variants.{Digit, Done}
-use Rattle.recoding.specs.Take.{carried, standsFor, takeAnswer, takeLeaves, IsStart, IsTake}
+use Rattle.recoding.specs.Take.{carried, standsFor, takeAnswer, takeLeaves, IsStart, IsTake, IsNext}
 
 -- ---- the byte of the lowest digit, by the remainder modulo 4
 pub byte-even : (n : ℕ) → n % 2 ≡ 0 → digitByte (lowDigit 2 n) ≡ 0
@@ -64,9 +68,16 @@ pub one-small : (b : Bool) → boolByte b ≤ 1
 one-small true = omega arith
 one-small false = omega arith
 
--- the low word has the low binary digits
-pub low-word : (words : List ℕ) → wordsValue words % 4 ≡ getD words 0 0 % 4
-low-word words = omega (arith, positional-drop (2 ^ 64) words 0)
+-- at the place above: the next binary digit, and what stands there
+pub next-place : (words : List ℕ) (place next : ℕ) → Below (2 ^ 64) words → length words ≡ numberWords → IsNext place next
+    → (bit (wordsValue words) next ≡ wordsValue words / 2 ^ place / 2 % 2) × (wordsValue words / 2 ^ next ≡ wordsValue words / 2 ^ place / 2)
+unfolding bit
+next-place words place next b long (inl e) =
+    let h : wordsValue words / 2 ^ next ≡ wordsValue words / 2 ^ place / 2 = rw e (sym (shr-shr (wordsValue words) place 1)) in
+    (rw h, h)
+next-place words place next b long (inr e) =
+    let z : wordsValue words / 2 ^ place ≡ 0 = above-all words place b (omega arith) in
+    (rw (e .1, z), rw (e .1, z))
 
 -- ---- the definitions of a take, where something is left
 pub answer-some : (n : ℕ) → n ≢ 0 → takeAnswer n ≡ Digit (digitByte (lowDigit 2 n))
@@ -81,45 +92,58 @@ leaves-some (suc n) h = refl
 pub done-is : (r : Recoder) → standsFor r ≡ 0 → IsTake r (record { next = r; answer = Done })
 done-is r z = record { answer = rw z; next = rw z; done = λ h. refl }
 
-module _ (r : Recoder) (half : List ℕ) (digit : ℕ) where
-  low : ℕ
-  low = getD (r .words) 0 0 % 4
+pub move-is : (r : Recoder) (low above next digit : ℕ) → Below (2 ^ 64) (r .words) → length (r .words) ≡ numberWords → IsNext (r .place) next
+    → standsFor r ≢ 0 → low ≡ bit (wordsValue (r .words)) (r .place) → above ≡ bit (wordsValue (r .words)) next
+    → digit ≡ digitByte (lowDigit 2 (low + above + boolByte (r .carry) + above))
+    → IsTake r (record { next = record { words = r .words; place = next; carry = leb 2 (low + above + boolByte (r .carry)) }; answer = Digit digit })
+unfolding standsFor bit
+move-is r low above next digit b long n some lows aboves byte =
+    let v : ℕ = wordsValue (r .words) / 2 ^ r .place in
+    let c : ℕ = carried (r .carry) in
+    let e : boolByte (r .carry) ≡ c = carried-byte (r .carry) in
+    let small : c ≤ 1 = omega (arith, one-small (r .carry)) in
+    let (second, half) = next-place (r .words) (r .place) next b long n in
+    let l : low ≡ v % 2 = lows in
+    let a : above ≡ v / 2 % 2 = aboves ∙ second in
+    let d : lowDigit 2 (low + above + c + above) ≡ lowDigit 2 (v + c) = same-digit (low + above + c + above) (v + c) (residue v c low above l a) in
+    let m : rest 2 (v + c) ≡ v / 2 + (low + above + c) / 2 = moved v c small ∙ ap (λ (k : ℕ). v / 2 + k / 2) (sum v c low above l a) in
+    record {
+      answer = rw (byte, e, d) (sym (answer-some (v + c) some));
+      next = rw (e, half, carried-half (low + above + c) (omega arith), leaves-some (v + c) some) (sym m);
+      done = λ z. absurd (some z);
+    }
+  where
+    sum : (v c low above : ℕ) → low ≡ v % 2 → above ≡ v / 2 % 2 → v % 4 % 2 + v % 4 / 2 + c ≡ low + above + c
+    sum v c low above l a = omega arith
 
-  pub move-is : standsFor r ≢ 0 → wordsValue half ≡ wordsValue (r .words) / 2 → digit ≡ digitByte (lowDigit 2 (getD (r .words) 0 0 % 4 + boolByte (r .carry)))
-      → IsTake r (record { next = record { words = half; carry = leb 2 (getD (r .words) 0 0 % 4 % 2 + getD (r .words) 0 0 % 4 / 2 + boolByte (r .carry)) }; answer = Digit digit })
-  unfolding standsFor low
-  move-is some halves byte =
-      let v : ℕ = wordsValue (r .words) in
-      let c : ℕ = carried (r .carry) in
-      let e : boolByte (r .carry) ≡ c = carried-byte (r .carry) in
-      let l : v % 4 ≡ low = low-word (r .words) in
-      let small : c ≤ 1 = omega (arith, one-small (r .carry)) in
-      let d : lowDigit 2 (low + c) ≡ lowDigit 2 (v + c) = same-digit (low + c) (v + c) (omega arith) in
-      let m : rest 2 (v + c) ≡ v / 2 + (low % 2 + low / 2 + c) / 2 = rw (← l) (moved v c small) in
-      record {
-        answer = rw (byte, e, d) (sym (answer-some (v + c) some));
-        next = rw (e, halves, carried-half (low % 2 + low / 2 + c) (omega arith), leaves-some (v + c) some) (sym m);
-        done = λ z. absurd (some z);
-      }
+    residue : (v c low above : ℕ) → low ≡ v % 2 → above ≡ v / 2 % 2 → (low + above + c + above) % 4 ≡ (v + c) % 4
+    residue v c low above l a =
+        let q : ℕ = v / 4 in
+        let s : v + c ≡ low + above + c + above + 4 * q = omega arith in
+        sym (rw (s, add-mul-mod-self-left))
 
 -- ---- the two returns of the start
 pub refused-is : (number : List ℕ) (words : List ℕ) → numberBytes < length number → wordsValue words ≡ 0
-    → IsStart number (record { recoder = record { words = words; carry = false }; answer = Refused NumberTooLong })
+    → IsStart number (record { recoder = record { words = words; place = 0; carry = false }; answer = Refused NumberTooLong })
 unfolding standsFor
-refused-is number words h z = let t = lt-ltb numberBytes (length number) h in record { answer = rw t; recoder = rw (t, z) }
+refused-is number words h z =
+    let t = lt-ltb numberBytes (length number) h in
+    let o : wordsValue words / 2 ^ 0 ≡ 0 = omega arith in
+    record { answer = rw t; recoder = rw (t, o) }
 
 pub ready-is : (number words : List ℕ) → length number ≤ numberBytes → wordsValue words ≡ bytesValue (take numberBytes number)
-    → IsStart number (record { recoder = record { words = words; carry = false }; answer = Ready })
+    → IsStart number (record { recoder = record { words = words; place = 0; carry = false }; answer = Ready })
 unfolding standsFor
 ready-is number words h e =
     let t = le-ltb numberBytes (length number) h in
-    record { answer = rw t; recoder = rw t (omega (arith, e, ap bytesValue (take-all numberBytes number h))) }
+    let o : wordsValue words / 2 ^ 0 ≡ wordsValue words = omega arith in
+    record { answer = rw t; recoder = rw (t, o) (omega (arith, e, ap bytesValue (take-all numberBytes number h))) }
 
 -- ---- whether a recoder is done
 pub carry-stands : (r : Recoder) → r .carry ≡ true → standsFor r ≢ 0
 unfolding standsFor
 carry-stands r t z = omega (arith, z, ap carried t)
 
-pub words-stand : (r : Recoder) → r .carry ≡ false → wordsValue (r .words) ≡ standsFor r
+pub words-stand : (r : Recoder) → r .carry ≡ false → wordsValue (r .words) / 2 ^ r .place ≡ standsFor r
 unfolding standsFor
 words-stand r f = omega (arith, ap carried f)

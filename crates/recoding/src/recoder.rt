@@ -1,6 +1,6 @@
 // Canonical digits one at a time, lowest first.
-use integers::halved;
-use integers::is_zero;
+use integers::is_zero_from;
+use integers::word_bit;
 use integers::words_of;
 use rules::NUMBER_BYTES;
 use rules::NUMBER_WORDS;
@@ -9,11 +9,13 @@ ghost use mathlib.Core.Path.{_≡_};
 ghost use lib.Dec.{eqb};
 ghost use Rattle.signed_digits.specs.Naf.{lowDigit};
 ghost use Rattle.signed_digits.specs.Bytes.{digitByte};
-ghost use Rattle.recoding.specs.Take.{standsFor, IsStart, IsTake};
+ghost use Rattle.recoding.specs.Take.{standsFor, IsStart, IsTake, IsNext};
 
-// A recoder stands for the value of its words, least significant first, plus one where it carries.
+// A recoder stands for the value of its words, least significant first, divided by two to the power
+// of its place and rounded down, plus one where it carries.
 pub struct Recoder {
     pub words: [u64; NUMBER_WORDS],
+    pub place: usize,
     pub carry: bool,
 }
 
@@ -48,6 +50,7 @@ impl Recoder {
             return Started {
                 recoder: Recoder {
                     words: [0; NUMBER_WORDS],
+                    place: 0,
                     carry: false,
                 },
                 answer: Start::Refused(Refusal::NumberTooLong),
@@ -56,6 +59,7 @@ impl Recoder {
         Started {
             recoder: Recoder {
                 words: words_of(number),
+                place: 0,
                 carry: false,
             },
             answer: Start::Ready,
@@ -67,11 +71,12 @@ impl Recoder {
         ensures { λ r. ⌜ r ≡ eqb (standsFor self) 0 ⌝ }
     {
         let words = self.words;
+        let place = self.place;
         let carry = self.carry;
         if carry {
             return false;
         }
-        is_zero(words)
+        is_zero_from(words, place)
     }
 
     // The lowest digit, and the recoder moved on by one place; done where no digit is left.
@@ -85,16 +90,32 @@ impl Recoder {
             };
         }
         let words = self.words;
+        let place = self.place;
         let carry = self.carry;
-        let low = words[0] % 4;
-        let one = carry as u64;
+        let low = word_bit(words, place);
+        let next = next_place(place);
+        let above = word_bit(words, next);
+        let ones = low + above + carry as u64;
+        let residue = ones + above;
         Taken {
             next: Recoder {
-                words: halved(words),
-                carry: 2 <= low % 2 + low / 2 + one,
+                words: words,
+                place: next,
+                carry: 2 <= ones,
             },
-            answer: Take::Digit(digit_byte(low + one)),
+            answer: Take::Digit(digit_byte(residue)),
         }
+    }
+}
+
+// The place above; above all words one place is like another.
+fn next_place(place: usize) -> usize
+    ensures { λ r. ⌜ IsNext place r ⌝ }
+{
+    if place < 64 * NUMBER_WORDS {
+        place + 1
+    } else {
+        place
     }
 }
 

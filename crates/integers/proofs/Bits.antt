@@ -146,11 +146,6 @@ bit-of-byte l place b =
     let e : 8 * (place / 8) + place % 8 ≡ place = omega arith in
     rw e at (bit-of-element 8 l (place / 8) (place % 8) (omega arith) b)
 
-pub bit-of-word : (l : List ℕ) (place : ℕ) → Below (2 ^ 64) l → getD l (place / 64) 0 / 2 ^ (place % 64) % 2 ≡ bit (wordsValue l) place
-bit-of-word l place b =
-    let e : 64 * (place / 64) + place % 64 ≡ place = omega arith in
-    rw e at (bit-of-element 64 l (place / 64) (place % 64) (omega arith) b)
-
 -- what stands from a place on: the rest of its word, and the words above
 pub from-place : (l : List ℕ) (place : ℕ) → Below (2 ^ 64) l
     → wordsValue l / 2 ^ place ≡ getD l (place / 64) 0 / 2 ^ (place % 64) + 2 ^ (64 - place % 64) * wordsValue (drop (suc (place / 64)) l)
@@ -206,20 +201,6 @@ zero-word l k z = go (wordsValue (drop (suc k) l)) (omega (arith, positional-dro
 
 pub nonzero-word : (l : List ℕ) (k : ℕ) → (getD l k 0 ≡ 0 → ⊥) → eqb (wordsValue (drop k l)) 0 ≡ false
 nonzero-word l k n = ne-eqb (wordsValue (drop k l)) 0 (λ z. n (omega (arith, positional-drop (2 ^ 64) l k)))
-
--- at and above a place
-pub zero-from : (l : List ℕ) (place : ℕ) → Below (2 ^ 64) l → getD l (place / 64) 0 / 2 ^ (place % 64) ≡ 0
-    → eqb (wordsValue l / 2 ^ place) 0 ≡ eqb (wordsValue (drop (suc (place / 64)) l)) 0
-zero-from l place b z = go (wordsValue (drop (suc (place / 64)) l)) (omega (arith, from-place l place b))
-  where
-    go : (u : ℕ) → wordsValue l / 2 ^ place ≡ 2 ^ (64 - place % 64) * u → eqb (wordsValue l / 2 ^ place) 0 ≡ eqb u 0
-    go zero e = eq-eqb (wordsValue l / 2 ^ place) 0 (e ∙ mul-zero (2 ^ (64 - place % 64)))
-    go (suc u) e =
-        let h : 0 < 2 ^ (64 - place % 64) * suc u = mul-pos (pow-pos (64 - place % 64)) (omega arith) in
-        ne-eqb (wordsValue l / 2 ^ place) 0 (λ n. omega arith) ∙ sym (ne-eqb (suc u) 0 (λ n. omega arith))
-
-pub nonzero-from : (l : List ℕ) (place : ℕ) → Below (2 ^ 64) l → (getD l (place / 64) 0 / 2 ^ (place % 64) ≡ 0 → ⊥) → eqb (wordsValue l / 2 ^ place) 0 ≡ false
-nonzero-from l place b n = ne-eqb (wordsValue l / 2 ^ place) 0 (λ z. n (omega (arith, from-place l place b)))
 
 -- above the last word there is nothing
 pub above-all : (l : List ℕ) (place : ℕ) → Below (2 ^ 64) l → length l ≤ place / 64 → wordsValue l / 2 ^ place ≡ 0

@@ -1,4 +1,5 @@
 pub mod Positional
 pub mod Bits
+pub mod Seen
 pub mod Signed
 pub mod Tabulate

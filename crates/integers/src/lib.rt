@@ -9,6 +9,7 @@ ghost use lib.ListN.{length, take, drop, getD};
 ghost use mir.Val.{boolByte};
 ghost use Rattle.rules.specs.Limits.{numberBytes, numberWords};
 ghost use Rattle.integers.specs.Bits.{bit, bitLength};
+ghost use Rattle.integers.specs.Seen.{IsSeen};
 ghost use Rattle.integers.specs.Positional.{bytesValue, wordsValue, lowBytes, Significant};
 
 // The byte at a place: 0 above the number.
@@ -121,18 +122,6 @@ pub fn words_of(number: &[u8]) -> [u64; NUMBER_WORDS]
     words
 }
 
-// The binary digit at a place of the number that the words hold.
-pub fn word_bit(words: [u64; NUMBER_WORDS], place: usize) -> u64
-    ensures { λ r. ⌜ r ≡ bit (wordsValue words) place ⌝ }
-{
-    let k = place / 64;
-    if k < NUMBER_WORDS {
-        (words[k] >> (place % 64)) % 2
-    } else {
-        0
-    }
-}
-
 // Whether the words from k on hold nothing.
 fn is_zero_above(words: [u64; NUMBER_WORDS], from: usize) -> bool
     requires { ⌜ from ≤ numberWords ⌝ }
@@ -148,18 +137,61 @@ fn is_zero_above(words: [u64; NUMBER_WORDS], from: usize) -> bool
     true
 }
 
-// Whether nothing stands at a place or above it.
-pub fn is_zero_from(words: [u64; NUMBER_WORDS], place: usize) -> bool
-    ensures { λ r. ⌜ r ≡ eqb (wordsValue words / 2 ^ place) 0 ⌝ }
+// What stands at a place of the number that the words hold: the binary digit there, the one above,
+// and whether nothing stands at the place or above it.
+pub struct Seen {
+    pub low: u64,
+    pub above: u64,
+    pub none: bool,
+}
+
+pub fn seen_from(words: [u64; NUMBER_WORDS], place: usize) -> Seen
+    ensures { λ r. ⌜ IsSeen (wordsValue words / 2 ^ place) r ⌝ }
 {
     let k = place / 64;
     if NUMBER_WORDS <= k {
-        return true;
+        return Seen {
+            low: 0,
+            above: 0,
+            none: true,
+        };
     }
-    if words[k] >> (place % 64) != 0 {
-        return false;
+    let here = words[k] >> (place % 64);
+    if place % 64 == 63 {
+        return seen_at_the_top(words, k, here);
     }
-    is_zero_above(words, k + 1)
+    if here == 0 {
+        return Seen {
+            low: 0,
+            above: 0,
+            none: is_zero_above(words, k + 1),
+        };
+    }
+    Seen {
+        low: here % 2,
+        above: here / 2 % 2,
+        none: false,
+    }
+}
+
+// The same at the top of word k, where `here` is its highest digit.
+fn seen_at_the_top(words: [u64; NUMBER_WORDS], k: usize, here: u64) -> Seen
+    requires { ⌜ k < numberWords ⌝ }
+    requires { ⌜ here < 2 ⌝ }
+    ensures { λ r. ⌜ IsSeen (here + 2 * wordsValue (drop (k + 1) words)) r ⌝ }
+{
+    if NUMBER_WORDS <= k + 1 {
+        return Seen {
+            low: here,
+            above: 0,
+            none: here == 0,
+        };
+    }
+    Seen {
+        low: here,
+        above: words[k + 1] % 2,
+        none: (here == 0) & is_zero_above(words, k + 1),
+    }
 }
 
 // Writes the eight bytes of a word at `at`.

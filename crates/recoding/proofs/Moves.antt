@@ -1,13 +1,13 @@
 -- One move of a recoder: the lowest digit of v + c, and what is left, by the two low binary digits of v. Assumes nothing.
 use mathlib.Core.Path.{_≡_, refl, sym, ap, _∙_}
 use mathlib.Core.Logic.{_≢_, inl, inr}
-use mathlib.Core.Bool.{Bool, true, false}
+use mathlib.Core.Bool.{Bool, true, false, not, _&&_}
 use mathlib.Core.List.{List}
 use Prim.Native.Nat.{ℕ, zero, suc, _+_, _*_, _/_, _%_, _^_, _<_, _≤_}
-use borrow.Author.Tests.{lt-ltb, le-ltb}
+use borrow.Author.Tests.{lt-ltb, le-ltb, ne-eqb}
 use native.Mathlib.Nat.{add-mul-mod-self-left}
 use native.Mathlib.Omega.{arith}
-use lib.Dec.{leb}
+use lib.Dec.{leb, eqb}
 use lib.ListN.{length, take}
 use lib.Seq.{take-all}
 use mir.Val.{boolByte}
@@ -15,7 +15,8 @@ use lib.Pow.{shr-shr}
 use Rattle.rules.specs.Limits.{numberBytes, numberWords}
 use Rattle.rules.specs.declared.Refusal.the-variants.{NumberTooLong}
 use Rattle.integers.specs.Positional.{bytesValue, wordsValue}
-use Rattle.integers.specs.Bits.{bit}
+use Rattle.integers.specs.Seen.{IsSeen}
+use Rattle.integers.specs.declared.Seen.{Seen}
 use Rattle.integers.proofs.Positional.{Below}
 use Rattle.integers.proofs.Bits.{above-all}
 use Rattle.signed_digits.specs.Naf.{residue, lowDigit, rest}
@@ -68,16 +69,13 @@ pub one-small : (b : Bool) → boolByte b ≤ 1
 one-small true = omega arith
 one-small false = omega arith
 
--- at the place above: the next binary digit, and what stands there
-pub next-place : (words : List ℕ) (place next : ℕ) → Below (2 ^ 64) words → length words ≡ numberWords → IsNext place next
-    → (bit (wordsValue words) next ≡ wordsValue words / 2 ^ place / 2 % 2) × (wordsValue words / 2 ^ next ≡ wordsValue words / 2 ^ place / 2)
-unfolding bit
-next-place words place next b long (inl e) =
-    let h : wordsValue words / 2 ^ next ≡ wordsValue words / 2 ^ place / 2 = rw e (sym (shr-shr (wordsValue words) place 1)) in
-    (rw h, h)
-next-place words place next b long (inr e) =
+-- at the place above stands half of it
+pub next-half : (words : List ℕ) (place next : ℕ) → Below (2 ^ 64) words → length words ≡ numberWords → IsNext place next
+    → wordsValue words / 2 ^ next ≡ wordsValue words / 2 ^ place / 2
+next-half words place next b long (inl e) = rw e (sym (shr-shr (wordsValue words) place 1))
+next-half words place next b long (inr e) =
     let z : wordsValue words / 2 ^ place ≡ 0 = above-all words place b (omega arith) in
-    (rw (e .1, z), rw (e .1, z))
+    rw (e .1, z)
 
 -- ---- the definitions of a take, where something is left
 pub answer-some : (n : ℕ) → n ≢ 0 → takeAnswer n ≡ Digit (digitByte (lowDigit 2 n))
@@ -88,23 +86,42 @@ pub leaves-some : (n : ℕ) → n ≢ 0 → takeLeaves n ≡ rest 2 n
 leaves-some zero h = absurd (h refl)
 leaves-some (suc n) h = refl
 
--- ---- the two returns of a take
-pub done-is : (r : Recoder) → standsFor r ≡ 0 → IsTake r (record { next = r; answer = Done })
-done-is r z = record { answer = rw z; next = rw z; done = λ h. refl }
+-- ---- whether a recoder is done
 
-pub move-is : (r : Recoder) (low above next digit : ℕ) → Below (2 ^ 64) (r .words) → length (r .words) ≡ numberWords → IsNext (r .place) next
-    → standsFor r ≢ 0 → low ≡ bit (wordsValue (r .words)) (r .place) → above ≡ bit (wordsValue (r .words)) next
-    → digit ≡ digitByte (lowDigit 2 (low + above + boolByte (r .carry) + above))
-    → IsTake r (record { next = record { words = r .words; place = next; carry = leb 2 (low + above + boolByte (r .carry)) }; answer = Digit digit })
-unfolding standsFor bit
-move-is r low above next digit b long n some lows aboves byte =
+ended : (v : ℕ) (b : Bool) → (eqb v 0 && not b) ≡ true → v + carried b ≡ 0
+ended zero false h = refl
+ended zero true h = let z : _≡_ {A = ℕ} 0 1 = cc in absurd (omega arith)
+ended (suc v) b h = let z : _≡_ {A = ℕ} 0 1 = cc (rw (ne-eqb (suc v) 0 (λ y. omega arith)) at h) in absurd (omega arith)
+
+going : (v : ℕ) (b : Bool) → (eqb v 0 && not b) ≡ false → v + carried b ≢ 0
+going zero false h z = let y : _≡_ {A = ℕ} 0 1 = cc in omega arith
+going zero true h z = omega arith
+going (suc v) b h z = omega arith
+
+-- ---- the two returns of a take
+pub done-is : (r : Recoder) (s : Seen) → (s .none && not (r .carry)) ≡ true → IsSeen (wordsValue (r .words) / 2 ^ r .place) s → IsTake r (record { next = r; answer = Done })
+unfolding standsFor
+done-is r s h seen =
+    let v : ℕ = wordsValue (r .words) / 2 ^ r .place in
+    let z : v + carried (r .carry) ≡ 0 = ended v (r .carry) (sym (ap (λ (t : Bool). t && not (r .carry)) (seen .none)) ∙ h) in
+    record { answer = rw z; next = rw z; done = λ h. refl }
+
+pub move-is : (r : Recoder) (s : Seen) (next digit : ℕ) → Below (2 ^ 64) (r .words) → length (r .words) ≡ numberWords → IsNext (r .place) next
+    → (s .none && not (r .carry)) ≡ false → IsSeen (wordsValue (r .words) / 2 ^ r .place) s
+    → digit ≡ digitByte (lowDigit 2 (s .low + s .above + boolByte (r .carry) + s .above))
+    → IsTake r (record { next = record { words = r .words; place = next; carry = leb 2 (s .low + s .above + boolByte (r .carry)) }; answer = Digit digit })
+unfolding standsFor
+move-is r s next digit b long n left seen byte =
+    let low : ℕ = s .low in
+    let above : ℕ = s .above in
     let v : ℕ = wordsValue (r .words) / 2 ^ r .place in
     let c : ℕ = carried (r .carry) in
     let e : boolByte (r .carry) ≡ c = carried-byte (r .carry) in
     let small : c ≤ 1 = omega (arith, one-small (r .carry)) in
-    let (second, half) = next-place (r .words) (r .place) next b long n in
-    let l : low ≡ v % 2 = lows in
-    let a : above ≡ v / 2 % 2 = aboves ∙ second in
+    let some : v + c ≢ 0 = going v (r .carry) (sym (ap (λ (t : Bool). t && not (r .carry)) (seen .none)) ∙ left) in
+    let half = next-half (r .words) (r .place) next b long n in
+    let l : low ≡ v % 2 = seen .low in
+    let a : above ≡ v / 2 % 2 = seen .above in
     let d : lowDigit 2 (low + above + c + above) ≡ lowDigit 2 (v + c) = same-digit (low + above + c + above) (v + c) (residue v c low above l a) in
     let m : rest 2 (v + c) ≡ v / 2 + (low + above + c) / 2 = moved v c small ∙ ap (λ (k : ℕ). v / 2 + k / 2) (sum v c low above l a) in
     record {
@@ -138,12 +155,3 @@ ready-is number words h e =
     let t = le-ltb numberBytes (length number) h in
     let o : wordsValue words / 2 ^ 0 ≡ wordsValue words = omega arith in
     record { answer = rw t; recoder = rw (t, o) (omega (arith, e, ap bytesValue (take-all numberBytes number h))) }
-
--- ---- whether a recoder is done
-pub carry-stands : (r : Recoder) → r .carry ≡ true → standsFor r ≢ 0
-unfolding standsFor
-carry-stands r t z = omega (arith, z, ap carried t)
-
-pub words-stand : (r : Recoder) → r .carry ≡ false → wordsValue (r .words) / 2 ^ r .place ≡ standsFor r
-unfolding standsFor
-words-stand r f = omega (arith, ap carried f)

@@ -1,12 +1,10 @@
 // Canonical digits one at a time, lowest first.
-use integers::is_zero_from;
-use integers::word_bit;
+use integers::seen_from;
 use integers::words_of;
 use rules::NUMBER_BYTES;
 use rules::NUMBER_WORDS;
 use rules::Refusal;
 ghost use mathlib.Core.Path.{_≡_};
-ghost use lib.Dec.{eqb};
 ghost use Rattle.signed_digits.specs.Naf.{lowDigit};
 ghost use Rattle.signed_digits.specs.Bytes.{digitByte};
 ghost use Rattle.recoding.specs.Take.{standsFor, IsStart, IsTake, IsNext};
@@ -66,41 +64,26 @@ impl Recoder {
         }
     }
 
-    // Whether no digit is left.
-    fn is_done(self) -> bool
-        ensures { λ r. ⌜ r ≡ eqb (standsFor self) 0 ⌝ }
-    {
-        let words = self.words;
-        let place = self.place;
-        let carry = self.carry;
-        if carry {
-            return false;
-        }
-        is_zero_from(words, place)
-    }
-
     // The lowest digit, and the recoder moved on by one place; done where no digit is left.
     pub fn take(self) -> Taken
         ensures { λ r. ⌜ IsTake self r ⌝ }
     {
-        if self.is_done() {
+        let words = self.words;
+        let place = self.place;
+        let carry = self.carry;
+        let seen = seen_from(words, place);
+        if seen.none & !carry {
             return Taken {
                 next: self,
                 answer: Take::Done,
             };
         }
-        let words = self.words;
-        let place = self.place;
-        let carry = self.carry;
-        let low = word_bit(words, place);
-        let next = next_place(place);
-        let above = word_bit(words, next);
-        let ones = low + above + carry as u64;
-        let residue = ones + above;
+        let ones = seen.low + seen.above + carry as u64;
+        let residue = ones + seen.above;
         Taken {
             next: Recoder {
                 words: words,
-                place: next,
+                place: next_place(place),
                 carry: 2 <= ones,
             },
             answer: Take::Digit(digit_byte(residue)),

@@ -5,4 +5,5 @@ pub mod Look
 pub mod Tabulate
 pub mod Blocks
 pub mod Words
+pub mod Shortest
 pub mod Carry

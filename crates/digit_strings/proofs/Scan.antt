@@ -1,12 +1,12 @@
 -- The scan for a byte that is no digit, one place more, and what its end says. Assumes nothing.
-use mathlib.Core.Path.{_≡_, refl, sym, ap, _∙_}
+use mathlib.Core.Path.{_≡_, refl}
 use mathlib.Core.Bool.{Bool, true, false, cond}
 use mathlib.Core.List.{List, [], _∷_}
 use Prim.Native.Nat.{ℕ, zero, suc, _+_, _<_, _≤_}
+use native.Mathlib.Decide.{decLt}
 use native.Mathlib.Numerals.{add-one}
 use native.Mathlib.Omega.{arith}
-use borrow.Author.Tests.{lt-ltb, le-ltb, ltb-true, ltb-false}
-use lib.Dec.{ltb}
+use borrow.Author.Tests.{lt-ltb, le-ltb}
 use lib.ListN.{length, getD, drop}
 use lib.Seq.{drop-cons, drop-length}
 use Rattle.rules.specs.Limits.{stringDigits}
@@ -47,20 +47,36 @@ at-bad (b ∷ s) h = go (isDigit b) refl h (λ k. at-bad s k)
     go true e h rest = rest (omega arith)
     go false e h rest = e
 
+not-both : {b : Bool} → b ≡ true → b ≡ false → ⊥
+not-both e f = let z : _≡_ {A = ℕ} 0 1 = cc in omega arith
+
+-- no other place is so
+pub record LowestBad (s : List ℕ) (p : ℕ) : Type 0 where
+  pub within : p < length s
+  pub bad : isDigit (getD s p 0) ≡ false
+  pub lowest : (i : ℕ) → i < p → isDigit (getD s i 0) ≡ true
+
+pub bad-is : (s : List ℕ) → firstBad s < length s → LowestBad s (firstBad s)
+bad-is s h = record { within = h; bad = at-bad s h; lowest = below-bad s }
+
+pub bad-only : (s : List ℕ) (p : ℕ) → LowestBad s p → firstBad s ≡ p
+bad-only s p l = go (decLt (firstBad s) p) (decLt p (firstBad s))
+  where
+    go : Dec (firstBad s < p) → Dec (p < firstBad s) → firstBad s ≡ p
+    go (yes h) _ = absurd (not-both (l .lowest (firstBad s) h) (at-bad s (omega (arith, l .within))))
+    go (no h) (yes k) = absurd (not-both (below-bad s p k) (l .bad))
+    go (no h) (no k) = omega arith
+
 -- where the scan finds nothing, the string is one of digits
 pub all-digits : (s : List ℕ) → length s ≤ stringDigits → length s ≤ firstBad s → DigitString s
 all-digits s h l = record { within = h; digits = λ i p. below-bad s i (omega arith) }
 
 pub none-bad : (s : List ℕ) → DigitString s → length s ≤ firstBad s
-none-bad s d = go (ltb (firstBad s) (length s)) refl
+none-bad s d = go (decLt (firstBad s) (length s))
   where
-    go : (t : Bool) → ltb (firstBad s) (length s) ≡ t → length s ≤ firstBad s
-    go true e =
-        let h = ltb-true _ _ e in
-        let z : false ≡ true = sym (at-bad s h) ∙ d .digits (firstBad s) h in
-        let y : _≡_ {A = ℕ} 0 1 = cc in
-        absurd (omega arith)
-    go false e = ltb-false _ _ e
+    go : Dec (firstBad s < length s) → length s ≤ firstBad s
+    go (yes h) = absurd (not-both (d .digits (firstBad s) h) (at-bad s h))
+    go (no h) = omega arith
 
 -- ---- `checked`, by cases
 module _ {A : Type 0} (refuse : Refusal → A) (s : List ℕ) (answer : A) where
@@ -72,3 +88,17 @@ module _ {A : Type 0} (refuse : Refusal → A) (s : List ℕ) (answer : A) where
 
   pub checked-good : DigitString s → checked refuse s answer ≡ answer
   checked-good d = rw (le-ltb stringDigits (length s) (d .within), le-ltb (firstBad s) (length s) (none-bad s d))
+
+  -- the three outcomes, each with what led there
+  pub data Checking : Type 0 where
+    long : stringDigits < length s → checked refuse s answer ≡ refuse StringTooLong → Checking
+    bad : length s ≤ stringDigits → LowestBad s (firstBad s) → checked refuse s answer ≡ refuse (NotADigit (firstBad s)) → Checking
+    good : DigitString s → checked refuse s answer ≡ answer → Checking
+
+  pub checking : Checking
+  checking = go (decLt stringDigits (length s)) (decLt (firstBad s) (length s))
+    where
+      go : Dec (stringDigits < length s) → Dec (firstBad s < length s) → Checking
+      go (yes h) _ = long h (checked-long h)
+      go (no h) (yes l) = bad (omega arith) (bad-is s l) (checked-bad (omega arith) l)
+      go (no h) (no l) = let d = all-digits s (omega arith) (omega arith) in good d (checked-good d)

@@ -32,15 +32,15 @@ odd-multiple (suc g) n (k, e) h = absurd (omega (arith, rw pow-suc at e))
 
 -- ---- one digit
 -- a digit d before what is left, m: 0, or odd and followed by w - 1 zeros
-data Shape (w : ℕ) (d : ℤ) (m : ℕ) : Type 0 where
+pub data Shape (w : ℕ) (d : ℤ) (m : ℕ) : Type 0 where
   even : d ≡ pos 0 → Shape w d m
   odd : OddDigit w d → Multiple (w - 1) m → Shape w d m
 
 -- d is the lowest digit of n, and m is what is left
-record Step (w n : ℕ) (d : ℤ) (m : ℕ) : Type 0 where
-  sum : positivePart d + 2 * m ≡ n + negativePart d
-  less : 0 < n → m < n
-  shape : Shape w d m
+pub record Step (w n : ℕ) (d : ℤ) (m : ℕ) : Type 0 where
+  pub sum : positivePart d + 2 * m ≡ n + negativePart d
+  pub less : 0 < n → m < n
+  pub shape : Shape w d m
 
 abbrev left : ℕ → ℤ → ℕ
 left n d = natAbs (pos n -ℤ d) / 2
@@ -72,7 +72,7 @@ module _ (w : ℕ) (wide : 2 ≤ w) where
       cond-cases (ltb r half) (pos r) (negℤ (pos (2 ^ w - r))) (λ d. Step w n d (left n d)) (λ t. positive-step n q r h e (ltb-true r half t))
       (λ t. negative-step n q r h e (ltb-false r half t) (mod-lt n (pow-pos w)))
 
-  step : (n : ℕ) → Step w n (lowDigit w n) (rest w n)
+  pub step : (n : ℕ) → Step w n (lowDigit w n) (rest w n)
   unfolding lowDigit rest
   step n =
       cond-cases (eqb (n % 2) 0) (pos 0) (residue w n) (λ d. Step w n d (left n d))
@@ -139,7 +139,11 @@ naf-value w (negsuc n) h =
     let ds : List ℤ = digitsOf w (suc n) (suc n) in
     omega (arith, from-parts, value-parts (map negℤ ds), opposite-sums ds, digits-value w h (suc n) (suc n) (omega arith))
 
-pub naf-form : (w : ℕ) (z : ℤ) → 2 ≤ w → NonAdjacent w (naf w z)
+-- the first g places of a multiple of 2 ^ g are 0
+pub naf-spaced : (w g : ℕ) (z : ℤ) → 2 ≤ w → Multiple g (natAbs z) → Spaced w g (naf w z)
 unfolding naf
-naf-form w (pos n) h = form-of-spaced w _ (digits-spaced w h n n 0 (omega arith) (n, omega arith))
-naf-form w (negsuc n) h = form-of-spaced w _ (opposite-spaced (digits-spaced w h (suc n) (suc n) 0 (omega arith) (suc n, omega arith)))
+naf-spaced w g (pos n) h m = digits-spaced w h n n g (omega arith) m
+naf-spaced w g (negsuc n) h m = opposite-spaced (digits-spaced w h (suc n) (suc n) g (omega arith) m)
+
+pub naf-form : (w : ℕ) (z : ℤ) → 2 ≤ w → NonAdjacent w (naf w z)
+naf-form w z h = form-of-spaced w (naf w z) (naf-spaced w 0 z h (natAbs z, omega arith))

@@ -4,6 +4,7 @@ pub mod Spaced
 pub mod Exists
 pub mod Unique
 pub mod Canonical
+pub mod Cons
 pub mod Fewest
 pub mod Places
 pub mod Steps

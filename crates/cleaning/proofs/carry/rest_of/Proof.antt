@@ -1,0 +1,15 @@
+-- `cleaning::carry::rest_of` meets its contract. Assumes nothing.
+use mathlib.Core.Path.{sym}
+use Rattle.cleaning.proofs.Places.{rest-is}
+use borrow.Author.Needs.{needs}
+use Rattle.cleaning.proofs.carry.rest_of.Statement.{statement}
+use Rattle.cleaning.proofs.carry.rest_of.Tie as tie
+
+add-result : tie.Need-add-result
+add-result c = search needs
+
+returns : tie.Need-returns
+returns c = (sym (rest-is (c .args .n)), search needs)
+
+pub rest-of-spec : {M : Type 1} → statement M
+rest-of-spec = tie.close (tie.spec add-result returns)

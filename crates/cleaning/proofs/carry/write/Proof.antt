@@ -1,0 +1,118 @@
+-- `cleaning::carry::write` meets its contract: after i turns the first i digits stand. Assumes nothing.
+use mathlib.Core.Path.{_≡_}
+use mathlib.Core.List.{_++_}
+use Prim.Native.Nat.{ℕ, _≤_, _-_, _+_, _*_, _%_}
+use native.Mathlib.Numerals.{add-one}
+use native.Mathlib.Omega.{arith}
+use lib.ListN.{length, drop, set}
+use Rattle.integers.specs.Tabulate.{tabulate}
+use Rattle.integers.proofs.Tabulate.{tabulate-more}
+use Rattle.signed_digits.specs.Naf.{rest}
+use Rattle.cleaning.specs.Internal.{heldAt, sumAt, pairAt, placeByte}
+use Rattle.cleaning.proofs.Places.{place-byte}
+use borrow.Author.Needs.{needs}
+use Rattle.cleaning.proofs.carry.write.Statement.{statement}
+use Rattle.cleaning.proofs.carry.write.Tie as tie
+
+abbrev Inv-loop : tie.InvT-loop
+Inv-loop digits out₀ count sum₀ i₀ out sum i =
+    (i ≤ count) × (length out ≡ length out₀) × (sum ≤ 4) × (sum ≡ sumAt digits i) × (out ≡ tabulate (placeByte digits) i ++ drop i out₀)
+
+abbrev μ-loop : tie.MeasureT-loop
+μ-loop digits out₀ count sum₀ i₀ out sum i = count - i
+
+held-at-requires : tie.Need-held-at-requires Inv-loop μ-loop
+held-at-requires c κs = search needs
+
+add-sum : tie.Need-add-sum Inv-loop μ-loop
+add-sum c = search needs
+
+loop-holds : tie.Need-loop-holds Inv-loop μ-loop
+unfolding tabulate sumAt
+loop-holds c = search needs
+
+add-held-at : tie.Need-add-held-at Inv-loop μ-loop
+add-held-at c = search needs
+
+held-at-requires-2 : tie.Need-held-at-requires-2 Inv-loop μ-loop
+held-at-requires-2 c κs = search needs
+
+mul-pair : tie.Need-mul-pair Inv-loop μ-loop
+mul-pair c = search needs
+
+add-pair : tie.Need-add-pair Inv-loop μ-loop
+add-pair c = search needs
+
+rest-of-requires : tie.Need-rest-of-requires Inv-loop μ-loop
+rest-of-requires c κs = search needs
+
+add-out : tie.Need-add-out Inv-loop μ-loop
+add-out c = search needs
+
+mul-out : tie.Need-mul-out Inv-loop μ-loop
+mul-out c = search needs
+
+sub-out : tie.Need-sub-out Inv-loop μ-loop
+sub-out c = search needs
+
+cast-out : tie.Need-cast-out Inv-loop μ-loop
+cast-out c = search needs
+
+slice-write-out : tie.Need-slice-write-out Inv-loop μ-loop
+slice-write-out c = search needs
+
+add-i : tie.Need-add-i Inv-loop μ-loop
+add-i c = search needs
+
+loop-less : tie.Need-loop-less Inv-loop μ-loop
+loop-less c = search needs
+
+loop-again : tie.Need-loop-again Inv-loop μ-loop
+unfolding sumAt
+loop-again c =
+    let loop = c .before .before .before .loop in
+    let start = c .before .before .before .before .before .before .before in
+    let s = start .args .digits .now in
+    let above = c .before .held-at2 in
+    let pair : ℕ = loop .sum + 2 * above .result in
+    let a : above .result ≡ heldAt s (loop .i + 1) = above .ensures .0 in
+    let p : pair ≡ pairAt s (loop .i) = rw (loop .inv .3, a, add-one (loop .i)) in
+    let r : c .rest-of .result ≡ rest 2 pair = c .rest-of .ensures .0 in
+    let n : c .rest-of .result ≡ sumAt s (loop .i + 1) = rw (r, p, add-one (loop .i)) in
+    let b : (256 + pair - 2 * c .rest-of .result) % 256 ≡ placeByte s (loop .i) = rw (p, n, add-one (loop .i)) (place-byte s (start .pre .0) (loop .i)) in
+    let e : set (loop .out) (loop .i) ((256 + pair - 2 * c .rest-of .result) % 256) ≡ tabulate (placeByte s) (loop .i + 1) ++ drop (loop .i + 1) (start .args .out .now) =
+    rw (b, loop .inv .4) (tabulate-more (placeByte s) (start .args .out .now) (loop .i) (search needs)) in
+    (search needs, search needs, search needs, n, e)
+
+same-length : tie.Need-same-length Inv-loop μ-loop
+same-length c = search needs
+
+returns : tie.Need-returns Inv-loop μ-loop
+returns c =
+    let e : c .before .loop .i ≡ c .before .before .before .before .before .args .count = omega arith in
+    rw e at (c .before .loop .inv .4)
+
+pub write-spec : {M : Type 1} → statement M
+write-spec =
+    tie.close
+    (tie.spec
+    Inv-loop
+    μ-loop
+    held-at-requires
+    add-sum
+    loop-holds
+    add-held-at
+    held-at-requires-2
+    mul-pair
+    add-pair
+    rest-of-requires
+    add-out
+    mul-out
+    sub-out
+    cast-out
+    slice-write-out
+    add-i
+    loop-less
+    loop-again
+    same-length
+    returns)

@@ -1,13 +1,13 @@
 -- Laws of positional numbers, over the base. Assumes nothing.
 use mathlib.Core.Path.{_≡_, refl, sym, ap, _∙_}
 use mathlib.Core.List.{List, [], _∷_, _++_}
-use Prim.Native.Nat.{ℕ, zero, suc, _+_, _*_, _/_, _%_, _^_, _<_, _≤_, zero-le}
+use Prim.Native.Nat.{ℕ, zero, suc, _+_, _-_, _*_, _/_, _%_, _^_, _<_, _≤_, zero-le}
 use native.Mathlib.Nat.{pow-zero, pow-suc, pow-succ', mul-add, mul-assoc, mul-comm, mul-zero, mul-pos, zero-add, add-zero, lt-of-le-of-lt, add-mul-div-left, div-eq-of-lt, add-mul-mod-self-left, mod-eq-of-lt}
 use native.Mathlib.Omega.{arith}
 use lib.Arith.{digits-lt}
 use lib.ListN.{length, getD, take, drop, length-take, replicate, length-replicate, getD-replicate}
 use lib.Seq.{take-append-seam, drop-append-seam, take-nil}
-use Rattle.integers.specs.Positional.{positional}
+use Rattle.integers.specs.Positional.{positional, bytesValue, Significant}
 
 -- every element is below the base
 abbrev pub Below : ℕ → List ℕ → Type 0
@@ -102,3 +102,10 @@ pub positional-zeros : (base n : ℕ) (l : List ℕ) → positional base (l ++ r
 positional-zeros base n l =
     let z : positional base (replicate n 0) ≡ 0 = positional-zero base (replicate n 0) (λ i h. getD-replicate n i 0 0 (omega (arith, length-replicate {A = ℕ} n 0))) in
     rw (positional-append base l (replicate n 0), z, mul-zero, add-zero)
+
+-- a number is zero exactly where it has no significant byte
+pub significant-none : (l : List ℕ) (n : ℕ) → Significant l n → n ≡ 0 → bytesValue l ≡ 0
+significant-none l n s z = rw z at (s .whole)
+
+pub significant-some : (l : List ℕ) (n : ℕ) → Significant l n → (n ≡ 0 → ⊥) → bytesValue l ≡ 0 → ⊥
+significant-some l n s some = positional-nonzero 256 l (n - 1) (omega arith) (s .top (omega arith))

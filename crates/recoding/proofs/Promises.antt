@@ -8,11 +8,13 @@ use borrow.Author.Tests.{lt-ltb, le-ltb, ltb-true, ltb-false}
 use native.Mathlib.Omega.{arith}
 use lib.Dec.{ltb}
 use lib.IntN.{ℤ, pos}
-use lib.ListN.{length, take, drop, replicate}
+use lib.ListN.{length, drop, replicate}
 use lib.Pow.{pow-add}
 use Rattle.rules.specs.Limits.{numberBytes}
 use Rattle.rules.specs.Outcome.{Outcome, refused, answered, writtenOutcome}
-use Rattle.rules.specs.Memory.{fitted}
+use Rattle.rules.specs.Memory.{fitted, leaves}
+use Rattle.rules.specs.declared.Written.{Written}
+use Rattle.rules.specs.declared.Written.the-variants.{Length, Refused}
 use Rattle.rules.proofs.Fitted.{too-small, fits, Fitting, small, fine, fitting}
 use Rattle.integers.specs.Positional.{positional, bytesValue}
 use Rattle.integers.proofs.Positional.{Below, positional-append, positional-lt, positional-zeros}
@@ -23,7 +25,7 @@ use Rattle.signed_digits.specs.Naf.{canonical, naf, digitsOf}
 use Rattle.signed_digits.specs.Bytes.{digitBytes}
 use Rattle.signed_digits.proofs.Canonical.{canonical-form, canonical-value, canonical-only}
 use Rattle.signed_digits.proofs.Length.{length-at-most}
-use Rattle.recoding.specs.Recode.{recoding, recodeAnswer}
+use Rattle.recoding.specs.Recode.{recoding, recodeAnswer, recodeBuffer}
 use Rattle.recoding.proofs.Count.{length-recoding}
 
 -- ---- each refusal is given exactly when the rules say, and no other
@@ -107,3 +109,20 @@ recoding-length number b =
     let p : 2 ^ (8 * length number + 2) ≡ 256 ^ length number * 4 = rw (power-of-bytes (length number)) (pow-add 2 (8 * length number) 2) in
     let q : 8 * length number + 1 + 1 ≡ 8 * length number + 2 = omega arith in
     rw (length-recoding number) (length-at-most e (8 * length number + 1) .1 (rw (q, p) (omega arith)))
+
+-- ---- memory
+
+-- a refusal changes nothing
+pub refused-leaves : (number out : List ℕ) (n p : ℕ) → outcome number (length out) ≡ refused n p → recodeBuffer number out ≡ out
+refused-leaves number out n p e = go (recodeAnswer number (length out)) e
+  where
+    go : (w : Written) → writtenOutcome w ≡ refused n p → leaves w (recoding number) out ≡ out
+    go (Length k) e = let z : _≡_ {A = ℕ} 0 1 = cc in absurd (omega arith)
+    go (Refused r) e = refl
+
+-- on success the string stands at the start of the buffer, and the bytes above stay
+pub answered-leaves : (number out : List ℕ) (vs : List ℕ) → outcome number (length out) ≡ answered vs
+    → recodeBuffer number out ≡ recoding number ++ drop (length (recoding number)) out
+answered-leaves number out vs e =
+    let a = answers number (length out) vs .0 e in
+    rw (le-ltb numberBytes (length number) (a .0), fits (recoding number) (length out) (a .1))

@@ -4,7 +4,8 @@ use mathlib.Core.Logic.{_↔_}
 use mathlib.Core.Bool.{false}
 use mathlib.Core.List.{List}
 use Prim.Native.Nat.{ℕ, zero, suc, _+_, _*_, _-_, _/_, _%_, _^_, _<_, _≤_}
-use native.Mathlib.Nat.{pow-zero, pow-suc, mul-zero, mul-suc, mul-comm, mul-assoc, mul-pos, zero-div, add-mul-div-left, div-lt-iff-lt-mul, div-le-self}
+use native.Mathlib.Nat.{pow-zero, pow-suc, mul-zero, mul-suc, mul-comm, mul-assoc, mul-pos, mod-mod, zero-div, add-mul-div-left, div-lt-iff-lt-mul, div-le-self}
+use native.Mathlib.Numerals.{add-one}
 use native.Mathlib.Omega.{arith}
 use borrow.Author.Tests.{eq-eqb, ne-eqb}
 use lib.Dec.{eqb}
@@ -13,7 +14,7 @@ use lib.ListN.{length, getD, drop, drop-of-length-le}
 use lib.Pow.{pow-pos, pow-add, shr-shr, split, field, mod-mod-pow}
 use Rattle.integers.specs.Bits.{bit, lengthUpTo, bitLength}
 use Rattle.integers.specs.Positional.{positional, bytesValue, wordsValue, Significant}
-use Rattle.integers.proofs.Positional.{Below, positional-drop, positional-div, positional-at}
+use Rattle.integers.proofs.Positional.{Below, positional-drop, positional-lt, positional-div, positional-at}
 
 length-up-to : (f n k : ℕ) → n ≤ f → (lengthUpTo f n ≤ k → n < 2 ^ k) × (n < 2 ^ k → lengthUpTo f n ≤ k)
 unfolding lengthUpTo
@@ -162,6 +163,21 @@ from-place l place b =
     let m : 2 ^ 64 * u ≡ 2 ^ r * (2 ^ (64 - r) * u) = ap (λ (n : ℕ). n * u) p ∙ mul-assoc (2 ^ r) (2 ^ (64 - r)) u in
     ap (λ (n : ℕ). wordsValue l / 2 ^ n) e ∙ sym (shr-shr (wordsValue l) (64 * k) r) ∙ ap (λ (n : ℕ). n / 2 ^ r) (d ∙ ap (λ (n : ℕ). w + n) m) ∙ add-mul-div-left w (2 ^ (64 - r) * u) (pow-pos r)
 
+-- at most eight binary digits stand in two bytes
+pub bits-of-bytes : (l : List ℕ) (place count : ℕ) → Below 256 l → count ≤ 8
+    → (getD l (place / 8) 0 + 256 * getD l (place / 8 + 1) 0) / 2 ^ (place % 8) % 2 ^ count ≡ bytesValue l / 2 ^ place % 2 ^ count
+bits-of-bytes l place count b few =
+    let v : ℕ = bytesValue l in
+    let q : ℕ = place / 8 in
+    let r : ℕ = place % 8 in
+    let e : place ≡ 8 * q + r = omega arith in
+    let s : v / 2 ^ place ≡ v / 256 ^ q / 2 ^ r = ap (λ (k : ℕ). v / 2 ^ k) e ∙ sym (shr-shr v (8 * q) r) ∙ rw (power-of-bytes q) in
+    let two : getD l q 0 + 256 * getD l (q + 1) 0 ≡ v / 256 ^ q % 2 ^ 16 =
+    rw add-one (omega (arith, positional-div 256 l q b, positional-drop 256 l q, positional-drop 256 l (suc q), b q, b (suc q))) in
+    let w : 16 ≡ (16 - r - count + count) + r = omega arith in
+    rw (s, two)
+    (ap (λ (n : ℕ). v / 256 ^ q % 2 ^ n / 2 ^ r % 2 ^ count) w ∙ ap (λ (n : ℕ). n % 2 ^ count) (field (v / 256 ^ q) (16 - r - count + count) r) ∙ mod-mod-pow (v / 256 ^ q / 2 ^ r) (16 - r - count) count)
+
 -- the ones of a byte below others
 pub ones-byte : (l : List ℕ) (i : ℕ) → Below 256 l → i < length l → ones (bytesValue (drop i l)) ≡ ones (bytesValue (drop (suc i) l)) + ones (getD l i 0)
 ones-byte l i b h =
@@ -173,6 +189,10 @@ ones-byte l i b h =
 pub zero-length : (l : List ℕ) → bytesValue l ≡ 0 → bitLength (bytesValue l) ≡ 0
 unfolding bitLength lengthUpTo
 zero-length l z = rw z
+
+-- so many bytes have no more binary digits
+pub bytes-length : (l : List ℕ) (k : ℕ) → Below 256 l → length l ≤ k → bitLength (bytesValue l) ≤ 8 * k
+bytes-length l k b h = bit-length-iff (bytesValue l) (8 * k) .1 (rw (← power-of-bytes k) (positional-lt 256 k l h b))
 
 -- the highest byte is all that is left above the others
 pub top-byte : (l : List ℕ) (n : ℕ) → Below 256 l → Significant l n → 0 < n → getD l (n - 1) 0 ≡ bytesValue l / 256 ^ (n - 1)
@@ -210,3 +230,7 @@ above-all l place b h =
     let d : wordsValue l / 2 ^ (64 * (place / 64)) ≡ 0 =
     ap (λ (p : ℕ). wordsValue l / p) (sym (power-of-power 64 (place / 64))) ∙ sym (positional-div (2 ^ 64) l (place / 64) b) ∙ ap wordsValue (drop-of-length-le l h) in
     ap (λ (n : ℕ). wordsValue l / 2 ^ n) (sym e) ∙ sym (shr-shr (wordsValue l) (64 * (place / 64)) (place % 64)) ∙ ap (λ (n : ℕ). n / 2 ^ (place % 64)) d ∙ zero-div (2 ^ (place % 64))
+
+-- a number has at most eight binary digits to a byte
+pub length-of-bytes : (l : List ℕ) → Below 256 l → bitLength (bytesValue l) ≤ 8 * length l
+length-of-bytes l b = bit-length-iff (bytesValue l) (8 * length l) .1 (rw (power-of-bytes (length l)) at (positional-lt 256 (length l) l (omega arith) b))

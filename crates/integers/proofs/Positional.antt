@@ -2,7 +2,7 @@
 use mathlib.Core.Path.{_≡_, refl, sym, ap, _∙_}
 use mathlib.Core.List.{List, [], _∷_, _++_}
 use Prim.Native.Nat.{ℕ, zero, suc, _+_, _-_, _*_, _/_, _%_, _^_, _<_, _≤_, zero-le}
-use native.Mathlib.Nat.{pow-zero, pow-suc, pow-succ', mul-add, mul-assoc, mul-comm, mul-zero, mul-pos, zero-add, add-zero, lt-of-le-of-lt, add-mul-div-left, div-eq-of-lt, add-mul-mod-self-left, mod-eq-of-lt}
+use native.Mathlib.Nat.{pow-zero, pow-suc, pow-succ', mul-add, mul-assoc, mul-comm, mul-zero, mul-pos, zero-add, add-zero, lt-of-le-of-lt, add-mul-div-left, div-eq-of-lt, div-one, add-mul-mod-self-left, mod-eq-of-lt}
 use native.Mathlib.Omega.{arith}
 use lib.Arith.{digits-lt}
 use lib.ListN.{length, getD, take, drop, length-take, replicate, length-replicate, getD-replicate}
@@ -80,6 +80,10 @@ positional-div base l k b =
 pub positional-at : (base : ℕ) (l : List ℕ) (k : ℕ) → Below base l → getD l k 0 ≡ positional base l / base ^ k % base
 positional-at base l k b =
     sym (rw (← positional-div base l k b, positional-drop base l k, add-mul-mod-self-left, mod-eq-of-lt (b k)))
+
+-- a number below the base is its lowest element
+pub positional-low : (base : ℕ) (l : List ℕ) → Below base l → positional base l < base → getD l 0 0 ≡ positional base l
+positional-low base l b h = positional-at base l 0 b ∙ rw (pow-zero, div-one, mod-eq-of-lt h)
 
 -- zero is all zeros
 pub positional-zero : (base : ℕ) (l : List ℕ) → ((i : ℕ) → i < length l → getD l i 0 ≡ 0) → positional base l ≡ 0

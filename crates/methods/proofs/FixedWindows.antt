@@ -2,7 +2,7 @@
 use mathlib.Core.Path.{_≡_, refl, sym, ap, subst, _∙_}
 use mathlib.Core.Bool.{cond}
 use Prim.Native.Nat.{ℕ, zero, suc, _+_, _*_, _-_, _/_, _^_, _<_, _≤_}
-use borrow.Author.Tests.{ltb-true, ltb-false}
+use borrow.Author.Tests.{ltb-true, ltb-false, lt-ltb, le-ltb}
 use native.Mathlib.Decide.{decLt}
 use native.Mathlib.Nat.{lt-of-not-le, not-le-of-lt, add-zero, add-mul, mul-zero, mul-suc, mul-le-mul-left, mod-lt, mul-div-le, lt-mul-div-succ, le-div-iff-mul-le, div-le-self}
 use native.Mathlib.Numerals.{add-one}
@@ -19,12 +19,12 @@ use Rattle.methods.specs.FixedWindows.{ladder, window, topWindow, atWind
 use Rattle.methods.specs.Forecast.{tableCounts, nonzeroWindows}
 use Rattle.integers.proofs.Bits.{bit-length-iff, above-top, quotient-le, quotient-none}
 use Rattle.methods.proofs.Counted.{countsIn, counts-double, counts-add, counts-doubled, counts-cond, not-before-doubled, total, length-counted}
-use Rattle.methods.proofs.Laws.{value-kept, Small, small-below, Holds, Stands, Made, none-holds, one-stands, stands-followed, stands-doubled, latest-followed, latest-doubled, add-holds, doubled-holds, down-from, made}
+use Rattle.methods.proofs.Laws.{value-kept, Small, small-below, Holds, Stands, Made, none-holds, one-stands, stands-followed, stands-doubled, latest-followed, length-followed, length-doubled, latest-doubled, add-holds, doubled-holds, down-from, made}
 
 -- ---- the ladder
 
 -- n steps of it, and the latest at position p
-abbrev laddered : ℕ → ℕ → Building
+abbrev pub laddered : ℕ → ℕ → Building
 laddered n p = record { steps = ladder n; latest = p }
 
 pub length-ladder : (n : ℕ) → length (ladder n) ≡ n
@@ -95,10 +95,40 @@ module _ (e d : ℕ) (some : 0 < e) (wide : 1 ≤ d) where
       let t : ℕ = topWindow e d in
       shr-mod d (d * t) (bit-length-iff e (d + d * t) .0 (omega (arith, lt-mul-div-succ (bitLength e - 1) wide, mul-suc d t)))
 
+  -- and it is not zero
+  pub top-window-some : 0 < window e d (topWindow e d)
+  top-window-some = rw top-window (above-top-window (topWindow e d) (omega arith))
+
   lower-window : 2 ^ d ≤ e → 0 < topWindow e d
   lower-window h =
       let more : d < bitLength e = lt-of-not-le (λ l. not-le-of-lt (bit-length-iff e d .0 l) h) in
       le-div-iff-mul-le wide .1 (omega arith)
+
+module _ (e d : ℕ) (wide : 1 ≤ d) where
+  -- a number below 2 ^ d has one window
+  pub one-window : topWindow e d ≡ 0 → e < 2 ^ d
+  one-window z =
+      let few : bitLength e - 1 < d * (topWindow e d + 1) = lt-mul-div-succ (bitLength e - 1) wide in
+      bit-length-iff e d .0 (omega (arith, rw z at few))
+
+  pub fixed-one : topWindow e d ≡ 0 → fixedWindowSteps e d ≡ ladder (e - 1)
+  unfolding fixedWindowSteps
+  fixed-one z = rw (lt-ltb e (2 ^ d) (one-window z))
+
+  -- any other has more
+  pub more-windows : 0 < topWindow e d → 2 ^ d ≤ e
+  more-windows some =
+      let low : e < 2 ^ d → ⊥ = λ l. omega (arith, bit-length-iff e d .1 l, mul-le-mul-left d some, windows-below-top e d) in
+      omega arith
+
+  pub fixed-more : 0 < topWindow e d → fixedWindowSteps e d ≡ windowSteps e d
+  unfolding fixedWindowSteps
+  fixed-more some = rw (le-ltb e (2 ^ d) (more-windows some))
+
+-- how many steps a window takes
+pub length-at-window : (d v : ℕ) (b : Building) → length (atWindow d v b .steps) ≡ length (b .steps) + d + cond (eqb v 0) 0 1
+length-at-window d zero b = omega (arith, length-doubled d b)
+length-at-window d (suc p) b = rw (eqb·suc-zero p) (omega (arith, length-doubled d b, length-followed (doubled d b) (add (doubled d b .latest) p)))
 
 -- ---- the values
 

@@ -182,6 +182,18 @@ unfolding doubled
 length-doubled zero b = omega arith
 length-doubled (suc n) b = omega (arith, length-doubled n (double b), length-followed b (add (b .latest) (b .latest)))
 
+-- the last of n + 1 doublings
+pub doubled-last : (n : ℕ) (b : Building) → doubled (suc n) b ≡ double (doubled n b)
+unfolding doubled
+doubled-last zero b = refl
+doubled-last (suc n) b = doubled-last n (double b)
+
+-- one doubling more
+pub doubled-more : (n : ℕ) (b : Building) → double (doubled n b) ≡ doubled (n + 1) b
+unfolding doubled
+doubled-more zero b = refl
+doubled-more (suc n) b = let e : suc n + 1 ≡ suc (n + 1) = omega arith in rw e (doubled-more n (double b))
+
 -- after a doubling the latest is the last position
 pub latest-doubled : (n : ℕ) (b : Building) → 1 ≤ n → doubled n b .latest ≡ length (doubled n b .steps)
 unfolding doubled

@@ -6,10 +6,11 @@ use native.Mathlib.Nat.{zero-add, sub-self, sub-zero, pow-suc}
 use native.Mathlib.Numerals.{add-one}
 use native.Mathlib.Omega.{arith}
 use lib.IntN.{ℤ, pos, negsuc}
-use lib.ListN.{length}
+use lib.ListN.{length, drop}
+use lib.Seq.{drop-cons}
 use Rattle.signed_digits.specs.Strings.{digitAt}
 use Rattle.signed_digits.specs.Naf.{residue, lowDigit, rest, digitsOf, naf, canonical}
-use Rattle.signed_digits.proofs.Steps.{naf-zero, naf-step, rests, length-rests, Low, even, plus, minus, low, rest-zero, rest-less}
+use Rattle.signed_digits.proofs.Steps.{naf-zero, naf-step, low-digit-2, rests, length-rests, Low, even, plus, minus, low, rest-zero, rest-less}
 use Rattle.signed_digits.proofs.Triple.{digit-left}
 use Rattle.signed_digits.proofs.Length.{length-at-most}
 use Rattle.chains.specs.Steps.{add, subtract}
@@ -17,10 +18,25 @@ use Rattle.chains.specs.Counts.{counts, countsOf}
 use Rattle.methods.specs.Building.{Building, none, double, downFrom}
 use Rattle.integers.specs.Bits.{bitLength}
 use Rattle.methods.specs.NonAdjacentForm.{atDigit, digitSteps, nafSteps}
-use Rattle.methods.specs.Forecast.{plusDigits, minusDigits}
+use Rattle.methods.specs.Forecast.{isPlus, isMinus, plusDigits, minusDigits}
 use Rattle.integers.proofs.Bits.{bit-length-iff}
 use Rattle.methods.proofs.Laws.{Small, small-below, Holds, Made, none-holds, one-stands, double-holds, double-add, double-subtract, latest-followed, length-followed, down-from, made}
 use Rattle.methods.proofs.Counted.{countsIn, counts-double, counts-add, counts-subtract, not-before}
+
+-- how many steps a digit takes
+pub length-at-digit : (d : ℤ) (b : Building) → length (atDigit d b .steps) ≡ length (b .steps) + isPlus d + isMinus d + 1
+length-at-digit (pos zero) b = omega (arith, length-followed b (add (b .latest) (b .latest)))
+length-at-digit (pos (suc n)) b = omega (arith, length-followed b (add (b .latest) (b .latest)), length-followed (double b) (add (double b .latest) 0))
+length-at-digit (negsuc n) b = omega (arith, length-followed b (add (b .latest) (b .latest)), length-followed (double b) (subtract (double b .latest) 0))
+
+-- the digits from a place on: the digit there, and those above
+pub plus-from : (ds : List ℤ) (i : ℕ) → i < length ds → plusDigits (drop i ds) ≡ isPlus (digitAt ds i) + plusDigits (drop (i + 1) ds)
+unfolding plusDigits
+plus-from ds i h = rw (add-one, drop-cons ds i (pos 0) h)
+
+pub minus-from : (ds : List ℤ) (i : ℕ) → i < length ds → minusDigits (drop i ds) ≡ isMinus (digitAt ds i) + minusDigits (drop (i + 1) ds)
+unfolding minusDigits
+minus-from ds i h = rw (add-one, drop-cons ds i (pos 0) h)
 
 -- what is left is no larger
 rests-le : (i n : ℕ) → rests 2 i n ≤ n
@@ -48,7 +64,7 @@ none-counted : countsIn none ≡ counts 0 (plusDigits (canonical (pos 1)) - 1) (
 unfolding countsOf plusDigits minusDigits naf digitsOf rest lowDigit residue
 none-counted = refl
 
-some-digits : (n : ℕ) → 0 < n → 0 < length (canonical (pos n))
+pub some-digits : (n : ℕ) → 0 < n → 0 < length (canonical (pos n))
 some-digits n h = rw (naf-step 2 n (omega arith) h) (omega arith)
 
 -- a number above zero with one digit is 1
@@ -121,6 +137,9 @@ module _ (e : ℕ) (some : 0 < e) (small : Small (e + 1)) where
       let n : ℕ = length (canonical (pos e)) in
       let p : 0 < n = some-digits e some in
       single (rests 2 (n - 1) e) (left (n - 1) (omega arith)) (omega (arith, length-rests (n - 1) e))
+
+  pub top-digit : digitAt (canonical (pos e)) (length (canonical (pos e)) - 1) ≡ pos 1
+  top-digit = digit-left (length (canonical (pos e)) - 1) e ∙ rw top-left (low-digit-2 0 .1)
 
   step : (i : ℕ) → Low (rests 2 i e) (rests 2 (suc i) e) (lowDigit 2 (rests 2 i e))
   unfolding rests

@@ -20,7 +20,7 @@ use Rattle.methods.specs.Building.{Building, followed, double, addAt, do
 use Rattle.integers.specs.Bits.{bit, bitLength}
 use Rattle.methods.specs.SlidingWindows.{tableStep, oddTable, oddPosition, tableSize, longest, windowValue, slide, scanFrom, slidingWindowSteps}
 use Rattle.methods.specs.Forecast.{tableCounts, laterWindows, scanCounts, slidingWindowCounts}
-use Rattle.integers.proofs.Bits.{bit-length-iff, top-bit, place-down, places-down, bit-small, quotient-none}
+use Rattle.integers.proofs.Bits.{bit-length-iff, some-bits, top-bit, place-down, places-down, bit-small, quotient-none}
 use Rattle.methods.proofs.Counted.{countsIn, counts-double, counts-add, counts-doubled}
 use Rattle.methods.proofs.Laws.{Small, small-below, quotient-small, Holds, Stands, Made, none-holds, one-stands, add-holds, double-holds, doubled-add, stands-followed, stands-doubled, latest-followed, latest-doubled, length-followed, length-doubled, made}
 
@@ -51,10 +51,10 @@ position-value v o =
     (λ t. let n : v ≢ 1 = eqb-false v 1 t in omega (arith, odd-value ((v + 1) / 2) (omega arith)))
 
 -- its first n steps; each adds to the latest what stands before it
-abbrev table : ℕ → Building
+abbrev pub table : ℕ → Building
 table n = record { steps = oddTable n; latest = n }
 
-length-table : (n : ℕ) → length (oddTable n) ≡ n
+pub length-table : (n : ℕ) → length (oddTable n) ≡ n
 unfolding oddTable
 length-table zero = refl
 length-table (suc n) = omega (arith, length-append (oddTable n) (tableStep n ∷ []), length-table n)
@@ -69,7 +69,7 @@ second-before zero = omega arith
 second-before (suc zero) = omega arith
 second-before (suc (suc n)) = omega arith
 
-table-next : (n : ℕ) → table (suc n) ≡ addAt (tableStep n .second) (table n)
+pub table-next : (n : ℕ) → table (suc n) ≡ addAt (tableStep n .second) (table n)
 unfolding oddTable followed
 table-next n =
     let l : suc n ≡ length (oddTable n) + 1 = omega (arith, length-table n) in
@@ -117,15 +117,15 @@ table-counted (suc (suc n)) =
     ∙ counts-add (table (suc n)) 1 n 0 (table-counted (suc n)) (tableStep (suc n) .second) (λ e. omega (arith, second-before (suc n)))
     ∙ ap (λ (a : ℕ). counts 1 a 0) (add-one n)
 
-no-subtractions : (n : ℕ) → tableCounts n ≡ counts (tableCounts n .doublings) (tableCounts n .additions) 0
+pub no-subtractions : (n : ℕ) → tableCounts n ≡ counts (tableCounts n .doublings) (tableCounts n .additions) 0
 unfolding tableCounts
 no-subtractions zero = refl
 no-subtractions (suc n) = refl
 
 -- an odd number below 2 ^ d: the whole table holds it
-record Entry (d v : ℕ) : Type 0 where
-  odd : v % 2 ≡ 1
-  narrow : v < 2 ^ d
+pub record Entry (d v : ℕ) : Type 0 where
+  pub odd : v % 2 ≡ 1
+  pub narrow : v < 2 ^ d
 
 module _ (d : ℕ) (wide : 1 ≤ d) where
   -- no step for d = 1, and otherwise half of 2 ^ d
@@ -150,16 +150,16 @@ module _ (d : ℕ) (wide : 1 ≤ d) where
 -- ---- windows
 
 -- l bits from place n down, at most d, that end in 1
-record Window (e n d l : ℕ) : Type 0 where
-  some : 1 ≤ l
-  narrow : l ≤ d
-  within : l ≤ suc n
-  ends : bit e (suc n - l) ≡ 1
+pub record Window (e n d l : ℕ) : Type 0 where
+  pub some : 1 ≤ l
+  pub narrow : l ≤ d
+  pub within : l ≤ suc n
+  pub ends : bit e (suc n - l) ≡ 1
 
 window-wider : {e n d l : ℕ} → Window e n d l → Window e n (suc d) l
 window-wider w = record { some = w .some; narrow = omega (arith, w .narrow); within = w .within; ends = w .ends }
 
-longest-window : (e n d : ℕ) → bit e n ≡ 1 → 1 ≤ d → Window e n d (longest e n d)
+pub longest-window : (e n d : ℕ) → bit e n ≡ 1 → 1 ≤ d → Window e n d (longest e n d)
 unfolding longest
 longest-window e n zero b h = absurd (omega arith)
 longest-window e n (suc l) b h =
@@ -175,12 +175,12 @@ longest-window e n (suc l) b h =
       | no t ↦ rw (lt-leb l n (omega arith)) (window-wider (longest-window e n l b (omega arith)))
     ]
 
-low-bit : (x l : ℕ) → 1 ≤ l → x % 2 ^ l % 2 ≡ x % 2
+pub low-bit : (x l : ℕ) → 1 ≤ l → x % 2 ^ l % 2 ≡ x % 2
 low-bit x zero h = absurd (omega arith)
 low-bit x (suc k) h = rw add-one at (mod-mod-pow x k 1)
 
 module _ {e n d l : ℕ} (w : Window e n d l) where
-  window-entry : Entry d (windowValue e n l)
+  pub window-entry : Entry d (windowValue e n l)
   unfolding bit
   window-entry = record {
     odd = low-bit (e / 2 ^ (suc n - l)) l (w .some) ∙ w .ends;
@@ -192,10 +192,23 @@ module _ {e n d l : ℕ} (w : Window e n d l) where
       let s : suc n - l + l ≡ suc n = omega (arith, w .within) in
       rw s at (places-down e (suc n - l) l)
 
+-- a window down to place 0
+reaches : (e n d : ℕ) → n < d → bit e 0 ≡ 1 → longest e n d ≡ suc n
+unfolding longest
+reaches e n zero h b = absurd (omega arith)
+reaches e n (suc l) h b =
+    elim (decLe l n) [
+      | yes t ↦
+          let s : l ≡ n = omega arith in
+          let z : n - l ≡ 0 = omega arith in
+          rw (le-leb l n t, z, eq-eqb (bit e 0) 1 b, s)
+      | no t ↦ rw (lt-leb l n (omega arith)) (reaches e n l (omega arith) b)
+    ]
+
 -- ---- the scan
 
 -- the place below the window that begins at place n, and the plan after that window
-abbrev belowWindow : ℕ → ℕ → ℕ → ℕ
+abbrev pub belowWindow : ℕ → ℕ → ℕ → ℕ
 belowWindow e d n = suc n - longest e n d
 
 abbrev atWindow : ℕ → ℕ → ℕ → Building → Building
@@ -226,8 +239,35 @@ module _ (e d : ℕ) (wide : 1 ≤ d) where
         | no z ↦ rw (ne-eqb (bit e n) 1 z) (zero-bit n b z (scan f n (double b) (omega arith)))
       ]
 
+  -- fuel beyond the place changes nothing
+  pub scan-fuel : (f g i : ℕ) (b : Building) → i ≤ f → i ≤ g → (laterWindows e d f i ≡ laterWindows e d g i) × (slide e d f i b ≡ slide e d g i b)
+  unfolding slide laterWindows
+  scan-fuel zero zero i b h k = (refl, refl)
+  scan-fuel zero (suc g) zero b h k = (refl, refl)
+  scan-fuel zero (suc g) (suc n) b h k = absurd (omega arith)
+  scan-fuel (suc f) zero zero b h k = (refl, refl)
+  scan-fuel (suc f) zero (suc n) b h k = absurd (omega arith)
+  scan-fuel (suc f) (suc g) zero b h k = (refl, refl)
+  scan-fuel (suc f) (suc g) (suc n) b h k =
+      elim (ℕ-discrete (bit e n) 1) [
+        | yes o ↦
+            let less = longest-window e n d o wide .some in
+            let r = scan-fuel f g (belowWindow e d n) (atWindow e d n b) (omega arith) (omega arith) in
+            rw (eq-eqb (bit e n) 1 o) (ap suc (r .0), r .1)
+        | no z ↦ rw (ne-eqb (bit e n) 1 z) (scan-fuel f g n (double b) (omega arith) (omega arith))
+      ]
+
   length-window : (n : ℕ) (b : Building) → length (atWindow e d n b .steps) ≡ length (b .steps) + longest e n d + 1
   length-window n b = length-followed (doubled (longest e n d) b) _ ∙ ap (λ (m : ℕ). m + 1) (length-doubled (longest e n d) b)
+
+  -- steps are only added
+  scan-grows : {i w : ℕ} {b c : Building} → Scan e d i b w c → length (b .steps) ≤ length (c .steps)
+  scan-grows done = omega arith
+  scan-grows (window n b o s) = omega (arith, scan-grows s, length-window n b)
+  scan-grows (zero-bit n b z s) = omega (arith, scan-grows s, length-followed b (add (b .latest) (b .latest)))
+
+  pub slide-grows : (f i : ℕ) (b : Building) → i ≤ f → length (b .steps) ≤ length (slide e d f i b .steps)
+  slide-grows f i b h = scan-grows (scan f i b h)
 
   -- at most two steps for each bit
   scan-short : {i w : ℕ} {b c : Building} → Scan e d i b w c → length (c .steps) ≤ length (b .steps) + 2 * i
@@ -290,7 +330,7 @@ module _ (e d : ℕ) (wide : 1 ≤ d) where
 
 -- ---- from the top bit
 
-abbrev top : ℕ → ℕ
+abbrev pub top : ℕ → ℕ
 top e = bitLength e - 1
 
 -- the table, and latest set to the position of the first window
@@ -298,20 +338,30 @@ abbrev atFirst : ℕ → ℕ → Building
 atFirst e d = record { steps = oddTable (tableSize d); latest = oddPosition (windowValue e (top e) (longest e (top e) d)) }
 
 module _ (e d : ℕ) (some : 0 < e) (wide : 1 ≤ d) where
-  first-window : Window e (top e) d (longest e (top e) d)
-  first-window = longest-window e (top e) d (omega (arith, place-down e (top e), top-bit e some, bit-small e (top e))) wide
+  pub first-one : bit e (top e) ≡ 1
+  first-one = omega (arith, place-down e (top e), top-bit e some, bit-small e (top e))
 
-  first-value : e / 2 ^ belowWindow e d (top e) ≡ windowValue e (top e) (longest e (top e) d)
+  pub first-window : Window e (top e) d (longest e (top e) d)
+  first-window = longest-window e (top e) d first-one wide
+
+  pub first-value : e / 2 ^ belowWindow e d (top e) ≡ windowValue e (top e) (longest e (top e) d)
   first-value =
       let z : e / 2 ^ suc (top e) ≡ 0 = omega (arith, place-down e (top e), top-bit e some) in
       omega (arith, rw z at (window-down first-window))
 
   -- a number that is one window is an entry of the table
-  whole-entry : belowWindow e d (top e) ≡ 0 → Entry d e
+  pub whole-entry : belowWindow e d (top e) ≡ 0 → Entry d e
   unfolding bit
   whole-entry z =
       let w = first-window in
       record { odd = omega (arith, rw z at (w .ends)); narrow = bit-length-iff e d .0 (omega arith) }
+
+  -- and an entry of the table is one window
+  pub entry-whole : Entry d e → belowWindow e d (top e) ≡ 0
+  unfolding bit
+  entry-whole t =
+      let n : bitLength e ≤ d = bit-length-iff e d .1 (t .narrow) in
+      omega (arith, reaches e (top e) d (omega (arith, some-bits e some)) (omega (arith, t .odd)))
 
   first-reached : (Entry d e → ⊥) → Small (2 ^ d) → Reached e d (belowWindow e d (top e)) (atFirst e d)
   first-reached more room = record {
@@ -336,7 +386,7 @@ module _ (e d : ℕ) (some : 0 < e) (wide : 1 ≤ d) where
   scan-all = scan e d wide (top e) (belowWindow e d (top e)) (atFirst e d) (omega (arith, first-window .some))
 
   -- the method's two cases, with the counts of each
-  entry-or-scan : (P : List Step → Counts → Type 0) → (Entry d e → P (oddTable (oddPosition e)) (tableCounts (oddPosition e)))
+  pub entry-or-scan : (P : List Step → Counts → Type 0) → (Entry d e → P (oddTable (oddPosition e)) (tableCounts (oddPosition e)))
       → ((Entry d e → ⊥) → P (scanFrom e d (top e)) (scanCounts e d (top e)))
       → P (slidingWindowSteps e d) (slidingWindowCounts e d)
   unfolding slidingWindowSteps slidingWindowCounts

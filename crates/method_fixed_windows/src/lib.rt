@@ -1,0 +1,201 @@
+// Method 2, fixed windows of `width` bits: its steps counted, and written.
+use integers::bit_length;
+use integers::byte_at;
+use plan_writing::Cursor;
+use rules::Counts;
+ghost use mathlib.Core.Path.{_≡_};
+ghost use mathlib.Core.Logic.{_≢_};
+ghost use mathlib.Core.Bool.{cond};
+ghost use mathlib.Core.List.{List, _++_};
+ghost use Prim.Native.Nat.{ℕ, _+_, _-_, _*_, _^_, _≤_, _<_};
+ghost use lib.Dec.{eqb};
+ghost use lib.ListN.{length, drop};
+ghost use Rattle.rules.specs.Limits.{numberBytes, stepBytes};
+ghost use Rattle.integers.specs.Positional.{bytesValue};
+ghost use Rattle.chains.specs.Steps.{planBytesOf};
+ghost use Rattle.chains.specs.Counts.{countsOf};
+ghost use Rattle.methods.specs.Building.{Building, doubled};
+ghost use Rattle.methods.specs.FixedWindows.{ladder, window, topWindow, atWindow, windowSteps, fixedWindowSteps};
+ghost use Rattle.methods.specs.Forecast.{tableCounts, nonzeroWindows};
+ghost use Rattle.plan_writing.specs.Writing.{Writing};
+
+// 2 to the power of the width.
+fn power(width: usize) -> usize
+    requires { ⌜ width < 64 ⌝ }
+    ensures { λ r. ⌜ r ≡ 2 ^ width ⌝ }
+{
+    1 << width
+}
+
+// The value of window i. It may cross from a byte into the next one.
+fn window_at(number: &[u8], width: usize, i: usize) -> usize
+    requires { ⌜ width ≤ 8 ⌝ }
+    requires { ⌜ width * i ≤ 8 * numberBytes ⌝ }
+    ensures { λ r. ⌜ r ≡ window (bytesValue (now (number .entry))) width i ⌝ }
+{
+    let place = width * i;
+    let two = byte_at(number, place / 8) + 256 * byte_at(number, place / 8 + 1);
+    (two >> (place % 8)) as usize % power(width)
+}
+
+// The place of the top window, the one that holds the top bit: 0 for a number below 2^width.
+fn top_window(number: &[u8], width: usize) -> usize
+    requires { ⌜ length (now number) ≤ numberBytes ⌝ }
+    requires { ⌜ bytesValue (now number) ≢ 0 ⌝ }
+    requires { ⌜ 1 ≤ width ⌝ }
+    ensures { λ r. ⌜ (r ≡ topWindow (bytesValue (now (number .entry))) width) × (width * r ≤ 8 * numberBytes) ⌝ }
+{
+    (bit_length(number) - 1) / width
+}
+
+// The value of a number that a byte holds.
+fn small_value(number: &[u8]) -> usize
+    requires { ⌜ bytesValue (now number) < 256 ⌝ }
+    ensures { λ r. ⌜ r ≡ bytesValue (now (number .entry)) ⌝ }
+{
+    byte_at(number, 0) as usize
+}
+
+// How many steps the table has.
+fn table_size(width: usize) -> usize
+    requires { ⌜ (1 ≤ width) × (width < 64) ⌝ }
+    ensures { λ r. ⌜ r ≡ 2 ^ width - 2 ⌝ }
+{
+    power(width) - 2
+}
+
+// The counts of the first n steps of a table.
+fn table_counts(n: usize) -> Counts
+    ensures { λ r. ⌜ (r ≡ tableCounts n) × (r .doublings ≤ 1) × (r .additions ≤ n) ⌝ }
+{
+    if n == 0 {
+        return Counts {
+            doublings: 0,
+            additions: 0,
+            subtractions: 0,
+        };
+    }
+    Counts {
+        doublings: 1,
+        additions: n - 1,
+        subtractions: 0,
+    }
+}
+
+// The additions of a window of value v: none for zero.
+fn additions_for(v: usize) -> usize
+    ensures { λ r. ⌜ (r ≡ cond (eqb v 0) 0 1) × (r ≤ 1) ⌝ }
+{
+    if v == 0 { 0 } else { 1 }
+}
+
+// How many of the windows 0 to n - 1 are not zero.
+fn nonzero_windows(number: &[u8], width: usize, n: usize) -> usize
+    requires { ⌜ width ≤ 8 ⌝ }
+    requires { ⌜ width * n ≤ 8 * numberBytes ⌝ }
+    ensures { λ r. ⌜ (r ≡ nonzeroWindows (bytesValue (now (number .entry))) width n) × (r ≤ n) ⌝ }
+{
+    let mut total = 0;
+    let mut i = 0;
+    while i < n {
+        total += additions_for(window_at(number, width, i));
+        i += 1;
+    }
+    total
+}
+
+// The counts of the steps for a number above zero.
+pub fn counts(number: &[u8], width: usize) -> Counts
+    requires { ⌜ length (now number) ≤ numberBytes ⌝ }
+    requires { ⌜ bytesValue (now number) ≢ 0 ⌝ }
+    requires { ⌜ (1 ≤ width) × (width ≤ 6) ⌝ }
+    ensures { λ r. ⌜ r ≡ countsOf (fixedWindowSteps (bytesValue (now (number .entry))) width) ⌝ }
+{
+    let top = top_window(number, width);
+    if top == 0 {
+        return table_counts(small_value(number) - 1);
+    }
+    let table = table_counts(table_size(width));
+    Counts {
+        doublings: table.doublings + width * top,
+        additions: table.additions + nonzero_windows(number, width, top),
+        subtractions: 0,
+    }
+}
+
+// Writes the steps add(i-1, 0) for i = 1 to n.
+fn write_ladder(out: &mut [u8], n: usize)
+    requires { ⌜ stepBytes * n ≤ length (now out) ⌝ }
+    ensures { λ _. ⌜ now (out .exit) ≡ planBytesOf (ladder n) ++ drop (stepBytes * n) (now (out .entry)) ⌝ }
+{
+    let mut c = Cursor::first();
+    let mut i = 0;
+    while i < n {
+        c = c.add_at(out, 0);
+        i += 1;
+    }
+}
+
+// Doubles n times.
+fn double_times(c: Cursor, out: &mut [u8], n: usize) -> Cursor
+    requires { ⌜ stepBytes * (c .steps + n) ≤ length (now out) ⌝ }
+    ensures { λ r. ⌜ (r .steps ≡ c .steps + n) × ((lent : List ℕ) (b : Building) → Writing lent (now (out .entry)) c b → Writing lent (now (out .exit)) r (doubled n b)) ⌝ }
+{
+    let mut last = c;
+    let mut done = 0;
+    while done < n {
+        last = last.double(out);
+        done += 1;
+    }
+    last
+}
+
+// The steps of one window below the top.
+fn at_window(c: Cursor, out: &mut [u8], width: usize, value: usize) -> Cursor
+    requires { ⌜ stepBytes * (c .steps + width + cond (eqb value 0) 0 1) ≤ length (now out) ⌝ }
+    ensures { λ r. ⌜ (r .steps ≡ c .steps + width + cond (eqb value 0) 0 1) × ((lent : List ℕ) (b : Building) → Writing lent (now (out .entry)) c b → Writing lent (now (out .exit)) r (atWindow width value b)) ⌝ }
+{
+    let moved = double_times(c, out, width);
+    if value == 0 {
+        moved
+    } else {
+        moved.add_at(out, value - 1)
+    }
+}
+
+// Writes the table, then the steps of the windows below the top one.
+fn write_windows(number: &[u8], width: usize, top: usize, out: &mut [u8])
+    requires { ⌜ top ≡ topWindow (bytesValue (now number)) width ⌝ }
+    requires { ⌜ bytesValue (now number) ≢ 0 ⌝ }
+    requires { ⌜ (1 ≤ width) × (width ≤ 8) × (width * top ≤ 8 * numberBytes) ⌝ }
+    requires { ⌜ stepBytes * length (windowSteps (bytesValue (now number)) width) ≤ length (now out) ⌝ }
+    ensures { λ _. ⌜ now (out .exit) ≡ planBytesOf (windowSteps (bytesValue (now (number .entry))) width) ++ drop (length (planBytesOf (windowSteps (bytesValue (now (number .entry))) width))) (now (out .entry)) ⌝ }
+{
+    let table = table_size(width);
+    write_ladder(out, table);
+    let mut c = Cursor {
+        steps: table,
+        latest: window_at(number, width, top) - 1,
+    };
+    let mut i = top;
+    while 0 < i {
+        i -= 1;
+        c = at_window(c, out, width, window_at(number, width, i));
+    }
+}
+
+// Writes the steps for a number above zero.
+pub fn write(number: &[u8], width: usize, out: &mut [u8])
+    requires { ⌜ length (now number) ≤ numberBytes ⌝ }
+    requires { ⌜ bytesValue (now number) ≢ 0 ⌝ }
+    requires { ⌜ (1 ≤ width) × (width ≤ 6) ⌝ }
+    requires { ⌜ stepBytes * length (fixedWindowSteps (bytesValue (now number)) width) ≤ length (now out) ⌝ }
+    ensures { λ _. ⌜ now (out .exit) ≡ planBytesOf (fixedWindowSteps (bytesValue (now (number .entry))) width) ++ drop (length (planBytesOf (fixedWindowSteps (bytesValue (now (number .entry))) width))) (now (out .entry)) ⌝ }
+{
+    let top = top_window(number, width);
+    if 0 < top {
+        write_windows(number, width, top, out);
+    } else {
+        write_ladder(out, small_value(number) - 1);
+    }
+}

@@ -1,0 +1,60 @@
+-- The bytes of canonical digits, and what recode leaves in an array with room for every number. Assumes nothing.
+use mathlib.Core.Path.{_≡_, refl, sym, _∙_}
+use mathlib.Core.Logic.{_≢_}
+use mathlib.Core.Bool.{Bool, true, false}
+use mathlib.Core.List.{List, _++_}
+use Prim.Native.Nat.{ℕ, _+_, _*_, _<_, _≤_}
+use native.Mathlib.Omega.{arith}
+use lib.IntN.{ℤ, pos, negsuc}
+use lib.ListN.{length, getD, drop, List·getD-append, List·getD-map}
+use mir.Val.{boolByte}
+use Rattle.rules.specs.Limits.{numberBytes}
+use Rattle.rules.specs.declared.Written.the-variants.{Length}
+use Rattle.integers.specs.Positional.{bytesValue}
+use Rattle.integers.proofs.Positional.{Below}
+use Rattle.signed_digits.specs.Strings.{digitAt}
+use Rattle.signed_digits.specs.Naf.{lowDigit, canonical}
+use Rattle.signed_digits.specs.Bytes.{digitByte}
+use Rattle.signed_digits.proofs.Steps.{rests, Low, even, plus as plus-one, minus as minus-one, low}
+use Rattle.signed_digits.proofs.Triple.{digit-left}
+use Rattle.recoding.specs.Recode.{recoding, recodeAnswer, recodeBuffer}
+use Rattle.recoding.proofs.Count.{length-recoding}
+use Rattle.recoding.proofs.Outcomes.{done}
+use Rattle.recoding.proofs.Promises.{recoding-length}
+use Rattle.methods.specs.Forecast.{isPlus, isMinus}
+use Rattle.method_naf.specs.Digits.{mostDigits, lengthIn, Digit, nought, plus, minus, Recoded}
+
+pub byte-small : (b : Bool) → boolByte b ≤ 1
+byte-small true = omega arith
+byte-small false = omega arith
+
+-- a byte that is not 0 takes a step beside the doubling
+pub step-more : {b : ℕ} {d : ℤ} → Digit b d → b ≢ 0 → isPlus d + isMinus d ≡ 1
+step-more nought n = absurd (n refl)
+step-more plus n = refl
+step-more minus n = refl
+
+-- each canonical digit has its byte
+digit-byte : (e i : ℕ) → Digit (digitByte (digitAt (canonical (pos e)) i)) (digitAt (canonical (pos e)) i)
+digit-byte e i = rw (digit-left i e) (go (low (rests 2 i e)))
+  where
+    go : {n m : ℕ} {d : ℤ} → Low n m d → Digit (digitByte d) d
+    go (even q) = nought
+    go (plus-one q) = plus
+    go (minus-one q) = minus
+
+module _ (number out : List ℕ) (bytes : Below 256 number) (h : length number ≤ numberBytes) (room : mostDigits ≤ length out) where
+  -- so many digits are answered
+  all-answered : recodeAnswer number (length out) ≡ Length (length (recoding number))
+  all-answered = done number out (length (recoding number)) refl h (omega (arith, recoding-length number bytes)) .0
+
+  pub recoded-there : (after : List ℕ) (n : ℕ) → after ≡ recodeBuffer number out → n ≡ lengthIn (recodeAnswer number (length out)) → Recoded number after n
+  unfolding recoding
+  recoded-there after n e answered =
+      let long : n ≡ length (recoding number) = answered ∙ rw all-answered in
+      let b : after ≡ recoding number ++ drop (length (recoding number)) out = e ∙ rw all-answered in
+      record {
+        count = long ∙ length-recoding number;
+        within = omega (arith, recoding-length number bytes);
+        digit = λ i l. rw (b, List·getD-append (recoding number) (drop (length (recoding number)) out) 0 i (omega arith), List·getD-map digitByte (canonical (pos (bytesValue number))) i (pos 0)) (digit-byte (bytesValue number) i);
+      }

@@ -1,0 +1,26 @@
+-- `method_naf::recoded` meets its contract. Assumes nothing.
+use mathlib.Core.Path.{_∙_}
+use Rattle.method_naf.proofs.Digits.{recoded-there}
+use borrow.Author.Needs.{needs}
+use Rattle.method_naf.proofs.recoded.Statement.{statement}
+use Rattle.method_naf.proofs.recoded.Tie as tie
+use Rattle.method_naf.proofs.recoded.Reads as reads
+use Rattle.method_naf.proofs.recoded.Lts as lts
+use Rattle.method_naf.proofs.length_of.Reads as length-of-reads
+use Rattle.recoding.proofs.recode.Reads as recode-reads
+
+recode-requires : tie.Need-recode-requires
+recode-requires c κs = search needs
+
+length-of-requires : tie.Need-length-of-requires
+length-of-requires c κs = search needs
+
+returns : tie.Need-returns
+returns c =
+    let args = c .before .before .before .before .args in
+    let recode = c .before .recode in
+    recoded-there (args .number .now) (args .digits .now) (λ i. c .before .before .before .shared-slice-known .given i .fits) (search needs) (search needs)
+    (recode .last .1 .0) (c .length-of .result) (recode .ensures .1) (rw (recode .ensures .0) at (c .length-of .ensures))
+
+pub recoded-spec : {M : Type 1} → statement M
+recoded-spec = tie.close (tie.spec recode-requires length-of-requires returns)

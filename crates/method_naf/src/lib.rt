@@ -1,0 +1,113 @@
+// Method 4, NAF: its steps counted, and written.
+use plan_writing::Cursor;
+use recoding::recode;
+use rules::Counts;
+use rules::NUMBER_BYTES;
+use rules::Written;
+ghost use mathlib.Core.Path.{_≡_};
+ghost use mathlib.Core.Logic.{_≢_};
+ghost use mathlib.Core.List.{List, _++_};
+ghost use Prim.Native.Nat.{ℕ, _+_, _*_, _≤_};
+ghost use lib.IntN.{ℤ};
+ghost use lib.ListN.{length, drop};
+ghost use Rattle.rules.specs.Limits.{numberBytes, stepBytes};
+ghost use Rattle.integers.specs.Positional.{bytesValue};
+ghost use Rattle.chains.specs.Steps.{planBytesOf};
+ghost use Rattle.chains.specs.Counts.{countsOf};
+ghost use Rattle.methods.specs.Building.{Building};
+ghost use Rattle.methods.specs.Forecast.{isPlus, isMinus};
+ghost use Rattle.methods.specs.NonAdjacentForm.{atDigit, nafSteps};
+ghost use Rattle.plan_writing.specs.Writing.{Writing};
+ghost use Rattle.method_naf.specs.Digits.{lengthIn, Digit, Recoded};
+
+// The most canonical digits of a number within the limit: one more than it has bits.
+const MOST_DIGITS: usize = 8 * NUMBER_BYTES + 1;
+
+// The length that was answered.
+fn length_of(written: Written) -> usize
+    ensures { λ r. ⌜ r ≡ lengthIn written ⌝ }
+{
+    match written {
+        Written::Length(n) => n,
+        Written::Refused(_) => 0,
+    }
+}
+
+// Puts the canonical digits of a number at the start of an array; answers how many there are.
+fn recoded(number: &[u8], digits: &mut [u8; MOST_DIGITS]) -> usize
+    requires { ⌜ length (now number) ≤ numberBytes ⌝ }
+    ensures { λ r. ⌜ Recoded (now (number .entry)) (now (digits .exit)) r ⌝ }
+{
+    length_of(recode(number, digits))
+}
+
+// 1 for the digit 1, and 0 for the others.
+fn plus(digit: u8) -> usize
+    ensures { λ r. ⌜ ((d : ℤ) → Digit digit d → r ≡ isPlus d) × (r ≤ 1) ⌝ }
+{
+    (digit == 1) as usize
+}
+
+// 1 for the digit -1, and 0 for the others.
+fn minus(digit: u8) -> usize
+    ensures { λ r. ⌜ ((d : ℤ) → Digit digit d → r ≡ isMinus d) × (r ≤ 1) ⌝ }
+{
+    (digit == 255) as usize
+}
+
+// The counts of the steps for a number above zero: of the digits below the top, all, those that are
+// 1, and those that are -1.
+pub fn counts(number: &[u8]) -> Counts
+    requires { ⌜ length (now number) ≤ numberBytes ⌝ }
+    requires { ⌜ bytesValue (now number) ≢ 0 ⌝ }
+    ensures { λ r. ⌜ r ≡ countsOf (nafSteps (bytesValue (now (number .entry)))) ⌝ }
+{
+    let mut digits = [0u8; MOST_DIGITS];
+    let below = recoded(number, &mut digits) - 1;
+    let mut plus_digits = 0;
+    let mut minus_digits = 0;
+    let mut i = 0;
+    while i < below {
+        let digit = digits[i];
+        plus_digits += plus(digit);
+        minus_digits += minus(digit);
+        i += 1;
+    }
+    Counts {
+        doublings: below,
+        additions: plus_digits,
+        subtractions: minus_digits,
+    }
+}
+
+// The steps of one digit below the top.
+fn at_digit(c: Cursor, out: &mut [u8], digit: u8) -> Cursor
+    requires { ⌜ stepBytes * (c .steps + 1) ≤ length (now out) ⌝ }
+    requires { ⌜ (digit ≢ 0 → stepBytes * (c .steps + 2) ≤ length (now out)) ⌝ }
+    ensures { λ r. ⌜ ((lent : List ℕ) (b : Building) (d : ℤ) → Digit digit d → Writing lent (now (out .entry)) c b → Writing lent (now (out .exit)) r (atDigit d b)) ⌝ }
+{
+    let doubled = c.double(out);
+    if digit == 0 {
+        doubled
+    } else if digit == 1 {
+        doubled.add_at(out, 0)
+    } else {
+        doubled.subtract_at(out, 0)
+    }
+}
+
+// Writes the steps for a number above zero.
+pub fn write(number: &[u8], out: &mut [u8])
+    requires { ⌜ length (now number) ≤ numberBytes ⌝ }
+    requires { ⌜ bytesValue (now number) ≢ 0 ⌝ }
+    requires { ⌜ stepBytes * length (nafSteps (bytesValue (now number))) ≤ length (now out) ⌝ }
+    ensures { λ _. ⌜ now (out .exit) ≡ planBytesOf (nafSteps (bytesValue (now (number .entry)))) ++ drop (length (planBytesOf (nafSteps (bytesValue (now (number .entry)))))) (now (out .entry)) ⌝ }
+{
+    let mut digits = [0u8; MOST_DIGITS];
+    let mut c = Cursor::first();
+    let mut i = recoded(number, &mut digits) - 1;
+    while 0 < i {
+        i -= 1;
+        c = at_digit(c, out, digits[i]);
+    }
+}

@@ -1,14 +1,15 @@
 // Runs recode and take on document 01's numbers to try by hand, and on the table of source document
 // 004. Each number is recoded whole and taken digit by digit, and the two are compared.
-mod noise;
-mod show;
 mod taking;
 
+use case_printing::noise;
+use case_printing::show;
+use case_printing::show::front;
+use case_printing::show::print;
+use case_printing::show::print_count;
 use recoding::recode;
 use rules::NUMBER_BYTES;
 use rules::Written;
-use show::print;
-use show::print_count;
 
 // The most digits that a number within the limit has.
 const MOST_DIGITS: usize = 8 * NUMBER_BYTES + 1;
@@ -128,13 +129,12 @@ fn recode_case(number: &[u8], out: &mut [u8]) -> usize {
     print(b":");
     match recode(number, out) {
         Written::Length(length) => {
-            show::print_string(&out[..length]);
-            taking::print_compared(number, &out[..length]);
+            show::print_string(front(out, length));
+            taking::print_compared(number, front(out, length));
             length
         }
         Written::Refused(refusal) => {
-            show::print_refusal(refusal);
-            noise::print_unchanged(out);
+            noise::print_refused(refusal, out);
             0
         }
     }

@@ -1,7 +1,7 @@
 // Takes of a recoder, one after the other.
-use crate::show::print;
-use crate::show::print_digit;
-use crate::show::print_refusal;
+use case_printing::show::print;
+use case_printing::show::print_digit;
+use case_printing::show::print_refusal;
 use recoding::recoder::Recoder;
 use recoding::recoder::Start;
 use recoding::recoder::Take;

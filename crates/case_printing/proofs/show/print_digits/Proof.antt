@@ -2,8 +2,8 @@
 use Prim.Native.Nat.{_≤_}
 use borrow.Author.Needs.{needs}
 use lib.ListN.{length}
-use Rattle.recoding_cases.proofs.show.print_digits.Statement.{statement}
-use Rattle.recoding_cases.proofs.show.print_digits.Tie as tie
+use Rattle.case_printing.proofs.show.print_digits.Statement.{statement}
+use Rattle.case_printing.proofs.show.print_digits.Tie as tie
 
 abbrev Inv-loop : tie.InvT-loop
 Inv-loop digits i₀ i = i ≤ length digits

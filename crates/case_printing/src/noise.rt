@@ -1,7 +1,9 @@
 // Buffers full of noise, by which a byte that was written is told from one that stayed.
 use crate::show::print;
+use crate::show::print_refusal;
+use rules::Refusal;
 
-// The noise at a place: the byte of no digit.
+// The noise at a place: never 00, 01 or FF, the bytes of digits.
 fn noise(place: usize) -> u8 {
     (place % 250 + 2) as u8
 }
@@ -26,7 +28,9 @@ fn stands_from(out: &[u8], place: usize) -> bool {
     true
 }
 
-pub fn print_unchanged(out: &[u8]) {
+// A refusal, and whether it left the buffer alone.
+pub fn print_refused(refusal: Refusal, out: &[u8]) {
+    print_refusal(refusal);
     if stands_from(out, 0) {
         print(b", buffer unchanged");
     } else {

@@ -5,8 +5,8 @@ use borrow.Author.Needs.{needs}
 use native.Mathlib.Omega.{arith}
 use lib.ListN.{length-set}
 use lib.ListN.{length}
-use Rattle.recoding_cases.proofs.noise.fill.Statement.{statement}
-use Rattle.recoding_cases.proofs.noise.fill.Tie as tie
+use Rattle.case_printing.proofs.noise.fill.Statement.{statement}
+use Rattle.case_printing.proofs.noise.fill.Tie as tie
 
 abbrev Inv-loop : tie.InvT-loop
 Inv-loop out₀ i₀ out i = length out ≡ length out₀

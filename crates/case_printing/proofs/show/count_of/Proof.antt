@@ -1,17 +1,17 @@
--- `show::zeros` is safe and ends: the count is at most the place. Assumes nothing.
+-- `show::count_of` is safe and ends: the count is at most the place. Assumes nothing.
 use mathlib.Core.Logic.{⊎-elim}
 use Prim.Native.Nat.{_≤_, _-_}
 use borrow.Author.Needs.{needs}
 use native.Mathlib.Omega.{arith}
 use lib.ListN.{length}
-use Rattle.recoding_cases.proofs.show.zeros.Statement.{statement}
-use Rattle.recoding_cases.proofs.show.zeros.Tie as tie
+use Rattle.case_printing.proofs.show.count_of.Statement.{statement}
+use Rattle.case_printing.proofs.show.count_of.Tie as tie
 
 abbrev Inv-loop : tie.InvT-loop
-Inv-loop digits count₀ i₀ count i = (i ≤ length digits) × (count ≤ i)
+Inv-loop bytes byte count₀ i₀ count i = (i ≤ length bytes) × (count ≤ i)
 
 abbrev μ-loop : tie.MeasureT-loop
-μ-loop digits count₀ i₀ count i = length digits - i
+μ-loop bytes byte count₀ i₀ count i = length bytes - i
 
 loop-holds : tie.Need-loop-holds Inv-loop μ-loop
 loop-holds c = search needs
@@ -34,8 +34,8 @@ loop-again c = ⊎-elim (λ w. omega arith) (λ w. omega arith) (c .if1 .came)
 returns : tie.Need-returns Inv-loop μ-loop
 returns c = search needs
 
-pub zeros-spec : {M : Type 1} → statement M
-zeros-spec =
+pub count-of-spec : {M : Type 1} → statement M
+count-of-spec =
     tie.close
     (tie.spec
     Inv-loop

@@ -2,8 +2,8 @@
 use Prim.Native.Nat.{_-_}
 use borrow.Author.Needs.{needs}
 use lib.ListN.{length}
-use Rattle.recoding_cases.proofs.noise.stands_from.Statement.{statement}
-use Rattle.recoding_cases.proofs.noise.stands_from.Tie as tie
+use Rattle.case_printing.proofs.noise.stands_from.Statement.{statement}
+use Rattle.case_printing.proofs.noise.stands_from.Tie as tie
 
 abbrev Inv-loop : tie.InvT-loop
 Inv-loop out place i₀ i = Unit {0}

@@ -2,25 +2,25 @@
 use mathlib.Core.Path.{_≡_, refl, sym, ap, _∙_}
 use mathlib.Core.Logic.{_≢_}
 use mathlib.Core.List.{List, _++_}
-use Prim.Native.Nat.{ℕ, zero, suc, _+_, _*_, _-_, _/_, _%_, _^_, _<_, _≤_}
+use Prim.Native.Nat.{ℕ, zero, suc, _+_, _*_, _-_, _%_, _<_, _≤_}
 use borrow.Author.Tests.{eq-eqb, ne-eqb}
 use native.Mathlib.Decide.{ℕ-discrete}
-use native.Mathlib.Nat.{add-zero, mod-lt, lt-of-lt-of-le}
+use native.Mathlib.Nat.{add-zero}
 use native.Mathlib.Omega.{arith}
 use lib.ListN.{length, drop}
-use lib.Pow.{pow-pos, pow-mono}
+use lib.Pow.{pow-mono}
 use Rattle.integers.specs.Bits.{bit, bitLength}
-use Rattle.integers.proofs.Bits.{bit-small, quotient-none}
+use Rattle.integers.proofs.Bits.{quotient-none}
 use Rattle.rules.specs.declared.Counts.{Counts}
 use Rattle.chains.specs.Steps.{Step, planBytesOf}
 use Rattle.chains.specs.Counts.{counts, countsOf}
 use Rattle.chains.proofs.Bytes.{length-plan}
-use Rattle.methods.specs.Building.{Building, none, double, doubled, addAt}
+use Rattle.methods.specs.Building.{Building, none, doubled, addAt}
 use Rattle.methods.specs.SlidingWindows.{oddTable, oddPosition, tableSize, longest, windowValue, slide, scanFrom, slidingWindowSteps}
 use Rattle.methods.specs.Forecast.{tableCounts, laterWindows, scanCounts, slidingWindowCounts}
 use Rattle.methods.proofs.Counted.{total, length-counted}
 use Rattle.methods.proofs.Laws.{length-followed, length-doubled}
-use Rattle.methods.proofs.SlidingWindows.{Entry, longest-window, window-entry, scan-fuel, slide-grows, belowWindow, top, first-one, first-window, first-value, whole-entry, entry-whole, entry-or-scan, no-subtractions, length-table, sliding-short, sliding-counts}
+use Rattle.methods.proofs.SlidingWindows.{Entry, scan-fuel, slide-grows, belowWindow, top, first-one, first-window, first-value, whole-entry, entry-whole, entry-or-scan, no-subtractions, length-table, sliding-short, sliding-counts}
 use Rattle.plan_writing.specs.declared.Cursor.{Cursor}
 use Rattle.plan_writing.specs.Writing.{Writing}
 use Rattle.method_sliding_windows.specs.declared.Window.{Window}
@@ -29,6 +29,11 @@ use Rattle.method_sliding_windows.proofs.Windows.{taken-window, taken-z
 use Rattle.method_sliding_windows.specs.Scan.{taken, windowAt, atWindow, startFrom, startOf}
 
 -- ---- one turn
+
+-- below place i stands i - 1
+below : (P : ℕ → ℕ → Type 0) → ((n : ℕ) → P (suc n) n) → (i : ℕ) → 0 < i → P i (i - 1)
+below P at zero some = absurd (omega arith)
+below P at (suc n) some = let s : suc n - 1 ≡ n = omega arith in rw s (at n)
 
 length-at : (w : Window) (b : Building) → length (atWindow w b .steps) ≡ length (b .steps) + w .bits + w .value % 2
 unfolding atWindow
@@ -74,18 +79,13 @@ module _ (e d : ℕ) (wide : 1 ≤ d) where
   -- the same below place i, where w is taken
   module _ (i : ℕ) (some : 0 < i) (w : Window) (same : w ≡ windowAt e (i - 1) d) where
     slide-turn : (b : Building) → slide e d i i b ≡ slide e d (i - w .bits) (i - w .bits) (atWindow w b)
-    slide-turn b = rw same (go i some)
-      where
-        go : (i : ℕ) → 0 < i → slide e d i i b ≡ slide e d (i - taken e (i - 1) d) (i - taken e (i - 1) d) (atWindow (windowAt e (i - 1) d) b)
-        go zero h = absurd (omega arith)
-        go (suc n) h = let s : suc n - 1 ≡ n = omega arith in rw s (slide-next n b)
+    slide-turn b =
+        rw same (below (λ i n. slide e d i i b ≡ slide e d (i - taken e n d) (i - taken e n d) (atWindow (windowAt e n d) b)) (λ n. slide-next n b) i some)
 
     pub later-turn : laterWindows e d i i ≡ w .value % 2 + laterWindows e d (i - w .bits) (i - w .bits)
-    later-turn = rw same (go i some)
-      where
-        go : (i : ℕ) → 0 < i → laterWindows e d i i ≡ windowValue e (i - 1) (taken e (i - 1) d) % 2 + laterWindows e d (i - taken e (i - 1) d) (i - taken e (i - 1) d)
-        go zero h = absurd (omega arith)
-        go (suc n) h = let s : suc n - 1 ≡ n = omega arith in rw s (later-next n)
+    later-turn =
+        rw same
+        (below (λ i n. laterWindows e d i i ≡ windowValue e n (taken e n d) % 2 + laterWindows e d (i - taken e n d) (i - taken e n d)) later-next i some)
 
 -- ---- a loop that writes: what is written so far, and that the places below i will give the rest
 
@@ -138,21 +138,21 @@ module _ (e d : ℕ) (some : 0 < e) (wide : 1 ≤ d) where
   unfolding slide laterWindows
   by-start = entry-or-scan e d some wide (λ s c. (s ≡ steps-from e d at-top) × (c ≡ counts-from e d at-top)) whole more
     where
-      below : ℕ
-      below = belowWindow e d (top e)
+      left : ℕ
+      left = belowWindow e d (top e)
 
       whole : Entry d e → (oddTable (oddPosition e) ≡ steps-from e d at-top) × (tableCounts (oddPosition e) ≡ counts-from e d at-top)
       whole t =
-          let z : below ≡ 0 = entry-whole e d some wide t in
+          let z : left ≡ 0 = entry-whole e d some wide t in
           let v : windowValue e (top e) (longest e (top e) d) ≡ e = sym (first-value e d some wide) ∙ rw z (quotient-none e) in
           rw (v, z) (refl, simp add-zero (no-subtractions (oddPosition e)))
 
       more : (Entry d e → ⊥) → (scanFrom e d (top e) ≡ steps-from e d at-top) × (scanCounts e d (top e) ≡ counts-from e d at-top)
       more m =
-          let some-left : below ≢ 0 = λ z. m (whole-entry e d some wide z) in
+          let some-left : left ≢ 0 = λ z. m (whole-entry e d some wide z) in
           let b : Building = record { steps = oddTable (tableSize d); latest = oddPosition (windowValue e (top e) (longest e (top e) d)) } in
-          let same = scan-fuel e d wide (top e) below below b (omega (arith, first-window e d some wide .some)) (omega arith) in
-          rw (ne-eqb below 0 some-left) (ap (λ (c : Building). c .steps) (same .1), rw (same .0))
+          let same = scan-fuel e d wide (top e) left left b (omega (arith, first-window e d some wide .some)) (omega arith) in
+          rw (ne-eqb left 0 some-left) (ap (λ (c : Building). c .steps) (same .1), rw (same .0))
 
   module _ (s : Start) (start : s ≡ startOf e d) where
     steps-start : slidingWindowSteps e d ≡ steps-from e d s

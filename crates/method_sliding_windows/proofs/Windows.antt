@@ -13,7 +13,6 @@ use Rattle.integers.specs.Bits.{bit}
 use Rattle.integers.proofs.Bits.{bit-small}
 use Rattle.methods.specs.SlidingWindows.{longest, windowValue}
 use Rattle.methods.proofs.SlidingWindows.{low-bit, longest-window, window-entry}
-use Rattle.method_sliding_windows.specs.declared.Window.{Window}
 use Rattle.method_sliding_windows.specs.Scan.{taken, windowAt}
 
 module _ (e n : ℕ) where

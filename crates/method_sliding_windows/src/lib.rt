@@ -181,6 +181,13 @@ pub fn counts(number: &[u8], width: usize) -> Counts
     }
 }
 
+// What step i of the table, counted from 0, adds to the latest.
+fn second(i: usize) -> usize
+    ensures { λ r. ⌜ r ≡ tableStep i .second ⌝ }
+{
+    if i < 2 { 0 } else { 1 }
+}
+
 // Writes the first steps of the table.
 fn write_table(out: &mut [u8], size: usize) -> Cursor
     requires { ⌜ stepBytes * size ≤ length (now out) ⌝ }
@@ -195,23 +202,16 @@ fn write_table(out: &mut [u8], size: usize) -> Cursor
     c
 }
 
-// What step i of the table, counted from 0, adds to the latest.
-fn second(i: usize) -> usize
-    ensures { λ r. ⌜ r ≡ tableStep i .second ⌝ }
-{
-    if i < 2 { 0 } else { 1 }
-}
-
 // Doubles n times.
 fn double_times(c: Cursor, out: &mut [u8], n: usize) -> Cursor
     requires { ⌜ stepBytes * (c .steps + n) ≤ length (now out) ⌝ }
     ensures { λ r. ⌜ (r .steps ≡ c .steps + n) × ((lent : List ℕ) (b : Building) → Writing lent (now (out .entry)) c b → Writing lent (now (out .exit)) r (doubled n b)) ⌝ }
 {
     let mut d = c;
-    let mut i: usize = 0;
-    while i < n {
+    let mut done: usize = 0;
+    while done < n {
         d = d.double(out);
-        i += 1;
+        done += 1;
     }
     d
 }

@@ -1,6 +1,5 @@
 -- `method_sliding_windows::counts` meets its contract. Assumes nothing.
-use mathlib.Core.Path.{_≡_}
-use Prim.Native.Nat.{ℕ, _+_, _*_, _≤_}
+use Prim.Native.Nat.{_+_, _*_, _≤_}
 use native.Mathlib.Omega.{arith}
 use Rattle.rules.specs.Limits.{numberBytes}
 use Rattle.integers.specs.Positional.{bytesValue}

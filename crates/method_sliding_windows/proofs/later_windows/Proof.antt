@@ -1,8 +1,7 @@
 -- `method_sliding_windows::later_windows` meets its contract: the windows from place i on are counted. Assumes nothing.
-use mathlib.Core.Path.{_≡_, refl}
-use Prim.Native.Nat.{ℕ, _+_, _-_, _≤_}
+use mathlib.Core.Path.{_≡_}
+use Prim.Native.Nat.{_+_, _≤_}
 use native.Mathlib.Omega.{arith}
-use lib.ListN.{length}
 use Rattle.integers.specs.Positional.{bytesValue}
 use Rattle.methods.specs.Forecast.{laterWindows}
 use Rattle.method_sliding_windows.proofs.Scan.{later-turn}

@@ -45,7 +45,7 @@ returns c =
     let e : ℕ = bytesValue (args .number .now) in
     let length = c .before .before .before .before .bit-length .ensures in
     let window : c .before .before .before .window-at .result ≡ windowAt e (bitLength e - 1) (args .width) = rw length at (c .before .before .before .window-at .ensures .0) in
-    rw (c .table-steps .ensures, add-one, length, c .before .position .ensures, window)
+    rw (c .table-steps .ensures, length, add-one (bitLength e - 1), c .before .position .ensures, window)
 
 pub start-of-spec : {M : Type 1} → statement M
 start-of-spec =

@@ -1,5 +1,5 @@
 -- `method_sliding_windows::table_counts` meets its contract. Assumes nothing.
-use mathlib.Core.Path.{_≡_, refl}
+use mathlib.Core.Path.{_≡_}
 use Prim.Native.Nat.{ℕ, zero, suc, _-_, _<_}
 use native.Mathlib.Omega.{arith}
 use Rattle.chains.specs.Counts.{counts}
@@ -10,13 +10,13 @@ use Rattle.method_sliding_windows.proofs.table_counts.Tie as tie
 use Rattle.method_sliding_windows.proofs.table_counts.Reads as reads
 use Rattle.method_sliding_windows.proofs.table_counts.Lts as lts
 
-sub-t4 : tie.Need-sub-t4
-sub-t4 c = search needs
-
 some-steps : (n : ℕ) → 0 < n → counts 1 (n - 1) 0 ≡ tableCounts n
 unfolding tableCounts
 some-steps zero h = absurd (omega arith)
 some-steps (suc n) h = let s : suc n - 1 ≡ n = omega arith in rw s
+
+sub-t4 : tie.Need-sub-t4
+sub-t4 c = search needs
 
 returns : tie.Need-returns
 unfolding tableCounts

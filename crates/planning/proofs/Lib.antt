@@ -1,2 +1,3 @@
 pub mod Granted
 pub mod Outcomes
+pub mod Promises

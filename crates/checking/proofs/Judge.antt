@@ -53,7 +53,7 @@ unnamed i s h = go (isNamed i s) refl
     go true e = absurd (h (named-is i s .0 e))
     go false e = e
 
-size-zero : (z : ℤ) → natAbs z ≡ 0 → z ≡ pos 0
+pub size-zero : (z : ℤ) → natAbs z ≡ 0 → z ≡ pos 0
 size-zero (pos n) e = ap pos e
 size-zero (negsuc n) e = absurd (omega arith)
 

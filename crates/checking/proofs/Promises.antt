@@ -1,12 +1,12 @@
 -- What document 01 promises of check, as theorems about the definitions that its statement cites. Assumes nothing.
 use mathlib.Core.Path.{_≡_, refl, sym, ap, _∙_}
 use mathlib.Core.Logic.{_↔_, _≢_, _⊎_, inl, inr}
-use mathlib.Core.List.{List, _++_}
+use mathlib.Core.List.{List}
 use Prim.Native.Nat.{ℕ, suc, _*_, _%_, _<_, _≤_}
 use native.Mathlib.Omega.{arith}
 use lib.IntN.{ℤ, pos, natAbs, ℤ-discrete}
-use lib.ListN.{length, take, drop}
-use Rattle.rules.specs.Limits.{numberBytes, stepBytes, planSteps, valueBound, recordBytes}
+use lib.ListN.{length, take}
+use Rattle.rules.specs.Limits.{numberBytes, stepBytes, planSteps, valueBound}
 use Rattle.rules.specs.declared.Refusal.{Refusal}
 use Rattle.rules.specs.declared.Refusal.the-variants.{NumberTooLong, NumberIsZero, PlanLength, WorkSpaceTooShort}
 use Rattle.rules.specs.declared.Counts.{Counts}
@@ -17,11 +17,11 @@ use Rattle.chains.specs.Steps.{Step, stepsOf}
 use Rattle.chains.specs.Values.{at, start, valuesOf, endOf}
 use Rattle.chains.specs.Sound.{stepAt, Named, Sound}
 use Rattle.chains.specs.Counts.{countsOf}
-use Rattle.chains.specs.Records.{recordsOf}
 use Rattle.chains.proofs.Records.{length-records}
 use Rattle.rules.specs.declared.Verdict.{Verdict}
 use Rattle.rules.specs.declared.Verdict.the-variants.{No}
 use Rattle.checking.specs.Check.{roomFor, admission, Judged, judge, judged, ended, stepsAnswer, checkAnswer, checkSpace}
+use Rattle.checking.specs.WorkSpace.{recorded}
 use Rattle.checking.proofs.Admission.{Admitted, Admits, number-too-long, number-is-zero, plan-length, space-too-short, admitted, admits, admits-only}
 use Rattle.checking.proofs.Judge.{Tested, unsound, value-is-zero, value-too-large, SoundTo, Judges, sound, stops, judges, judges-only, same-true, same-false}
 
@@ -158,15 +158,11 @@ module _ (number plan : List ℕ) (room : ℕ) where
 
 -- ---- memory
 
--- the records of these values from the start of a work space; bytes past these records stay
-abbrev pub recorded : List ℤ → List ℕ → List ℕ
-recorded values space = recordsOf values ++ drop (recordBytes * length values) space
-
 module _ (number plan space : List ℕ) where
   pub untouched : {r : Refusal} → admission number (length plan) (length space) ≡ No r → checkSpace number plan space ≡ space
   untouched e = rw e
 
-  filled : Admitted number plan (length space) → {j : Judged} → judge start (stepsOf plan) ≡ j → checkSpace number plan space ≡ recorded (j .values) space
+  pub filled : Admitted number plan (length space) → {j : Judged} → judge start (stepsOf plan) ≡ j → checkSpace number plan space ≡ recorded (j .values) space
   unfolding judged
   filled a {j} e = rw (admits-only number plan (length space) (admitted a), e, length-records (j .values))
 

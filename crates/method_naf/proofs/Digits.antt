@@ -1,19 +1,19 @@
 -- The bytes of canonical digits, and what recode leaves in an array with room for every number. Assumes nothing.
-use mathlib.Core.Path.{_≡_, refl, sym, _∙_}
+use mathlib.Core.Path.{_≡_, refl, _∙_}
 use mathlib.Core.Logic.{_≢_}
 use mathlib.Core.Bool.{Bool, true, false}
 use mathlib.Core.List.{List, _++_}
-use Prim.Native.Nat.{ℕ, _+_, _*_, _<_, _≤_}
+use Prim.Native.Nat.{ℕ, _+_, _≤_}
 use native.Mathlib.Omega.{arith}
-use lib.IntN.{ℤ, pos, negsuc}
-use lib.ListN.{length, getD, drop, List·getD-append, List·getD-map}
+use lib.IntN.{ℤ, pos}
+use lib.ListN.{length, drop, List·getD-append, List·getD-map}
 use mir.Val.{boolByte}
 use Rattle.rules.specs.Limits.{numberBytes}
 use Rattle.rules.specs.declared.Written.the-variants.{Length}
 use Rattle.integers.specs.Positional.{bytesValue}
 use Rattle.integers.proofs.Positional.{Below}
 use Rattle.signed_digits.specs.Strings.{digitAt}
-use Rattle.signed_digits.specs.Naf.{lowDigit, canonical}
+use Rattle.signed_digits.specs.Naf.{canonical}
 use Rattle.signed_digits.specs.Bytes.{digitByte}
 use Rattle.signed_digits.proofs.Steps.{rests, Low, even, plus as plus-one, minus as minus-one, low}
 use Rattle.signed_digits.proofs.Triple.{digit-left}

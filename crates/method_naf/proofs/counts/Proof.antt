@@ -8,7 +8,7 @@ use lib.ListN.{length, drop, drop-of-length-le}
 use Rattle.integers.specs.Positional.{bytesValue}
 use Rattle.signed_digits.specs.Strings.{digitAt}
 use Rattle.signed_digits.specs.Naf.{canonical}
-use Rattle.methods.specs.Forecast.{isPlus, isMinus, plusDigits, minusDigits}
+use Rattle.methods.specs.Forecast.{plusDigits, minusDigits}
 use Rattle.methods.proofs.Laws.{Small, number-small}
 use Rattle.methods.proofs.NonAdjacentForm.{some-digits, plus-from, minus-from, top-digit, naf-counts}
 use borrow.Author.Needs.{needs}
@@ -80,6 +80,12 @@ loop-again c =
     let y = c .minus .ensures .0 (digitAt ds (loop .i)) digit in
     (omega arith, omega arith, omega arith, omega (arith, plus-from ds (loop .i) within), omega (arith, minus-from ds (loop .i) within))
 
+cast-t8 : tie.Need-cast-t8 Inv-loop μ-loop
+cast-t8 c = search needs
+
+cast-t15 : tie.Need-cast-t15 Inv-loop μ-loop
+cast-t15 c = search needs
+
 returns : tie.Need-returns Inv-loop μ-loop
 returns c =
     let number = c .before .before .before .before .before .args .number .now in
@@ -110,4 +116,6 @@ counts-spec =
     add-i
     loop-less
     loop-again
+    cast-t8
+    cast-t15
     returns)

@@ -1,9 +1,8 @@
 -- `method_naf::write` meets its contract: the steps of the digits from i on are written. Assumes nothing.
-use mathlib.Core.Path.{_≡_, refl, sym, _∙_}
-use mathlib.Core.List.{List}
-use Prim.Native.Nat.{ℕ, suc, _<_, _≤_, _+_, _-_, _*_}
+use mathlib.Core.Path.{_≡_, refl}
+use Prim.Native.Nat.{ℕ, suc, _≤_, _+_, _-_}
 use native.Mathlib.Omega.{arith}
-use lib.IntN.{ℤ, pos}
+use lib.IntN.{pos}
 use lib.ListN.{length}
 use Rattle.integers.specs.Positional.{bytesValue}
 use Rattle.signed_digits.specs.Strings.{digitAt}
@@ -23,11 +22,11 @@ use Rattle.method_naf.proofs.recoded.Reads as recoded-reads
 use Rattle.plan_writing.proofs.Cursor.first.Reads as first-reads
 
 -- the steps of the digit at a place
-abbrev at : ℕ → ℕ → Building → Building
-at e i b = atDigit (digitAt (canonical (pos e)) i) b
+abbrev atPlace : ℕ → ℕ → Building → Building
+atPlace e i b = atDigit (digitAt (canonical (pos e)) i) b
 
 abbrev Inv-loop : tie.InvT-loop
-Inv-loop number out₀ digits c₀ i₀ out c i = (i + 1 ≤ length (canonical (pos (bytesValue number)))) × (length out ≡ length out₀) × Underway out₀ out c (at (bytesValue number)) i (nafSteps (bytesValue number))
+Inv-loop number out₀ digits c₀ i₀ out c i = (i + 1 ≤ length (canonical (pos (bytesValue number)))) × (length out ≡ length out₀) × Underway out₀ out c (atPlace (bytesValue number)) i (nafSteps (bytesValue number))
 
 abbrev μ-loop : tie.MeasureT-loop
 μ-loop number out₀ digits c₀ i₀ out c i = i
@@ -63,8 +62,8 @@ at-digit-requires c κs =
     let args = c .before .before .before .before .before .before .before .before .args in
     let e : ℕ = bytesValue (args .number .now) in
     let digit = c .before .before .before .recoded .ensures .digit (loop .i - 1) (search needs) in
-    let u : Underway (args .out .now) (loop .out) (loop .c) (at e) (suc (loop .i - 1)) (nafSteps e) = down (args .out .now) (loop .out) (loop .c) (at e) (nafSteps e) (loop .i) (search needs) (loop .inv .2) in
-    let room = underway-room (args .out .now) (loop .out) (loop .c) (at e) (nafSteps e) (loop .i - 1) (λ i b. omega (arith, length-at-digit (digitAt (canonical (pos e)) i) b)) u in
+    let u : Underway (args .out .now) (loop .out) (loop .c) (atPlace e) (suc (loop .i - 1)) (nafSteps e) = down (args .out .now) (loop .out) (loop .c) (atPlace e) (nafSteps e) (loop .i) (search needs) (loop .inv .2) in
+    let room = underway-room (args .out .now) (loop .out) (loop .c) (atPlace e) (nafSteps e) (loop .i - 1) (λ i b. omega (arith, length-at-digit (digitAt (canonical (pos e)) i) b)) u in
     let more = length-at-digit (digitAt (canonical (pos e)) (loop .i - 1)) (u .building) in
     (omega (arith, u .writing .steps), λ n. omega (arith, u .writing .steps, step-more digit n))
 
@@ -77,9 +76,9 @@ loop-again c =
     let args = c .before .before .before .before .before .before .before .before .before .before .before .args in
     let e : ℕ = bytesValue (args .number .now) in
     let digit = c .before .before .before .before .before .before .recoded .ensures .digit (loop .i - 1) (search needs) in
-    let u : Underway (args .out .now) (loop .out) (loop .c) (at e) (suc (loop .i - 1)) (nafSteps e) = down (args .out .now) (loop .out) (loop .c) (at e) (nafSteps e) (loop .i) (search needs) (loop .inv .2) in
+    let u : Underway (args .out .now) (loop .out) (loop .c) (atPlace e) (suc (loop .i - 1)) (nafSteps e) = down (args .out .now) (loop .out) (loop .c) (atPlace e) (nafSteps e) (loop .i) (search needs) (loop .inv .2) in
     let step = c .before .before .at-digit in
-    (omega arith, search needs, underway-next (args .out .now) (loop .out) (loop .c) (at e) (nafSteps e) (step .last .1 .0) (step .result) (loop .i - 1) u (step .ensures (args .out .now) (u .building) (digitAt (canonical (pos e)) (loop .i - 1)) digit (u .writing)))
+    (omega arith, search needs, underway-next (args .out .now) (loop .out) (loop .c) (atPlace e) (nafSteps e) (step .last .1 .0) (step .result) (loop .i - 1) u (step .ensures (args .out .now) (u .building) (digitAt (canonical (pos e)) (loop .i - 1)) digit (u .writing)))
 
 same-length : tie.Need-same-length Inv-loop μ-loop
 same-length c = search needs
@@ -90,7 +89,7 @@ returns c =
     let loop = c .before .loop in
     let e : ℕ = bytesValue (args .number .now) in
     let z : loop .i ≡ 0 = omega arith in
-    underway-end (args .out .now) (loop .out) (loop .c) (at e) (nafSteps e) (rw z at (loop .inv .2))
+    underway-end (args .out .now) (loop .out) (loop .c) (atPlace e) (nafSteps e) (rw z at (loop .inv .2))
 
 pub write-spec : {M : Type 1} → statement M
 write-spec =

@@ -17,11 +17,12 @@ use Rattle.chains.proofs.Bytes.{length-steps, step-at, counts-append}
 use Rattle.rules.specs.declared.Counts.{Counts}
 use Rattle.checking.specs.WorkSpace.{stepsIn}
 
-pub flag-small : (t : Bool) → boolByte t ≤ 1
-flag-small true = omega arith
-flag-small false = omega arith
+-- whether it is a doubling, an addition or a subtraction
+pub flags-small : (adds same : Bool) → (boolByte (adds && same) ≤ 1) × (boolByte (adds && not same) ≤ 1) × (boolByte (not adds) ≤ 1)
+flags-small true true = (omega arith, omega arith, omega arith)
+flags-small true false = (omega arith, omega arith, omega arith)
+flags-small false same = (omega arith, omega arith, omega arith)
 
--- whether it adds, and whether its positions are the same
 pub one-more : (c : Counts) (adds same : Bool)
     → counts (c .doublings + boolByte (adds && same)) (c .additions + boolByte (adds && not same)) (c .subtractions + boolByte (not adds))
     ≡ plus c (cond adds (cond same (counts 1 0 0) (counts 0 1 0)) (counts 0 0 1))

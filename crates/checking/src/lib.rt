@@ -123,9 +123,11 @@ pub fn count_step(counts: Counts, step: Step) -> Counts
 {
     let adds = step.operation == 0;
     let same = step.first == step.second;
+    let doubling = adds & same;
+    let addition = adds & !same;
     Counts {
-        doublings: counts.doublings + (adds & same) as usize,
-        additions: counts.additions + (adds & !same) as usize,
+        doublings: counts.doublings + doubling as usize,
+        additions: counts.additions + addition as usize,
         subtractions: counts.subtractions + !adds as usize,
     }
 }
@@ -168,10 +170,11 @@ fn is_number(v: Value, number: &[u8]) -> bool
     requires { ⌜ bytesValue (now number) ≢ 0 ⌝ }
     ensures { λ r. ⌜ r ≡ isSame (integerOf v) (pos (bytesValue (now (number .entry)))) ⌝ }
 {
-    if v.negative {
+    let words = v.words;
+    let negative = v.negative;
+    if negative {
         return false;
     }
-    let words = v.words;
     let own = words_of(number);
     let mut k = 0;
     while k < NUMBER_WORDS {

@@ -1,24 +1,24 @@
 -- `checking::count_step` meets its contract. Assumes nothing.
-use Rattle.checking.proofs.Counting.{flag-small, one-more, one-counted}
-use Rattle.checking.specs.WorkSpace.{stepsIn}
-use Rattle.chains.specs.Counts.{stepCounts}
-use lib.Dec.{eqb}
-use native.Mathlib.Omega.{arith}
-use mathlib.Core.Bool.{not, _&&_}
 use mathlib.Core.Path.{ap, _∙_}
+use native.Mathlib.Omega.{arith}
+use lib.Dec.{eqb}
+use Rattle.chains.specs.Counts.{stepCounts}
+use Rattle.checking.specs.WorkSpace.{stepsIn}
+use Rattle.checking.proofs.Counting.{flags-small, one-more, one-counted}
 use borrow.Author.Needs.{needs}
 use Rattle.checking.proofs.count_step.Statement.{statement}
 use Rattle.checking.proofs.count_step.Tie as tie
 use Rattle.checking.proofs.count_step.Reads as reads
 use Rattle.checking.proofs.count_step.Lts as lts
 
-cast-t6 : tie.Need-cast-t6
-cast-t6 c = search needs
+cast-t8 : tie.Need-cast-t8
+cast-t8 c = search needs
 
-add-t7 : tie.Need-add-t7
-add-t7 c =
+add-t9 : tie.Need-add-t9
+add-t9 c =
     let step = c .before .before .before .args .step in
-    omega (arith, flag-small (eqb (step .operation) 0 && eqb (step .first) (step .second)))
+    let small = flags-small (eqb (step .operation) 0) (eqb (step .first) (step .second)) in
+    omega arith
 
 cast-t10 : tie.Need-cast-t10
 cast-t10 c = search needs
@@ -26,24 +26,26 @@ cast-t10 c = search needs
 add-t11 : tie.Need-add-t11
 add-t11 c =
     let step = c .before .before .before .before .args .step in
-    omega (arith, flag-small (eqb (step .operation) 0 && not (eqb (step .first) (step .second))))
+    let small = flags-small (eqb (step .operation) 0) (eqb (step .first) (step .second)) in
+    omega arith
 
-cast-t13 : tie.Need-cast-t13
-cast-t13 c = search needs
+cast-t12 : tie.Need-cast-t12
+cast-t12 c = search needs
 
-add-t14 : tie.Need-add-t14
-add-t14 c =
+add-t13 : tie.Need-add-t13
+add-t13 c =
     let step = c .before .before .before .before .before .args .step in
-    omega (arith, flag-small (not (eqb (step .operation) 0)))
+    let small = flags-small (eqb (step .operation) 0) (eqb (step .first) (step .second)) in
+    omega arith
 
 returns : tie.Need-returns
 unfolding stepCounts
 returns c =
     let args = c .before .before .before .before .before .args in
-    let step = args .step in
-    let adds = eqb (step .operation) 0 in
-    let same = eqb (step .first) (step .second) in
-    (one-more (args .counts) adds same, ap stepsIn (one-more (args .counts) adds same) ∙ one-counted (args .counts) adds same)
+    let adds = eqb (args .step .operation) 0 in
+    let same = eqb (args .step .first) (args .step .second) in
+    let e = one-more (args .counts) adds same in
+    (e, ap stepsIn e ∙ one-counted (args .counts) adds same)
 
 pub count-step-spec : {M : Type 1} → statement M
-count-step-spec = tie.close (tie.spec cast-t6 add-t7 cast-t10 add-t11 cast-t13 add-t14 returns)
+count-step-spec = tie.close (tie.spec cast-t8 add-t9 cast-t10 add-t11 cast-t12 add-t13 returns)

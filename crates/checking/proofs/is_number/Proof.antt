@@ -20,14 +20,14 @@ use Rattle.checking.proofs.is_number.Lts as lts
 use Rattle.integers.proofs.words_of.Reads as words-of-reads
 
 abbrev Inv-loop : tie.InvT-loop
-Inv-loop number words own k₀ k = (k ≤ numberWords) × ((i : ℕ) → i < k → getD words i 0 ≡ getD own i 0)
+Inv-loop number words negative own k₀ k = (k ≤ numberWords) × ((i : ℕ) → i < k → getD words i 0 ≡ getD own i 0)
 
 abbrev μ-loop : tie.MeasureT-loop
-μ-loop number words own k₀ k = numberWords - k
+μ-loop number words negative own k₀ k = numberWords - k
 
 returns : tie.Need-returns Inv-loop μ-loop
 returns c =
-    let start = c .before .before in
+    let start = c .before .before .before in
     sym (below-zero (start .args .v) (bytesValue (start .args .number .now)) (c .if1 .taken) (start .pre .1))
 
 words-of-requires : tie.Need-words-of-requires Inv-loop μ-loop
@@ -64,7 +64,7 @@ returns-2 c =
     let called = c .before .before .before in
     let start = called .before .before .before .before in
     let v = start .args .v in
-    rw (same-size v (bytesValue (start .args .number .now)) (called .before .before .if1 .left), ← own-value called)
+    rw (same-size v (bytesValue (start .args .number .now)) (called .before .if1 .left), ← own-value called)
     (sym (ne-eqb (wordsValue (v .words)) (wordsValue (called .words-of .result)) (words-differ (v .words) (called .words-of .result) numberWords (words-fit called) (own-fit called) (c .before .before .loop .k) (c .if2 .taken))))
 
 add-k : tie.Need-add-k Inv-loop μ-loop
@@ -85,7 +85,7 @@ returns-3 c =
     let start = called .before .before .before .before in
     let v = start .args .v in
     let e : c .before .loop .k ≡ numberWords = omega arith in
-    rw (same-size v (bytesValue (start .args .number .now)) (called .before .before .if1 .left), ← own-value called)
+    rw (same-size v (bytesValue (start .args .number .now)) (called .before .if1 .left), ← own-value called)
     (top-decides (v .words) (called .words-of .result) numberWords (words-fit called) (own-fit called) (search needs) (search needs) (rw e at (c .before .loop .inv .1)))
 
 pub is-number-spec : {M : Type 1} → statement M

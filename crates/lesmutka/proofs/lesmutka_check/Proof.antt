@@ -1,0 +1,25 @@
+-- `lesmutka::lesmutka_check` meets its contract. Assumes nothing.
+use mathlib.Core.Path.{ap, _∙_}
+use Rattle.lesmutka.specs.Answers.{countedFields}
+use borrow.Author.Needs.{needs}
+use Rattle.lesmutka.proofs.lesmutka_check.Statement.{statement}
+use Rattle.lesmutka.proofs.lesmutka_check.Tie as tie
+use Rattle.lesmutka.proofs.lesmutka_check.Reads as reads
+use Rattle.lesmutka.proofs.lesmutka_check.Lts as lts
+use Rattle.checking.proofs.check.Reads as check-reads
+use Rattle.lesmutka.proofs.answers.of_counted.Reads as of-counted-reads
+
+check-requires : tie.Need-check-requires
+check-requires c κs = search needs
+
+of-counted-requires : tie.Need-of-counted-requires
+of-counted-requires c κs = search needs
+
+same-length : tie.Need-same-length
+same-length c = search needs
+
+returns : tie.Need-returns
+returns c = (c .of-counted .ensures ∙ ap countedFields (c .before .before .before .check .ensures .0), c .before .before .before .check .ensures .1)
+
+pub lesmutka-check-spec : {M : Type 1} → statement M
+lesmutka-check-spec = tie.close (tie.spec check-requires of-counted-requires same-length returns)

@@ -1,0 +1,22 @@
+-- `lesmutka::lesmutka_limits` meets its contract. Assumes nothing.
+use mathlib.Core.Path.{ap, _∙_}
+use Rattle.lesmutka.specs.Answers.{limitFields}
+use borrow.Author.Needs.{needs}
+use Rattle.lesmutka.proofs.lesmutka_limits.Statement.{statement}
+use Rattle.lesmutka.proofs.lesmutka_limits.Tie as tie
+use Rattle.lesmutka.proofs.lesmutka_limits.Reads as reads
+use Rattle.lesmutka.proofs.lesmutka_limits.Lts as lts
+use Rattle.lesmutka.proofs.answers.of_limits.Reads as of-limits-reads
+use Rattle.rules.proofs.current.Reads as current-reads
+
+current-requires : tie.Need-current-requires
+current-requires c κs = search needs
+
+of-limits-requires : tie.Need-of-limits-requires
+of-limits-requires c κs = search needs
+
+returns : tie.Need-returns
+returns c = c .of-limits .ensures ∙ ap limitFields (c .before .current .ensures)
+
+pub lesmutka-limits-spec : {M : Type 1} → statement M
+lesmutka-limits-spec = tie.close (tie.spec current-requires of-limits-requires returns)

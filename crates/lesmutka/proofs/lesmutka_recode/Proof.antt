@@ -1,0 +1,25 @@
+-- `lesmutka::lesmutka_recode` meets its contract. Assumes nothing.
+use mathlib.Core.Path.{ap, _∙_}
+use Rattle.lesmutka.specs.Answers.{writtenFields}
+use borrow.Author.Needs.{needs}
+use Rattle.lesmutka.proofs.lesmutka_recode.Statement.{statement}
+use Rattle.lesmutka.proofs.lesmutka_recode.Tie as tie
+use Rattle.lesmutka.proofs.lesmutka_recode.Reads as reads
+use Rattle.lesmutka.proofs.lesmutka_recode.Lts as lts
+use Rattle.lesmutka.proofs.answers.of_written.Reads as of-written-reads
+use Rattle.recoding.proofs.recode.Reads as recode-reads
+
+recode-requires : tie.Need-recode-requires
+recode-requires c κs = search needs
+
+of-written-requires : tie.Need-of-written-requires
+of-written-requires c κs = search needs
+
+same-length : tie.Need-same-length
+same-length c = search needs
+
+returns : tie.Need-returns
+returns c = (c .of-written .ensures ∙ ap writtenFields (c .before .before .before .recode .ensures .0), c .before .before .before .recode .ensures .1)
+
+pub lesmutka-recode-spec : {M : Type 1} → statement M
+lesmutka-recode-spec = tie.close (tie.spec recode-requires of-written-requires same-length returns)

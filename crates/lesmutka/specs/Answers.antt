@@ -1,0 +1,44 @@
+-- The answers as C takes them. Where a call is not refused, the refusal and its place are 0; where it is, they are document 01's number and place, and
+-- every other field is 0: a refusal answers its number and place and nothing else.
+use Prim.Native.Nat.{ℕ}
+use Rattle.rules.specs.Refusals.{refusalNumber, refusalPlace}
+use Rattle.rules.specs.declared.Written.{Written}
+use Rattle.rules.specs.declared.Written.the-variants.{Length as Fitted, Refused as NotWritten}
+use Rattle.rules.specs.declared.Counted.{Counted}
+use Rattle.rules.specs.declared.Counted.the-variants.{Steps as Counts, Refused as NotCounted}
+use Rattle.reading.specs.declared.ReadBack.{ReadBack}
+use Rattle.reading.specs.declared.ReadBack.the-variants.{Value as Reads, Refused as NotRead}
+use Rattle.recoding.specs.declared.recoder.Start.{Start}
+use Rattle.recoding.specs.declared.recoder.Start.the-variants.{Ready, Refused as NotStarted}
+use Rattle.rules.specs.declared.Limits.{Limits as Documented}
+use Rattle.lesmutka.specs.declared.answers.Limits.{Limits}
+use Rattle.lesmutka.specs.declared.answers.Started.{Started}
+use Rattle.lesmutka.specs.declared.answers.Length.{Length}
+use Rattle.lesmutka.specs.declared.answers.Value.{Value}
+use Rattle.lesmutka.specs.declared.answers.Steps.{Steps}
+
+abbrev pub startedFields : Start → Started
+startedFields Ready = record { refusal = 0; place = 0 }
+startedFields (NotStarted r) = record { refusal = refusalNumber r; place = refusalPlace r }
+
+abbrev pub writtenFields : Written → Length
+writtenFields (Fitted n) = record { refusal = 0; place = 0; length = n }
+writtenFields (NotWritten r) = record { refusal = refusalNumber r; place = refusalPlace r; length = 0 }
+
+abbrev pub readFields : ReadBack → Value
+readFields (Reads sign n) = record { refusal = 0; place = 0; sign = sign; length = n }
+readFields (NotRead r) = record { refusal = refusalNumber r; place = refusalPlace r; sign = 0; length = 0 }
+
+abbrev pub countedFields : Counted → Steps
+countedFields (Counts c) = record { refusal = 0; place = 0; doublings = c .doublings; additions = c .additions; subtractions = c .subtractions }
+countedFields (NotCounted r) = record { refusal = refusalNumber r; place = refusalPlace r; doublings = 0; additions = 0; subtractions = 0 }
+
+abbrev pub limitFields : Documented → Limits
+limitFields l = record {
+  «number_bytes» = l .«number_bytes»;
+  «string_digits» = l .«string_digits»;
+  «step_bytes» = l .«step_bytes»;
+  «plan_steps» = l .«plan_steps»;
+  «value_bytes» = l .«value_bytes»;
+  «record_bytes» = l .«record_bytes»;
+}

@@ -1,0 +1,138 @@
+// The answers as C takes them: structs of numbers. A refusal is its number and place, and all else
+// is 0; where a call is not refused, both are 0.
+use reading::ReadBack;
+use recoding::recoder::Start;
+use rules::Counted;
+use rules::Written;
+ghost use mathlib.Core.Path.{_≡_};
+ghost use Rattle.lesmutka.specs.Answers.{startedFields, writtenFields, readFields, countedFields, limitFields};
+
+// What the start of taking answers.
+#[repr(C)]
+pub struct Started {
+    pub refusal: usize,
+    pub place: usize,
+}
+
+// How many bytes were written.
+#[repr(C)]
+pub struct Length {
+    pub refusal: usize,
+    pub place: usize,
+    pub length: usize,
+}
+
+// The sign, 1 below zero, and how many bytes of size were written.
+#[repr(C)]
+pub struct Value {
+    pub refusal: usize,
+    pub place: usize,
+    pub sign: usize,
+    pub length: usize,
+}
+
+// How many steps of each kind.
+#[repr(C)]
+pub struct Steps {
+    pub refusal: usize,
+    pub place: usize,
+    pub doublings: usize,
+    pub additions: usize,
+    pub subtractions: usize,
+}
+
+// The limits that the library keeps.
+#[repr(C)]
+pub struct Limits {
+    pub number_bytes: usize,
+    pub string_digits: usize,
+    pub step_bytes: usize,
+    pub plan_steps: usize,
+    pub value_bytes: usize,
+    pub record_bytes: usize,
+}
+
+pub fn of_limits(limits: rules::Limits) -> Limits
+    ensures { λ r. ⌜ r ≡ limitFields limits ⌝ }
+{
+    Limits {
+        number_bytes: limits.number_bytes,
+        string_digits: limits.string_digits,
+        step_bytes: limits.step_bytes,
+        plan_steps: limits.plan_steps,
+        value_bytes: limits.value_bytes,
+        record_bytes: limits.record_bytes,
+    }
+}
+
+pub fn of_start(answer: Start) -> Started
+    ensures { λ r. ⌜ r ≡ startedFields answer ⌝ }
+{
+    match answer {
+        Start::Ready => Started {
+            refusal: 0,
+            place: 0,
+        },
+        Start::Refused(refusal) => Started {
+            refusal: refusal.number() as usize,
+            place: refusal.place(),
+        },
+    }
+}
+
+pub fn of_written(answer: Written) -> Length
+    ensures { λ r. ⌜ r ≡ writtenFields answer ⌝ }
+{
+    match answer {
+        Written::Length(length) => Length {
+            refusal: 0,
+            place: 0,
+            length,
+        },
+        Written::Refused(refusal) => Length {
+            refusal: refusal.number() as usize,
+            place: refusal.place(),
+            length: 0,
+        },
+    }
+}
+
+pub fn of_read_back(answer: ReadBack) -> Value
+    ensures { λ r. ⌜ r ≡ readFields answer ⌝ }
+{
+    match answer {
+        ReadBack::Value { sign, length } => Value {
+            refusal: 0,
+            place: 0,
+            sign: sign as usize,
+            length,
+        },
+        ReadBack::Refused(refusal) => Value {
+            refusal: refusal.number() as usize,
+            place: refusal.place(),
+            sign: 0,
+            length: 0,
+        },
+    }
+}
+
+pub fn of_counted(answer: Counted) -> Steps
+    ensures { λ r. ⌜ r ≡ countedFields answer ⌝ }
+{
+    match answer {
+        Counted::Steps(counts) => Steps {
+            refusal: 0,
+            place: 0,
+            doublings: counts.doublings,
+            additions: counts.additions,
+            subtractions: counts.subtractions,
+        },
+        Counted::Refused(refusal) => Steps {
+            refusal: refusal.number() as usize,
+            place: refusal.place(),
+            doublings: 0,
+            additions: 0,
+            subtractions: 0,
+        },
+    }
+}

@@ -1,0 +1,79 @@
+// Every call of document 01 for C and Rust: byte slices and numbers in, structs of numbers out. A
+// slice is passed as a pointer and a length. include/lesmutka.h says what each call takes and
+// leaves.
+mod answers;
+
+use answers::Length;
+use answers::Limits;
+use answers::Steps;
+use answers::Value;
+ghost use mathlib.Core.Path.{_≡_};
+ghost use lib.ListN.{length};
+ghost use Rattle.rules.specs.Limits.{documented};
+ghost use Rattle.recoding.specs.Recode.{recodeAnswer, recodeBuffer};
+ghost use Rattle.cleaning.specs.Clean.{cleanAnswer, cleanBuffer};
+ghost use Rattle.reading.specs.ReadBack.{readBackAnswer, readBackBuffer};
+ghost use Rattle.planning.specs.Plan.{forecastAnswer, planAnswer, planBuffer};
+ghost use Rattle.checking.specs.Check.{checkAnswer, checkSpace};
+ghost use Rattle.lesmutka.specs.Answers.{writtenFields, readFields, countedFields, limitFields};
+
+// Writes the canonical string of a number.
+#[no_mangle]
+pub extern "C" fn lesmutka_recode(number: &[u8], out: &mut [u8]) -> Length
+    ensures answer { λ r. ⌜ r ≡ writtenFields (recodeAnswer (now (number .entry)) (length (now (out .entry)))) ⌝ }
+    ensures buffer { λ r. ⌜ now (out .exit) ≡ recodeBuffer (now (number .entry)) (now (out .entry)) ⌝ }
+{
+    answers::of_written(recoding::recode(number, out))
+}
+
+// Writes the canonical string of a digit string's value.
+#[no_mangle]
+pub extern "C" fn lesmutka_clean(digits: &[u8], out: &mut [u8]) -> Length
+    ensures answer { λ r. ⌜ r ≡ writtenFields (cleanAnswer (now (digits .entry)) (length (now (out .entry)))) ⌝ }
+    ensures buffer { λ r. ⌜ now (out .exit) ≡ cleanBuffer (now (digits .entry)) (now (out .entry)) ⌝ }
+{
+    answers::of_written(cleaning::clean(digits, out))
+}
+
+// Writes the size of a digit string's value.
+#[no_mangle]
+pub extern "C" fn lesmutka_read_back(digits: &[u8], out: &mut [u8]) -> Value
+    ensures answer { λ r. ⌜ r ≡ readFields (readBackAnswer (now (digits .entry)) (length (now (out .entry)))) ⌝ }
+    ensures buffer { λ r. ⌜ now (out .exit) ≡ readBackBuffer (now (digits .entry)) (now (out .entry)) ⌝ }
+{
+    answers::of_read_back(reading::read_back(digits, out))
+}
+
+// Writes the plan for a number by a method.
+#[no_mangle]
+pub extern "C" fn lesmutka_plan(number: &[u8], method: u32, width: u32, out: &mut [u8]) -> Steps
+    ensures answer { λ r. ⌜ r ≡ countedFields (planAnswer (now (number .entry)) method width (length (now (out .entry)))) ⌝ }
+    ensures buffer { λ r. ⌜ now (out .exit) ≡ planBuffer (now (number .entry)) method width (now (out .entry)) ⌝ }
+{
+    answers::of_counted(planning::plan(number, method, width, out))
+}
+
+// The counts of that plan's steps.
+#[no_mangle]
+pub extern "C" fn lesmutka_forecast(number: &[u8], method: u32, width: u32) -> Steps
+    ensures { λ r. ⌜ r ≡ countedFields (forecastAnswer (now (number .entry)) method width) ⌝ }
+{
+    answers::of_counted(planning::forecast(number, method, width))
+}
+
+// Checks a plan for a number, in a lent work space.
+#[no_mangle]
+pub extern "C" fn lesmutka_check(number: &[u8], plan: &[u8], space: &mut [u8]) -> Steps
+    ensures answer { λ r. ⌜ r ≡ countedFields (checkAnswer (now (number .entry)) (now (plan .entry)) (length (now (space .entry)))) ⌝ }
+    ensures space { λ r. ⌜ now (space .exit) ≡ checkSpace (now (number .entry)) (now (plan .entry)) (now (space .entry)) ⌝ }
+{
+    answers::of_counted(checking::check(number, plan, space))
+}
+
+// The limits that the library keeps: those of document 01.
+#[no_mangle]
+pub extern "C" fn lesmutka_limits() -> Limits
+    ensures { λ r. ⌜ r ≡ limitFields documented ⌝ }
+{
+    answers::of_limits(rules::current())
+}

@@ -1,0 +1,811 @@
+//! Deterministic inputs for the calls, chosen so that each success and each
+//! refusal of document 01 comes up often. The same seed gives the same cases.
+
+use crate::{check, clean, forecast, plan, read_back, recode};
+
+/// SplitMix64.
+#[derive(Clone, Debug)]
+pub struct Rng {
+    state: u64,
+}
+
+impl Rng {
+    pub fn new(seed: u64) -> Rng {
+        Rng { state: seed }
+    }
+
+    pub fn next_u64(&mut self) -> u64 {
+        self.state = self.state.wrapping_add(0x9E37_79B9_7F4A_7C15);
+        let mut z = self.state;
+        z = (z ^ (z >> 30)).wrapping_mul(0xBF58_476D_1CE4_E5B9);
+        z = (z ^ (z >> 27)).wrapping_mul(0x94D0_49BB_1331_11EB);
+        z ^ (z >> 31)
+    }
+
+    pub fn next_byte(&mut self) -> u8 {
+        self.next_u64() as u8
+    }
+
+    /// A number from 0 to `n - 1`; 0 if `n` is 0.
+    pub fn below(&mut self, n: usize) -> usize {
+        ((u128::from(self.next_u64()) * n as u128) >> 64) as usize
+    }
+
+    /// A number from `low` to `high`, both included.
+    pub fn between(&mut self, low: usize, high: usize) -> usize {
+        low + self.below(high - low + 1)
+    }
+
+    /// True once in `n` times on average.
+    pub fn one_in(&mut self, n: usize) -> bool {
+        self.below(n) == 0
+    }
+
+    pub fn pick<T: Copy>(&mut self, from: &[T]) -> T {
+        from[self.below(from.len())]
+    }
+
+    pub fn bytes(&mut self, length: usize) -> Vec<u8> {
+        (0..length).map(|_| self.next_byte()).collect()
+    }
+}
+
+/// Input for `recode`; `room` is the length of the output buffer.
+#[derive(Clone, PartialEq, Eq, Debug)]
+pub struct RecodeCase {
+    pub number: Vec<u8>,
+    pub room: usize,
+}
+
+/// Input for a recoder; `takes` is how often to take, often past the end.
+#[derive(Clone, PartialEq, Eq, Debug)]
+pub struct TakeCase {
+    pub number: Vec<u8>,
+    pub takes: usize,
+}
+
+/// Input for `clean` and `read_back`.
+#[derive(Clone, PartialEq, Eq, Debug)]
+pub struct DigitsCase {
+    pub digits: Vec<u8>,
+    pub room: usize,
+}
+
+/// Input for `plan`.
+#[derive(Clone, PartialEq, Eq, Debug)]
+pub struct PlanCase {
+    pub number: Vec<u8>,
+    pub method: u32,
+    pub width: u32,
+    pub room: usize,
+}
+
+/// Input for `forecast`.
+#[derive(Clone, PartialEq, Eq, Debug)]
+pub struct ForecastCase {
+    pub number: Vec<u8>,
+    pub method: u32,
+    pub width: u32,
+}
+
+/// Input for `check`; `room` is the length of the work space.
+#[derive(Clone, PartialEq, Eq, Debug)]
+pub struct CheckCase {
+    pub number: Vec<u8>,
+    pub plan: Vec<u8>,
+    pub room: usize,
+}
+
+/// Every allowed pair of method and width.
+pub const METHODS: [(u32, u32); 14] = [
+    (1, 0),
+    (2, 1),
+    (2, 2),
+    (2, 3),
+    (2, 4),
+    (2, 5),
+    (2, 6),
+    (3, 1),
+    (3, 2),
+    (3, 3),
+    (3, 4),
+    (3, 5),
+    (3, 6),
+    (4, 0),
+];
+
+const BAD_DIGITS: [u8; 8] = [2, 3, 16, 127, 128, 129, 253, 254];
+
+/// A source of cases for each call.
+#[derive(Clone, Debug)]
+pub struct Generator {
+    rng: Rng,
+}
+
+impl Generator {
+    pub fn new(seed: u64) -> Generator {
+        Generator {
+            rng: Rng::new(seed),
+        }
+    }
+
+    pub fn rng(&mut self) -> &mut Rng {
+        &mut self.rng
+    }
+
+    pub fn recode_case(&mut self) -> RecodeCase {
+        let number = self.number();
+        let needed = recode(&number, &mut [0; 512]).unwrap_or(257);
+        let room = self.room(needed);
+        RecodeCase { number, room }
+    }
+
+    pub fn take_case(&mut self) -> TakeCase {
+        let number = self.number();
+        let digits = recode(&number, &mut [0; 512]).unwrap_or(0);
+        let takes = match self.rng.below(4) {
+            0 => self.rng.below(digits + 1),
+            1 => digits,
+            _ => digits + self.rng.between(1, 4),
+        };
+        TakeCase { number, takes }
+    }
+
+    pub fn clean_case(&mut self) -> DigitsCase {
+        let digits = self.digit_string();
+        let needed = clean(&digits, &mut [0; 600]).unwrap_or(513);
+        let room = self.room(needed);
+        DigitsCase { digits, room }
+    }
+
+    pub fn read_back_case(&mut self) -> DigitsCase {
+        let digits = self.digit_string();
+        let needed = match read_back(&digits, &mut [0; 100]) {
+            Ok((_, bytes)) => bytes,
+            Err(_) => 64,
+        };
+        let room = self.room(needed);
+        DigitsCase { digits, room }
+    }
+
+    pub fn plan_case(&mut self) -> PlanCase {
+        let number = self.number();
+        let (method, width) = self.method_and_width();
+        let needed = match forecast(&number, method, width) {
+            Ok(counts) => 5 * counts.total(),
+            Err(_) => 1000,
+        };
+        let room = self.room(needed);
+        PlanCase {
+            number,
+            method,
+            width,
+            room,
+        }
+    }
+
+    pub fn forecast_case(&mut self) -> ForecastCase {
+        let number = self.number();
+        let (method, width) = self.method_and_width();
+        ForecastCase {
+            number,
+            method,
+            width,
+        }
+    }
+
+    pub fn check_case(&mut self) -> CheckCase {
+        let (number, plan) = self.number_and_plan();
+        // Now and then the number does not belong to the plan at all.
+        let number = match self.rng.below(16) {
+            0 => self.number(),
+            1 => self.zero(),
+            2 => self.too_long(),
+            _ => number,
+        };
+        let room = self.space(plan.len() / 5);
+        CheckCase { number, plan, room }
+    }
+
+    // Numbers.
+
+    /// A number of 0 to 40 bytes, mostly at most 32.
+    pub fn number(&mut self) -> Vec<u8> {
+        match self.rng.below(16) {
+            0 => self.zero(),
+            1 => self.too_long(),
+            _ => self.nonzero_number(),
+        }
+    }
+
+    fn zero(&mut self) -> Vec<u8> {
+        let length = self.rng.pick(&[0, 0, 1, 2, 8, 31, 32, 32]);
+        vec![0; length]
+    }
+
+    fn too_long(&mut self) -> Vec<u8> {
+        let length = self.rng.between(33, 40);
+        match self.rng.below(4) {
+            0 => vec![0; length],
+            1 => vec![0xFF; length],
+            2 => {
+                let mut bytes = self.rng.bytes(32);
+                bytes.resize(length, 0);
+                bytes
+            }
+            _ => self.rng.bytes(length),
+        }
+    }
+
+    /// A number of at most 32 bytes that is not zero.
+    fn nonzero_number(&mut self) -> Vec<u8> {
+        let mut number = match self.rng.below(14) {
+            0 | 1 => {
+                let length = self.rng.between(1, 32);
+                self.rng.bytes(length)
+            }
+            2 => self.rng.bytes(32),
+            3 => {
+                let length = self.rng.between(1, 32);
+                vec![0xFF; length]
+            }
+            4 => {
+                let place = self.rng.below(256);
+                power_of_two(place)
+            }
+            5 => {
+                // 2^k - 1, 2^k + 1 and other runs of ones.
+                let low = self.rng.below(256);
+                let high = self.rng.below(256);
+                run_of_ones(low.min(high), low.max(high))
+            }
+            6 => {
+                let high = self.rng.below(256);
+                run_of_ones(0, high)
+            }
+            7 => {
+                let length = self.rng.between(1, 32);
+                let byte = self
+                    .rng
+                    .pick(&[0x55, 0xAA, 0x33, 0xCC, 0x6D, 0xB6, 0xDB, 0x11]);
+                vec![byte; length]
+            }
+            8 => self.runs(),
+            9 | 10 => vec![self.rng.between(1, 130) as u8],
+            11 => {
+                let value = self.rng.between(1, 70_000) as u32;
+                value.to_le_bytes().to_vec()
+            }
+            12 => self.sparse(),
+            _ => {
+                // Around a border between two words or bytes.
+                let place = self.rng.pick(&[7, 8, 63, 64, 65, 127, 128, 191, 192, 255]);
+                let mut bytes = power_of_two(place);
+                bytes[0] |= self.rng.next_byte();
+                bytes
+            }
+        };
+        if number.iter().all(|&byte| byte == 0) {
+            number = vec![self.rng.between(1, 255) as u8];
+        }
+        if self.rng.one_in(4) {
+            let length = self.rng.between(number.len(), 32);
+            number.resize(length, 0);
+        }
+        number
+    }
+
+    /// Long runs of ones and zeros in turn.
+    fn runs(&mut self) -> Vec<u8> {
+        let mut number = vec![0; 32];
+        let longest = self.rng.pick(&[3, 8, 40, 100]);
+        let mut place = self.rng.below(4);
+        while place < 256 {
+            let end = (place + self.rng.between(1, longest)).min(256);
+            for bit in place..end {
+                number[bit / 8] |= 1 << (bit % 8);
+            }
+            place = end + self.rng.between(1, longest);
+        }
+        let length = self.rng.between(1, 32);
+        number.truncate(length);
+        number
+    }
+
+    fn sparse(&mut self) -> Vec<u8> {
+        let mut number = vec![0; 32];
+        for _ in 0..self.rng.between(1, 5) {
+            let place = self.rng.below(256);
+            number[place / 8] |= 1 << (place % 8);
+        }
+        number
+    }
+
+    // Methods.
+
+    /// A method and a width, mostly an allowed pair.
+    pub fn method_and_width(&mut self) -> (u32, u32) {
+        if !self.rng.one_in(6) {
+            return self.rng.pick(&METHODS);
+        }
+        const METHOD: [u32; 12] = [0, 1, 2, 3, 4, 5, 6, 256, 257, 258, 1 << 31, u32::MAX];
+        const WIDTH: [u32; 14] = [
+            0,
+            1,
+            2,
+            6,
+            7,
+            8,
+            64,
+            255,
+            256,
+            257,
+            262,
+            1 << 31,
+            u32::MAX - 1,
+            u32::MAX,
+        ];
+        match self.rng.below(4) {
+            0 => (self.rng.pick(&METHOD), self.rng.pick(&WIDTH)),
+            1 => (self.rng.pick(&[1, 4]), self.rng.between(1, 7) as u32),
+            2 => (self.rng.pick(&[2, 3]), self.rng.pick(&[0, 7])),
+            _ => (self.rng.pick(&METHOD), self.rng.below(8) as u32),
+        }
+    }
+
+    // Digit strings.
+
+    /// A digit string of 0 to 520 bytes, sometimes damaged.
+    pub fn digit_string(&mut self) -> Vec<u8> {
+        let length = match self.rng.below(8) {
+            0 => self.rng.below(4),
+            1 => self.rng.between(508, 512),
+            2 => self.rng.pick(&[510, 511, 512, 513, 514]),
+            3 => self.rng.below(521),
+            4 => self.rng.pick(&[63, 64, 65, 127, 128, 129, 256, 257, 320]),
+            _ => self.rng.below(300),
+        };
+        let mut digits = match self.rng.below(13) {
+            0 => vec![0x01; length],
+            1 => vec![0xFF; length],
+            2 => vec![0x00; length],
+            3 => [0x01, 0xFF].iter().copied().cycle().take(length).collect(),
+            4 => [0xFF, 0x01].iter().copied().cycle().take(length).collect(),
+            5 => {
+                // Digits below, zeros on top.
+                let used = self.rng.below(length + 1);
+                let mut digits = self.digits(used, 2);
+                digits.resize(length, 0x00);
+                digits
+            }
+            6 => self.digits(length, 20),
+            7 => self.digit_runs(length),
+            8 => self.canonical(length),
+            9 => {
+                // A top digit that all the others nearly cancel.
+                let (top, lower) = self.rng.pick(&[(0x01, 0xFF), (0xFF, 0x01)]);
+                let mut digits = vec![lower; length];
+                if let Some(last) = digits.last_mut() {
+                    *last = top;
+                }
+                digits
+            }
+            10 => self.digits(length, 1),
+            _ => self.digits(length, 3),
+        };
+        if self.rng.one_in(5) {
+            self.damage_digits(&mut digits);
+        }
+        digits
+    }
+
+    /// Random digits; about one in `spread` is drawn from 1, minus 1, the
+    /// others are 0.
+    fn digits(&mut self, length: usize, spread: usize) -> Vec<u8> {
+        (0..length)
+            .map(|_| match self.rng.one_in(spread) {
+                true => self.rng.pick(&[0x01, 0xFF]),
+                false => 0x00,
+            })
+            .collect()
+    }
+
+    fn digit_runs(&mut self, length: usize) -> Vec<u8> {
+        let mut digits = Vec::new();
+        while digits.len() < length {
+            let digit = self.rng.pick(&[0x00, 0x01, 0xFF]);
+            let run = self.rng.between(1, 12);
+            digits.extend(std::iter::repeat(digit).take(run));
+        }
+        digits.truncate(length);
+        digits
+    }
+
+    /// A canonical string, of about the length where that can be had.
+    fn canonical(&mut self, length: usize) -> Vec<u8> {
+        let digits = self.digits(length.min(512), 2);
+        let mut canonical = vec![0; 513];
+        let length = clean(&digits, &mut canonical).unwrap_or(0);
+        canonical.truncate(length);
+        canonical
+    }
+
+    fn damage_digits(&mut self, digits: &mut [u8]) {
+        if digits.is_empty() {
+            return;
+        }
+        let last = digits.len() - 1;
+        match self.rng.below(4) {
+            0 => digits[0] = self.rng.pick(&BAD_DIGITS),
+            1 => digits[last] = self.rng.pick(&BAD_DIGITS),
+            2 => {
+                for _ in 0..self.rng.between(2, 5) {
+                    let place = self.rng.below(last + 1);
+                    digits[place] = self.rng.next_byte();
+                }
+            }
+            _ => {
+                let place = self.rng.below(last + 1);
+                digits[place] = self.rng.pick(&BAD_DIGITS);
+            }
+        }
+    }
+
+    // Buffers.
+
+    /// A length for an output buffer where `needed` bytes are needed.
+    fn room(&mut self, needed: usize) -> usize {
+        match self.rng.below(10) {
+            0 | 1 => needed.saturating_sub(1),
+            2 => 0,
+            3 => self.rng.below(2 * needed + 2),
+            4 => needed + 1,
+            5 | 6 => needed + self.rng.below(100),
+            _ => needed,
+        }
+    }
+
+    /// A length for the work space of a plan with that many steps.
+    fn space(&mut self, steps: usize) -> usize {
+        let needed = 34 * (steps + 1);
+        match self.rng.below(24) {
+            0 => needed - 1,
+            1 => needed - self.rng.pick(&[33, 34, needed]),
+            2 => self.rng.below(2 * needed),
+            3 | 4 => needed + 1,
+            5..=8 => needed + self.rng.below(100),
+            _ => needed,
+        }
+    }
+
+    // Plans.
+
+    fn number_and_plan(&mut self) -> (Vec<u8>, Vec<u8>) {
+        let number = self.nonzero_number();
+        let mut steps = self.own_plan(&number);
+        match self.rng.below(21) {
+            0..=2 => {}
+            3 => {
+                // One byte changed.
+                if !steps.is_empty() {
+                    let place = self.rng.below(steps.len());
+                    steps[place] = match self.rng.below(3) {
+                        0 => self.rng.next_byte(),
+                        1 => steps[place] ^ (1 << self.rng.below(8)),
+                        _ => self.rng.pick(&[0, 1, 2, 255]),
+                    };
+                }
+            }
+            4 => {
+                // Cut short, or a few bytes too many.
+                if self.rng.one_in(2) {
+                    let length = self.rng.below(steps.len() + 1);
+                    steps.truncate(length);
+                } else {
+                    let more = self.rng.between(1, 9);
+                    steps.extend(self.rng.bytes(more));
+                }
+            }
+            5 => {
+                // Whole steps cut off.
+                let length = self.rng.below(steps.len() / 5 + 1);
+                steps.truncate(5 * length);
+            }
+            6 => {
+                for _ in 0..self.rng.between(1, 5) {
+                    self.push_random_step(&mut steps, 3);
+                }
+            }
+            7 => {
+                // A plan for another number.
+                let other = self.nonzero_number();
+                return (other, steps);
+            }
+            8 => {
+                // The next number, or one 255 below it.
+                let mut other = number;
+                other[0] = other[0].wrapping_add(1);
+                return (other, steps);
+            }
+            9 | 10 => {
+                let length = self.rng.pick(&[1, 2, 3, 5, 8, 20, 60]);
+                let spread = self.rng.pick(&[1, 2, 4, 30]);
+                let steps = self.random_plan(length, spread);
+                return (self.end_of(&steps).unwrap_or(number), steps);
+            }
+            11 => {
+                let length = self.rng.pick(&[100, 250, 300, 400]);
+                let spread = self.rng.pick(&[2, 4, 30]);
+                let steps = self.random_plan(length, spread);
+                return (self.end_of(&steps).unwrap_or(number), steps);
+            }
+            12 => {
+                // Around the longest plan.
+                let filler = match self.rng.below(3) {
+                    0 => 641,
+                    1 => self.rng.between(630, 650),
+                    _ => 640,
+                };
+                let count = filler - (steps.len() / 5).min(filler);
+                steps = after(filler_steps(count), &steps);
+            }
+            13 => {
+                let number = match self.rng.below(4) {
+                    0 => number,
+                    1 => vec![2],
+                    2 => vec![1],
+                    _ => vec![1, 0, 0],
+                };
+                return (number, Vec::new());
+            }
+            14 => {
+                // Minus the number: n + 1, then 1 - (n + 1).
+                let end = steps.len() / 5;
+                push(&mut steps, 0, end, 0);
+                push(&mut steps, 1, 0, end + 1);
+            }
+            15 => self.damage_position(&mut steps),
+            16 => {
+                // A value of zero, at the end or on the way.
+                let keep = self.rng.below(steps.len() / 5 + 1);
+                let rest = steps.split_off(5 * keep);
+                let position = self.rng.below(keep + 1);
+                push(&mut steps, 1, position, position);
+                steps.extend(rest);
+            }
+            17 => {
+                // Any bytes whatever, mostly a whole number of steps.
+                let length = self.rng.below(40);
+                let extra = usize::from(self.rng.one_in(4));
+                steps = self.rng.bytes(5 * length + extra);
+            }
+            _ => {
+                let border = self.border_plan();
+                if self.rng.one_in(2) {
+                    return (self.end_of(&border).unwrap_or(number), border);
+                }
+                // Large values first, then the plan for the number.
+                steps = after(border, &steps);
+            }
+        }
+        (number, steps)
+    }
+
+    /// The plan of a random method for a number.
+    fn own_plan(&mut self, number: &[u8]) -> Vec<u8> {
+        let (method, width) = self.rng.pick(&METHODS);
+        let mut steps = vec![0; 3200];
+        let length = match plan(number, method, width, &mut steps) {
+            Ok(counts) => 5 * counts.total(),
+            Err(_) => 0,
+        };
+        steps.truncate(length);
+        steps
+    }
+
+    /// An unknown operation, or a position that is not below the step's own.
+    fn damage_position(&mut self, steps: &mut Vec<u8>) {
+        if steps.is_empty() {
+            push(steps, 0, 0, 0);
+        }
+        let i = match self.rng.below(3) {
+            0 => 1,
+            1 => steps.len() / 5,
+            _ => self.rng.between(1, steps.len() / 5),
+        };
+        let step = &mut steps[5 * (i - 1)..5 * i];
+        let position = match self.rng.below(4) {
+            0 => 65_535,
+            1 => (i + 1) as u16,
+            2 => (i + 256) as u16,
+            _ => i as u16,
+        };
+        match self.rng.below(3) {
+            0 => step[0] = self.rng.pick(&[2, 3, 128, 254, 255]),
+            1 => step[1..3].copy_from_slice(&position.to_le_bytes()),
+            _ => step[3..5].copy_from_slice(&position.to_le_bytes()),
+        }
+    }
+
+    /// A step with positions in order; one in `spread` of the positions is any
+    /// position, the others are among the latest two.
+    fn push_random_step(&mut self, steps: &mut Vec<u8>, spread: usize) {
+        let latest = steps.len() / 5;
+        let position = |rng: &mut Rng| {
+            if rng.one_in(spread) {
+                rng.below(latest + 1)
+            } else {
+                latest - rng.below(2).min(latest)
+            }
+        };
+        let j = position(&mut self.rng);
+        let mut k = position(&mut self.rng);
+        let operation = u8::from(self.rng.one_in(3));
+        // A difference of equal positions is zero: seldom.
+        if operation == 1 && j == k && !self.rng.one_in(40) {
+            k = if j == 0 { latest } else { 0 };
+        }
+        let operation = if j == k && operation == 1 && latest == 0 {
+            0
+        } else {
+            operation
+        };
+        push(steps, operation, j, k);
+    }
+
+    fn random_plan(&mut self, length: usize, spread: usize) -> Vec<u8> {
+        let mut steps = Vec::with_capacity(5 * length);
+        for _ in 0..length {
+            self.push_random_step(&mut steps, spread);
+        }
+        steps
+    }
+
+    /// Values around 2^264, below it or at it, on either side of zero.
+    fn border_plan(&mut self) -> Vec<u8> {
+        let mut steps = Vec::new();
+        for i in 0..263 {
+            push(&mut steps, 0, i, i);
+        }
+        // Position 263 holds 2^263.
+        match self.rng.below(12) {
+            0 => {}
+            1 => push(&mut steps, 0, 263, 263),
+            2 | 3 => {
+                push(&mut steps, 1, 263, 0); // 2^263 - 1
+                push(&mut steps, 0, 263, 264); // 2^264 - 1
+                match self.rng.below(6) {
+                    0 => {}
+                    1 => push(&mut steps, 0, 265, 0), // 2^264
+                    2 => push(&mut steps, 0, 265, 265),
+                    3 => push(&mut steps, 0, 0, 265),
+                    4 => push(&mut steps, 1, 263, 264), // 1
+                    _ => {
+                        push(&mut steps, 1, 0, 265); // -(2^264 - 2)
+                        push(&mut steps, 1, 266, 0); // -(2^264 - 1)
+                        if self.rng.one_in(2) {
+                            push(&mut steps, 1, 267, 0); // -2^264
+                        }
+                    }
+                }
+            }
+            4 | 5 => {
+                push(&mut steps, 1, 0, 263); // -(2^263 - 1)
+                push(&mut steps, 1, 264, 263); // -(2^264 - 1)
+                match self.rng.below(6) {
+                    0 => {}
+                    1 => push(&mut steps, 1, 265, 0), // -2^264
+                    2 => push(&mut steps, 0, 265, 265),
+                    3 => push(&mut steps, 0, 265, 0), // -(2^264 - 2)
+                    4 => push(&mut steps, 1, 0, 265), // 2^264
+                    _ => push(&mut steps, 1, 265, 265),
+                }
+            }
+            6 | 7 => {
+                push(&mut steps, 0, 263, 0); // 2^263 + 1
+                push(&mut steps, 1, 0, 264); // -2^263
+                match self.rng.below(5) {
+                    0 => push(&mut steps, 1, 265, 263), // -2^264
+                    1 => push(&mut steps, 0, 265, 265), // -2^264
+                    2 => push(&mut steps, 1, 263, 265), // 2^264
+                    3 => push(&mut steps, 0, 263, 265), // 0
+                    _ => push(&mut steps, 0, 264, 265), // 1
+                }
+            }
+            8 | 9 => {
+                // 2^264 - 2^k, then 2^k or 2^k - 1 or 2^k - 2^m more.
+                let place = self.rng.below(263);
+                push(&mut steps, 1, 263, place);
+                push(&mut steps, 0, 264, 263);
+                match self.rng.below(4) {
+                    0 => push(&mut steps, 0, 265, place),
+                    1 => push(&mut steps, 0, place, 265),
+                    2 => push(&mut steps, 1, place, 265),
+                    _ => {
+                        let lower = self.rng.below(place + 1);
+                        push(&mut steps, 0, 265, lower);
+                    }
+                }
+            }
+            10 => {
+                // Down from the border in differences of powers of two.
+                let mut high = 263;
+                for _ in 0..self.rng.between(1, 20) {
+                    let low = self.rng.below(high);
+                    push(&mut steps, 1, high, low);
+                    high = low.max(1);
+                }
+            }
+            _ => {
+                for _ in 0..self.rng.between(1, 8) {
+                    self.push_random_step(&mut steps, 1);
+                }
+            }
+        }
+        steps
+    }
+
+    /// The value a plan ends at, if it is sound and its end is a number above
+    /// zero of at most 32 bytes.
+    fn end_of(&self, steps: &[u8]) -> Option<Vec<u8>> {
+        let count = steps.len() / 5;
+        let mut space = vec![0; 34 * (count + 1)];
+        match check(&[1], steps, &mut space) {
+            Err(refusal) if refusal.number != 12 => return None,
+            _ => {}
+        }
+        let record = &space[34 * count..];
+        if record[0] != 0 || record[33] != 0 {
+            return None;
+        }
+        Some(record[1..33].to_vec())
+    }
+}
+
+fn power_of_two(place: usize) -> Vec<u8> {
+    let mut number = vec![0; place / 8 + 1];
+    number[place / 8] = 1 << (place % 8);
+    number
+}
+
+/// Ones at the places from `low` to `high`.
+fn run_of_ones(low: usize, high: usize) -> Vec<u8> {
+    let mut number = vec![0; high / 8 + 1];
+    for place in low..=high {
+        number[place / 8] |= 1 << (place % 8);
+    }
+    number
+}
+
+fn push(steps: &mut Vec<u8>, operation: u8, j: usize, k: usize) {
+    steps.push(operation);
+    steps.extend((j as u16).to_le_bytes());
+    steps.extend((k as u16).to_le_bytes());
+}
+
+/// Sound steps with the values 2, 3 and -1 over and over.
+fn filler_steps(count: usize) -> Vec<u8> {
+    let mut steps = Vec::with_capacity(5 * count);
+    for i in 0..count {
+        match i % 3 {
+            0 => push(&mut steps, 0, 0, 0),
+            1 => push(&mut steps, 0, 0, i),
+            _ => push(&mut steps, 1, 0, i - 1),
+        }
+    }
+    steps
+}
+
+/// A plan behind other steps: position 0 stays, all others move up.
+fn after(mut first: Vec<u8>, then: &[u8]) -> Vec<u8> {
+    let offset = first.len() / 5;
+    for step in then.chunks_exact(5) {
+        let moved = |low: u8, high: u8| match usize::from(u16::from_le_bytes([low, high])) {
+            0 => 0,
+            position => position + offset,
+        };
+        let (j, k) = (moved(step[1], step[2]), moved(step[3], step[4]));
+        push(&mut first, step[0], j, k);
+    }
+    first
+}

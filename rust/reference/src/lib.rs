@@ -1,0 +1,59 @@
+//! Signed digit recoding and addition-subtraction chains for numbers of up to
+//! 256 bits, as laid down in document 01. No call allocates or panics.
+
+#![forbid(unsafe_code)]
+
+mod check;
+mod digits;
+pub mod generate;
+mod naf;
+mod number;
+mod plan;
+mod words;
+
+pub use check::check;
+pub use digits::read_back;
+pub use naf::{clean, recode, Recoder};
+pub use plan::{forecast, plan};
+
+/// A refusal: its number in the table of document 01, and its place.
+#[derive(Clone, Copy, PartialEq, Eq, Debug)]
+pub struct Refusal {
+    pub number: u8,
+    pub place: usize,
+}
+
+impl Refusal {
+    pub(crate) fn new(number: u8, place: usize) -> Refusal {
+        Refusal { number, place }
+    }
+}
+
+/// How many steps of each kind a plan has.
+///
+/// An add step with equal positions is a doubling, any other add step is an
+/// addition, each subtract step is a subtraction.
+#[derive(Clone, Copy, PartialEq, Eq, Debug)]
+pub struct Counts {
+    pub doublings: usize,
+    pub additions: usize,
+    pub subtractions: usize,
+}
+
+impl Counts {
+    pub(crate) const NONE: Counts = Counts {
+        doublings: 0,
+        additions: 0,
+        subtractions: 0,
+    };
+
+    pub(crate) fn total(self) -> usize {
+        self.doublings + self.additions + self.subtractions
+    }
+}
+
+/// Refusal 6 if `out` has fewer than `needed` bytes, otherwise the first
+/// `needed` bytes of it, the only ones a success may change.
+pub(crate) fn output(out: &mut [u8], needed: usize) -> Result<&mut [u8], Refusal> {
+    out.get_mut(..needed).ok_or(Refusal::new(6, needed))
+}

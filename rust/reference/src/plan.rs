@@ -1,0 +1,289 @@
+//! Planning by the four methods, and the forecast of a plan's counts.
+
+use crate::naf::Naf;
+use crate::number::Number;
+use crate::{output, Counts, Refusal};
+
+/// Bytes of one step: the operation and two positions.
+pub(crate) const STEP_BYTES: usize = 5;
+pub(crate) const ADD: u8 = 0x00;
+pub(crate) const SUBTRACT: u8 = 0x01;
+
+#[derive(Clone, Copy)]
+enum Method {
+    Binary,
+    FixedWindows(usize),
+    SlidingWindows(usize),
+    Naf,
+}
+
+impl Method {
+    /// Refusal 3: no such method, or a width it does not allow.
+    fn select(method: u32, width: u32) -> Result<Method, Refusal> {
+        match (method, width) {
+            (1, 0) => Ok(Method::Binary),
+            (2, 1..=6) => Ok(Method::FixedWindows(width as usize)),
+            (3, 1..=6) => Ok(Method::SlidingWindows(width as usize)),
+            (4, 0) => Ok(Method::Naf),
+            _ => Err(Refusal::new(3, 0)),
+        }
+    }
+}
+
+/// Writes the plan for a number by a method; answers the counts of its steps.
+///
+/// Refusals in order: 1, 2, 3, 6.
+pub fn plan(number: &[u8], method: u32, width: u32, out: &mut [u8]) -> Result<Counts, Refusal> {
+    let number = Number::read_nonzero(number)?;
+    let method = Method::select(method, width)?;
+    let counts = count(&number, method);
+    let mut chain = Chain::new(output(out, STEP_BYTES * counts.total())?);
+    match method {
+        Method::Binary => binary(&number, &mut chain),
+        Method::FixedWindows(width) => fixed_windows(&number, width, &mut chain),
+        Method::SlidingWindows(width) => sliding_windows(&number, width, &mut chain),
+        Method::Naf => non_adjacent_form(&number, &mut chain),
+    }
+    debug_assert_eq!(chain.filled, counts.total());
+    Ok(counts)
+}
+
+/// The counts of the plan that the same inputs give, without the plan.
+///
+/// Refusals in order: 1, 2, 3.
+pub fn forecast(number: &[u8], method: u32, width: u32) -> Result<Counts, Refusal> {
+    let number = Number::read_nonzero(number)?;
+    let method = Method::select(method, width)?;
+    Ok(count(&number, method))
+}
+
+/// A chain as it is written: its steps so far and the latest position.
+struct Chain<'a> {
+    out: &'a mut [u8],
+    /// The last position filled; position 0 holds 1 without a step.
+    filled: usize,
+    latest: usize,
+}
+
+impl<'a> Chain<'a> {
+    fn new(out: &'a mut [u8]) -> Chain<'a> {
+        Chain {
+            out,
+            filled: 0,
+            latest: 0,
+        }
+    }
+
+    fn step(&mut self, operation: u8, j: usize, k: usize) {
+        let start = STEP_BYTES * self.filled;
+        let [j_low, j_high] = (j as u16).to_le_bytes();
+        let [k_low, k_high] = (k as u16).to_le_bytes();
+        self.out[start..start + STEP_BYTES]
+            .copy_from_slice(&[operation, j_low, j_high, k_low, k_high]);
+        self.filled += 1;
+        self.latest = self.filled;
+    }
+
+    fn double(&mut self) {
+        self.step(ADD, self.latest, self.latest);
+    }
+
+    fn add(&mut self, position: usize) {
+        self.step(ADD, self.latest, position);
+    }
+
+    fn subtract(&mut self, position: usize) {
+        self.step(SUBTRACT, self.latest, position);
+    }
+}
+
+fn count(number: &Number, method: Method) -> Counts {
+    match method {
+        Method::Binary => count_binary(number),
+        Method::FixedWindows(width) => count_fixed_windows(number, width),
+        Method::SlidingWindows(width) => count_sliding_windows(number, width),
+        Method::Naf => count_non_adjacent_form(number),
+    }
+}
+
+/// Counts of a table of `steps` steps, of which only the first, add(0, 0), is a
+/// doubling.
+fn count_table(steps: usize) -> Counts {
+    Counts {
+        doublings: steps.min(1),
+        additions: steps.saturating_sub(1),
+        subtractions: 0,
+    }
+}
+
+// Method 1.
+
+fn binary(number: &Number, chain: &mut Chain) {
+    for place in (0..number.bit_length() - 1).rev() {
+        chain.double();
+        if number.bit(place) {
+            chain.add(0);
+        }
+    }
+}
+
+fn count_binary(number: &Number) -> Counts {
+    Counts {
+        doublings: number.bit_length() - 1,
+        additions: number.count_ones() - 1,
+        subtractions: 0,
+    }
+}
+
+// Method 2.
+
+/// Steps of the table: up to the number itself if it is below 2^width,
+/// otherwise up to 2^width - 1. Value v stands at position v - 1.
+fn fixed_table_steps(number: &Number, width: usize) -> usize {
+    if number.bit_length() <= width {
+        number.window(0, width) - 1
+    } else {
+        (1 << width) - 2
+    }
+}
+
+fn fixed_windows(number: &Number, width: usize, chain: &mut Chain) {
+    for _ in 0..fixed_table_steps(number, width) {
+        chain.add(0);
+    }
+    if number.bit_length() <= width {
+        return;
+    }
+    let top = (number.bit_length() - 1) / width;
+    chain.latest = number.window(width * top, width) - 1;
+    for index in (0..top).rev() {
+        for _ in 0..width {
+            chain.double();
+        }
+        let value = number.window(width * index, width);
+        if value != 0 {
+            chain.add(value - 1);
+        }
+    }
+}
+
+fn count_fixed_windows(number: &Number, width: usize) -> Counts {
+    let mut counts = count_table(fixed_table_steps(number, width));
+    // With a number below 2^width there is no lower window.
+    let top = (number.bit_length() - 1) / width;
+    counts.doublings += width * top;
+    counts.additions += (0..top)
+        .filter(|index| number.window(width * index, width) != 0)
+        .count();
+    counts
+}
+
+// Method 3.
+
+/// Position in the table of an odd value.
+fn odd_position(value: usize) -> usize {
+    match value {
+        1 => 0,
+        _ => (value + 1) / 2,
+    }
+}
+
+/// Whether the number is odd and below 2^width, so that the table ends at it.
+fn is_in_odd_table(number: &Number, width: usize) -> bool {
+    number.bit_length() <= width && number.bit(0)
+}
+
+fn sliding_table_steps(number: &Number, width: usize) -> usize {
+    if is_in_odd_table(number, width) {
+        odd_position(number.window(0, width))
+    } else if width == 1 {
+        0
+    } else {
+        1 << (width - 1)
+    }
+}
+
+/// The lowest place of the longest window of at most `width` bits that begins
+/// at the 1 at place `top` and ends in 1.
+fn window_end(number: &Number, top: usize, width: usize) -> usize {
+    let mut low = (top + 1).saturating_sub(width);
+    while !number.bit(low) {
+        low += 1;
+    }
+    low
+}
+
+fn sliding_windows(number: &Number, width: usize, chain: &mut Chain) {
+    // Positions 1, 2, 3, ... hold 2, 3, 5, 7, 9, ...
+    for i in 1..=sliding_table_steps(number, width) {
+        match i {
+            1 | 2 => chain.add(0),
+            _ => chain.add(1),
+        }
+    }
+    if is_in_odd_table(number, width) {
+        return;
+    }
+
+    let top = number.bit_length() - 1;
+    let mut low = window_end(number, top, width);
+    chain.latest = odd_position(number.window(low, top - low + 1));
+    while low > 0 {
+        let top = low - 1;
+        if number.bit(top) {
+            low = window_end(number, top, width);
+            for _ in low..=top {
+                chain.double();
+            }
+            chain.add(odd_position(number.window(low, top - low + 1)));
+        } else {
+            low = top;
+            chain.double();
+        }
+    }
+}
+
+fn count_sliding_windows(number: &Number, width: usize) -> Counts {
+    let mut counts = count_table(sliding_table_steps(number, width));
+    if is_in_odd_table(number, width) {
+        return counts;
+    }
+
+    // One doubling for each bit below the first window, one addition for each
+    // later window.
+    let mut low = window_end(number, number.bit_length() - 1, width);
+    counts.doublings += low;
+    while low > 0 {
+        let top = low - 1;
+        if number.bit(top) {
+            low = window_end(number, top, width);
+            counts.additions += 1;
+        } else {
+            low = top;
+        }
+    }
+    counts
+}
+
+// Method 4.
+
+fn non_adjacent_form(number: &Number, chain: &mut Chain) {
+    let naf = Naf::of(&number.widened());
+    for place in (0..naf.length - 1).rev() {
+        chain.double();
+        if naf.is_one(place) {
+            chain.add(0);
+        } else if naf.is_minus_one(place) {
+            chain.subtract(0);
+        }
+    }
+}
+
+fn count_non_adjacent_form(number: &Number) -> Counts {
+    let naf = Naf::of(&number.widened());
+    Counts {
+        doublings: naf.length - 1,
+        additions: naf.count_ones() - 1,
+        subtractions: naf.count_minus_ones(),
+    }
+}

@@ -1,0 +1,96 @@
+//! Unsigned arithmetic on fixed arrays of 64-bit words, least significant first.
+
+use std::cmp::Ordering;
+
+/// The number of bits up to the top one; 0 for zero.
+pub(crate) fn bit_length(words: &[u64]) -> usize {
+    match words.iter().rposition(|&word| word != 0) {
+        Some(top) => 64 * top + 64 - words[top].leading_zeros() as usize,
+        None => 0,
+    }
+}
+
+pub(crate) fn count_ones(words: &[u64]) -> usize {
+    words.iter().map(|word| word.count_ones() as usize).sum()
+}
+
+pub(crate) fn is_zero(words: &[u64]) -> bool {
+    words.iter().all(|&word| word == 0)
+}
+
+pub(crate) fn compare<const N: usize>(a: &[u64; N], b: &[u64; N]) -> Ordering {
+    a.iter().rev().cmp(b.iter().rev())
+}
+
+/// `a + b`; the caller makes sure that the sum fits.
+pub(crate) fn add<const N: usize>(a: &[u64; N], b: &[u64; N]) -> [u64; N] {
+    let mut sum = [0; N];
+    let mut carry = false;
+    for i in 0..N {
+        let (partial, first) = a[i].overflowing_add(b[i]);
+        let (word, second) = partial.overflowing_add(u64::from(carry));
+        sum[i] = word;
+        carry = first || second;
+    }
+    sum
+}
+
+/// `a - b`; the caller makes sure that `b` is not above `a`.
+pub(crate) fn subtract<const N: usize>(a: &[u64; N], b: &[u64; N]) -> [u64; N] {
+    let mut difference = [0; N];
+    let mut borrow = false;
+    for i in 0..N {
+        let (partial, first) = a[i].overflowing_sub(b[i]);
+        let (word, second) = partial.overflowing_sub(u64::from(borrow));
+        difference[i] = word;
+        borrow = first || second;
+    }
+    difference
+}
+
+/// `3 * a`; the caller makes sure that the product fits.
+pub(crate) fn triple<const N: usize>(a: &[u64; N]) -> [u64; N] {
+    let mut product = [0; N];
+    let mut carry = 0;
+    for i in 0..N {
+        let wide = 3 * u128::from(a[i]) + carry;
+        product[i] = wide as u64;
+        carry = wide >> 64;
+    }
+    product
+}
+
+/// `a / 2`, rounded down.
+pub(crate) fn halve<const N: usize>(a: &[u64; N]) -> [u64; N] {
+    let mut half = [0; N];
+    let mut from_above = 0;
+    for i in (0..N).rev() {
+        half[i] = a[i] >> 1 | from_above << 63;
+        from_above = a[i] & 1;
+    }
+    half
+}
+
+/// Fills the words from bytes, least significant first; absent bytes are zero.
+pub(crate) fn from_bytes<const N: usize>(bytes: &[u8]) -> [u64; N] {
+    let mut words = [0; N];
+    let mut whole = bytes.chunks_exact(8);
+    let mut filled = 0;
+    for (word, chunk) in words.iter_mut().zip(&mut whole) {
+        let mut eight = [0; 8];
+        eight.copy_from_slice(chunk);
+        *word = u64::from_le_bytes(eight);
+        filled += 1;
+    }
+    for &byte in whole.remainder().iter().rev() {
+        words[filled] = words[filled] << 8 | u64::from(byte);
+    }
+    words
+}
+
+/// Writes the low bytes of the words over the whole of `bytes`.
+pub(crate) fn to_bytes(words: &[u64], bytes: &mut [u8]) {
+    for (chunk, word) in bytes.chunks_mut(8).zip(words) {
+        chunk.copy_from_slice(&word.to_le_bytes()[..chunk.len()]);
+    }
+}

@@ -1,0 +1,402 @@
+//! Document 01 once more, written for the tests: slow, with vectors, and by
+//! other ways than the library takes. Each call answers the outcome and the
+//! whole buffer as it must stand afterwards.
+
+#![allow(dead_code)]
+
+use reference::{Counts, Refusal};
+use std::cmp::Ordering;
+
+pub fn refusal(number: u8, place: usize) -> Refusal {
+    Refusal { number, place }
+}
+
+/// A whole number: sign and size, base 256, no high zero byte.
+#[derive(Clone, PartialEq, Eq, Debug)]
+pub struct Big {
+    pub negative: bool,
+    pub size: Vec<u8>,
+}
+
+impl Big {
+    pub fn from_bytes(bytes: &[u8]) -> Big {
+        Big {
+            negative: false,
+            size: bytes.to_vec(),
+        }
+        .trimmed()
+    }
+
+    pub fn small(value: i8) -> Big {
+        Big {
+            negative: value < 0,
+            size: vec![value.unsigned_abs()],
+        }
+        .trimmed()
+    }
+
+    fn trimmed(mut self) -> Big {
+        while self.size.last() == Some(&0) {
+            self.size.pop();
+        }
+        if self.size.is_empty() {
+            self.negative = false;
+        }
+        self
+    }
+
+    pub fn is_zero(&self) -> bool {
+        self.size.is_empty()
+    }
+
+    pub fn negated(&self) -> Big {
+        Big {
+            negative: !self.negative,
+            size: self.size.clone(),
+        }
+        .trimmed()
+    }
+
+    fn compare_size(&self, other: &Big) -> Ordering {
+        self.size
+            .len()
+            .cmp(&other.size.len())
+            .then_with(|| self.size.iter().rev().cmp(other.size.iter().rev()))
+    }
+
+    pub fn plus(&self, other: &Big) -> Big {
+        if self.negative != other.negative && self.compare_size(other) == Ordering::Less {
+            return other.plus(self);
+        }
+        let sign = if self.negative == other.negative {
+            1
+        } else {
+            -1
+        };
+        let mut size = Vec::new();
+        let mut carry = 0i32;
+        for i in 0..self.size.len().max(other.size.len()) + 1 {
+            let a = i32::from(*self.size.get(i).unwrap_or(&0));
+            let b = i32::from(*other.size.get(i).unwrap_or(&0));
+            let sum = a + sign * b + carry;
+            size.push(sum.rem_euclid(256) as u8);
+            carry = sum.div_euclid(256);
+        }
+        assert_eq!(carry, 0);
+        Big {
+            negative: self.negative,
+            size,
+        }
+        .trimmed()
+    }
+
+    pub fn minus(&self, other: &Big) -> Big {
+        self.plus(&other.negated())
+    }
+
+    /// The remainder modulo 4, from 0 to 3.
+    fn modulo_four(&self) -> u8 {
+        let low = self.size.first().unwrap_or(&0) % 4;
+        if self.negative {
+            (4 - low) % 4
+        } else {
+            low
+        }
+    }
+
+    /// Half of an even value.
+    fn half(&self) -> Big {
+        let mut size = self.size.clone();
+        let mut from_above = 0;
+        for byte in size.iter_mut().rev() {
+            let low = *byte & 1;
+            *byte = *byte / 2 + 128 * from_above;
+            from_above = low;
+        }
+        assert_eq!(from_above, 0);
+        Big {
+            negative: self.negative,
+            size,
+        }
+        .trimmed()
+    }
+
+    pub fn bits(&self) -> Vec<bool> {
+        let mut bits: Vec<bool> = self
+            .size
+            .iter()
+            .flat_map(|byte| (0..8).map(move |i| byte >> i & 1 == 1))
+            .collect();
+        while bits.last() == Some(&false) {
+            bits.pop();
+        }
+        bits
+    }
+
+    /// The non-adjacent form by Bosma's rule modulo 4, lowest digit first.
+    pub fn canonical(&self) -> Vec<u8> {
+        let mut rest = self.clone();
+        let mut digits = Vec::new();
+        while !rest.is_zero() {
+            let digit = match rest.modulo_four() {
+                1 => 1,
+                3 => -1,
+                _ => 0,
+            };
+            rest = rest.minus(&Big::small(digit)).half();
+            digits.push(digit as u8);
+        }
+        digits
+    }
+}
+
+/// The value of a digit string, from the top digit down.
+pub fn value_of(digits: &[u8]) -> Big {
+    digits.iter().rev().fold(Big::small(0), |value, &digit| {
+        value.plus(&value).plus(&Big::small(digit as i8))
+    })
+}
+
+fn read_number(number: &[u8]) -> Result<Big, Refusal> {
+    match number.len() {
+        0..=32 => Ok(Big::from_bytes(number)),
+        _ => Err(refusal(1, 0)),
+    }
+}
+
+fn read_nonzero(number: &[u8]) -> Result<Big, Refusal> {
+    let number = read_number(number)?;
+    if number.is_zero() {
+        return Err(refusal(2, 0));
+    }
+    Ok(number)
+}
+
+fn read_digits(digits: &[u8]) -> Result<Big, Refusal> {
+    if digits.len() > 512 {
+        return Err(refusal(5, 0));
+    }
+    for (place, digit) in digits.iter().enumerate() {
+        if ![0, 1, 255].contains(digit) {
+            return Err(refusal(4, place));
+        }
+    }
+    Ok(value_of(digits))
+}
+
+fn put(answer: &[u8], out: &mut [u8]) -> Result<(), Refusal> {
+    if answer.len() > out.len() {
+        return Err(refusal(6, answer.len()));
+    }
+    out[..answer.len()].copy_from_slice(answer);
+    Ok(())
+}
+
+pub fn recode(number: &[u8], out: &mut [u8]) -> Result<usize, Refusal> {
+    let digits = read_number(number)?.canonical();
+    put(&digits, out)?;
+    Ok(digits.len())
+}
+
+pub fn clean(digits: &[u8], out: &mut [u8]) -> Result<usize, Refusal> {
+    let digits = read_digits(digits)?.canonical();
+    put(&digits, out)?;
+    Ok(digits.len())
+}
+
+pub fn read_back(digits: &[u8], out: &mut [u8]) -> Result<(u8, usize), Refusal> {
+    let value = read_digits(digits)?;
+    put(&value.size, out)?;
+    Ok((u8::from(value.negative), value.size.len()))
+}
+
+type Step = (u8, usize, usize);
+
+fn bits_value(bits: &[bool]) -> usize {
+    bits.iter()
+        .rev()
+        .fold(0, |value, &bit| 2 * value + usize::from(bit))
+}
+
+/// The steps of a plan, straight from the words of document 01.
+fn steps_of(e: &Big, method: u32, width: u32) -> Result<Vec<Step>, Refusal> {
+    let allowed = match method {
+        1 | 4 => width == 0,
+        2 | 3 => (1..=6).contains(&width),
+        _ => false,
+    };
+    if !allowed {
+        return Err(refusal(3, 0));
+    }
+    let d = width as usize;
+    let bits = e.bits();
+    let mut steps: Vec<Step> = Vec::new();
+    match method {
+        1 => {
+            for place in (0..bits.len() - 1).rev() {
+                steps.push((0, steps.len(), steps.len()));
+                if bits[place] {
+                    steps.push((0, steps.len(), 0));
+                }
+            }
+        }
+        2 => {
+            if bits.len() <= d {
+                let e = bits_value(&bits);
+                for i in 1..e {
+                    steps.push((0, i - 1, 0));
+                }
+                return Ok(steps);
+            }
+            let mut i = 1;
+            while i + 2 <= 1 << d {
+                steps.push((0, i - 1, 0));
+                i += 1;
+            }
+            let windows: Vec<usize> = bits.chunks(d).map(bits_value).collect();
+            let mut latest = windows[windows.len() - 1] - 1;
+            for &v in windows.iter().rev().skip(1) {
+                for _ in 0..d {
+                    steps.push((0, latest, latest));
+                    latest = steps.len();
+                }
+                if v != 0 {
+                    steps.push((0, latest, v - 1));
+                    latest = steps.len();
+                }
+            }
+        }
+        3 => {
+            let position = |v: usize| if v == 1 { 0 } else { (v + 1) / 2 };
+            let mut table: Vec<Step> = Vec::new();
+            if d >= 2 {
+                table.push((0, 0, 0));
+                table.push((0, 1, 0));
+                for i in 3..=1 << (d - 1) {
+                    table.push((0, i - 1, 1));
+                }
+            }
+            if bits[0] && bits.len() <= d {
+                table.truncate(position(bits_value(&bits)));
+                return Ok(table);
+            }
+            steps = table;
+            // Most significant first.
+            let bits: Vec<bool> = bits.into_iter().rev().collect();
+            let mut latest = None;
+            let mut at = 0;
+            while at < bits.len() {
+                if !bits[at] {
+                    let from = latest.unwrap();
+                    steps.push((0, from, from));
+                    latest = Some(steps.len());
+                    at += 1;
+                    continue;
+                }
+                let mut length = d.min(bits.len() - at);
+                while !bits[at + length - 1] {
+                    length -= 1;
+                }
+                let v = bits[at..at + length]
+                    .iter()
+                    .fold(0, |v, &bit| 2 * v + usize::from(bit));
+                latest = match latest {
+                    None => Some(position(v)),
+                    Some(mut from) => {
+                        for _ in 0..length {
+                            steps.push((0, from, from));
+                            from = steps.len();
+                        }
+                        steps.push((0, from, position(v)));
+                        Some(steps.len())
+                    }
+                };
+                at += length;
+            }
+        }
+        _ => {
+            for &digit in e.canonical().iter().rev().skip(1) {
+                steps.push((0, steps.len(), steps.len()));
+                match digit {
+                    1 => steps.push((0, steps.len(), 0)),
+                    255 => steps.push((1, steps.len(), 0)),
+                    _ => {}
+                }
+            }
+        }
+    }
+    Ok(steps)
+}
+
+fn counts_of(steps: &[Step]) -> Counts {
+    Counts {
+        doublings: steps.iter().filter(|s| s.0 == 0 && s.1 == s.2).count(),
+        additions: steps.iter().filter(|s| s.0 == 0 && s.1 != s.2).count(),
+        subtractions: steps.iter().filter(|s| s.0 == 1).count(),
+    }
+}
+
+pub fn plan(number: &[u8], method: u32, width: u32, out: &mut [u8]) -> Result<Counts, Refusal> {
+    let steps = steps_of(&read_nonzero(number)?, method, width)?;
+    let mut bytes = Vec::new();
+    for &(operation, j, k) in &steps {
+        bytes.push(operation);
+        bytes.push((j % 256) as u8);
+        bytes.push((j / 256) as u8);
+        bytes.push((k % 256) as u8);
+        bytes.push((k / 256) as u8);
+    }
+    put(&bytes, out)?;
+    Ok(counts_of(&steps))
+}
+
+pub fn forecast(number: &[u8], method: u32, width: u32) -> Result<Counts, Refusal> {
+    let steps = steps_of(&read_nonzero(number)?, method, width)?;
+    Ok(counts_of(&steps))
+}
+
+fn put_record(space: &mut [u8], position: usize, value: &Big) {
+    let record = &mut space[34 * position..34 * position + 34];
+    record.fill(0);
+    record[0] = u8::from(value.negative);
+    record[1..1 + value.size.len()].copy_from_slice(&value.size);
+}
+
+pub fn check(number: &[u8], plan: &[u8], space: &mut [u8]) -> Result<Counts, Refusal> {
+    let number = read_nonzero(number)?;
+    if plan.len() % 5 != 0 || plan.len() > 3200 {
+        return Err(refusal(7, 0));
+    }
+    let r = plan.len() / 5;
+    if space.len() < 34 * (r + 1) {
+        return Err(refusal(8, 0));
+    }
+    let mut values = vec![Big::small(1)];
+    let mut steps = Vec::new();
+    put_record(space, 0, &values[0]);
+    for i in 1..=r {
+        let step = &plan[5 * i - 5..5 * i];
+        let j = usize::from(step[1]) + 256 * usize::from(step[2]);
+        let k = usize::from(step[3]) + 256 * usize::from(step[4]);
+        if step[0] > 1 || j >= i || k >= i {
+            return Err(refusal(9, i));
+        }
+        let value = match step[0] {
+            0 => values[j].plus(&values[k]),
+            _ => values[j].minus(&values[k]),
+        };
+        if value.is_zero() {
+            return Err(refusal(10, i));
+        }
+        if value.size.len() > 33 {
+            return Err(refusal(11, i));
+        }
+        put_record(space, i, &value);
+        values.push(value);
+        steps.push((step[0], j, k));
+    }
+    if values[r] != number {
+        return Err(refusal(12, r));
+    }
+    Ok(counts_of(&steps))
+}

@@ -1,0 +1,228 @@
+//! Generated cases against the slow implementation in `common`: outcomes, and
+//! every byte of the buffers, so the memory rule too. Each test also asserts
+//! that every outcome of its call came up.
+
+mod common;
+
+use reference::generate::Generator;
+use reference::*;
+
+/// How often each outcome came up: index 0 for success.
+struct Tally {
+    call: &'static str,
+    outcomes: [usize; 13],
+}
+
+impl Tally {
+    fn new(call: &'static str) -> Tally {
+        Tally {
+            call,
+            outcomes: [0; 13],
+        }
+    }
+
+    fn note<T>(&mut self, result: &Result<T, Refusal>) {
+        match result {
+            Ok(_) => self.outcomes[0] += 1,
+            Err(refusal) => self.outcomes[usize::from(refusal.number)] += 1,
+        }
+    }
+
+    /// Each outcome that the call can have is at least one in 100, no other
+    /// ever occurs.
+    fn assert_all(&self, possible: &[usize]) {
+        println!("{:10} {:?}", self.call, self.outcomes);
+        let total: usize = self.outcomes.iter().sum();
+        for (outcome, &times) in self.outcomes.iter().enumerate() {
+            if possible.contains(&outcome) {
+                assert!(times * 100 >= total, "{} {}", self.call, outcome);
+            } else {
+                assert_eq!(times, 0, "{} {}", self.call, outcome);
+            }
+        }
+    }
+}
+
+const CASES: usize = 20_000;
+
+#[test]
+fn recode_cases() {
+    let mut generator = Generator::new(1);
+    let mut tally = Tally::new("recode");
+    for _ in 0..CASES {
+        let case = generator.recode_case();
+        let mut expected_out = generator.rng().bytes(case.room);
+        let mut out = expected_out.clone();
+        let result = recode(&case.number, &mut out);
+        let expected = common::recode(&case.number, &mut expected_out);
+        assert_eq!((&result, &out), (&expected, &expected_out), "{:?}", case);
+        tally.note(&result);
+    }
+    tally.assert_all(&[0, 1, 6]);
+}
+
+#[test]
+fn take_cases() {
+    let mut generator = Generator::new(2);
+    let mut tally = Tally::new("take");
+    let mut dones = 0;
+    for _ in 0..CASES {
+        let case = generator.take_case();
+        let (mut recoder, result) = Recoder::start(&case.number);
+        tally.note(&result);
+        let mut digits = vec![0; 257];
+        let expected = common::recode(&case.number, &mut digits);
+        digits.truncate(expected.unwrap_or(0));
+        assert_eq!(result.err(), expected.err());
+        if result.is_err() {
+            assert_eq!(recoder, Recoder::start(&[]).0);
+        }
+        for place in 0..case.takes {
+            let (next, digit) = recoder.take();
+            assert_eq!(digit, digits.get(place).copied());
+            if digit.is_none() {
+                assert_eq!(next, recoder);
+                dones += 1;
+            }
+            recoder = next;
+        }
+    }
+    tally.assert_all(&[0, 1]);
+    assert!(dones > CASES / 10);
+}
+
+#[test]
+fn clean_cases() {
+    let mut generator = Generator::new(3);
+    let mut tally = Tally::new("clean");
+    let mut longest = 0;
+    let mut empty = 0;
+    let mut copied = 0;
+    for _ in 0..CASES {
+        let case = generator.clean_case();
+        let mut expected_out = generator.rng().bytes(case.room);
+        let mut out = expected_out.clone();
+        let result = clean(&case.digits, &mut out);
+        let expected = common::clean(&case.digits, &mut expected_out);
+        assert_eq!((&result, &out), (&expected, &expected_out), "{:?}", case);
+        tally.note(&result);
+        match result {
+            Ok(513) => longest += 1,
+            Ok(0) => empty += 1,
+            Ok(length) if out[..length] == case.digits => copied += 1,
+            _ => {}
+        }
+    }
+    tally.assert_all(&[0, 4, 5, 6]);
+    assert!(longest > 100 && empty > 100 && copied > 100);
+}
+
+#[test]
+fn read_back_cases() {
+    let mut generator = Generator::new(4);
+    let mut tally = Tally::new("read_back");
+    let mut signs = [0; 2];
+    let mut zeros = 0;
+    for _ in 0..CASES {
+        let case = generator.read_back_case();
+        let mut expected_out = generator.rng().bytes(case.room);
+        let mut out = expected_out.clone();
+        let result = read_back(&case.digits, &mut out);
+        let expected = common::read_back(&case.digits, &mut expected_out);
+        assert_eq!((&result, &out), (&expected, &expected_out), "{:?}", case);
+        tally.note(&result);
+        match result {
+            Ok((_, 0)) => zeros += 1,
+            Ok((sign, _)) => signs[usize::from(sign)] += 1,
+            _ => {}
+        }
+    }
+    tally.assert_all(&[0, 4, 5, 6]);
+    assert!(zeros > 100 && signs[0] > 1000 && signs[1] > 1000);
+}
+
+#[test]
+fn plan_cases() {
+    let mut generator = Generator::new(5);
+    let mut tally = Tally::new("plan");
+    let mut methods = [[0; 7]; 5];
+    for _ in 0..CASES {
+        let case = generator.plan_case();
+        let mut expected_out = generator.rng().bytes(case.room);
+        let mut out = expected_out.clone();
+        let result = plan(&case.number, case.method, case.width, &mut out);
+        let expected = common::plan(&case.number, case.method, case.width, &mut expected_out);
+        assert_eq!((&result, &out), (&expected, &expected_out), "{:?}", case);
+        tally.note(&result);
+        if result.is_ok() {
+            methods[case.method as usize][case.width as usize] += 1;
+        }
+    }
+    tally.assert_all(&[0, 1, 2, 3, 6]);
+    for (method, width) in generate::METHODS {
+        assert!(methods[method as usize][width as usize] > CASES / 100);
+    }
+}
+
+#[test]
+fn forecast_cases() {
+    let mut generator = Generator::new(6);
+    let mut tally = Tally::new("forecast");
+    for _ in 0..CASES {
+        let case = generator.forecast_case();
+        let result = forecast(&case.number, case.method, case.width);
+        let expected = common::forecast(&case.number, case.method, case.width);
+        assert_eq!(result, expected, "{:?}", case);
+        tally.note(&result);
+    }
+    tally.assert_all(&[0, 1, 2, 3]);
+}
+
+#[test]
+fn check_cases() {
+    let mut generator = Generator::new(7);
+    let mut tally = Tally::new("check");
+    let (mut full, mut empty, mut below_zero, mut minus, mut large) = (0, 0, 0, 0, 0);
+    for _ in 0..CASES {
+        let case = generator.check_case();
+        let mut expected_space = generator.rng().bytes(case.room);
+        let mut space = expected_space.clone();
+        let result = check(&case.number, &case.plan, &mut space);
+        let expected = common::check(&case.number, &case.plan, &mut expected_space);
+        assert_eq!(result, expected, "{:?}", case);
+        assert!(space == expected_space, "{:?}", case);
+        tally.note(&result);
+
+        let steps = case.plan.len() / 5;
+        let mut records = space.chunks(34).take(steps + 1);
+        match result {
+            Ok(_) => {
+                full += usize::from(steps == 640);
+                empty += usize::from(steps == 0);
+                below_zero += usize::from(records.clone().any(|record| record[0] == 1));
+                large += usize::from(records.any(|record| record[33] == 0xFF));
+            }
+            Err(Refusal { number: 12, .. }) => {
+                let last = records.next_back().unwrap();
+                let end = common::Big::from_bytes(&last[1..]);
+                let same_size = end == common::Big::from_bytes(&case.number);
+                minus += usize::from(last[0] == 1 && same_size);
+            }
+            _ => {}
+        }
+    }
+    tally.assert_all(&[0, 1, 2, 7, 8, 9, 10, 11, 12]);
+    println!("{:?}", (full, empty, below_zero, minus, large));
+    assert!(full > 100 && empty > 100 && below_zero > 100 && minus > 100 && large > 100);
+}
+
+#[test]
+fn same_seed_same_cases() {
+    let (mut a, mut b) = (Generator::new(8), Generator::new(8));
+    for _ in 0..100 {
+        assert_eq!(a.recode_case(), b.recode_case());
+        assert_eq!(a.clean_case(), b.clean_case());
+        assert_eq!(a.plan_case(), b.plan_case());
+        assert_eq!(a.check_case(), b.check_case());
+    }
+}

@@ -1,0 +1,156 @@
+//! Small numbers against plain integers and brute force, and the totals that
+//! source document 004 publishes.
+
+use reference::generate::METHODS;
+use reference::*;
+
+fn recoded(number: u64) -> Vec<i8> {
+    let mut out = [0; 70];
+    let length = recode(&number.to_le_bytes(), &mut out).unwrap();
+    out[..length].iter().map(|&digit| digit as i8).collect()
+}
+
+fn value(digits: &[i8]) -> i64 {
+    digits
+        .iter()
+        .rev()
+        .fold(0, |value, &digit| 2 * value + i64::from(digit))
+}
+
+fn weight(digits: &[i8]) -> usize {
+    digits.iter().filter(|&&digit| digit != 0).count()
+}
+
+#[test]
+fn recode_is_the_non_adjacent_form() {
+    for number in 0..5000 {
+        let digits = recoded(number);
+        assert_eq!(value(&digits), number as i64);
+        assert!(digits.iter().all(|digit| (-1..=1).contains(digit)));
+        assert!(digits.windows(2).all(|pair| pair[0] == 0 || pair[1] == 0));
+        assert_ne!(digits.last(), Some(&0));
+    }
+}
+
+/// All strings of nine digits: none of the same value has fewer nonzero ones,
+/// and clean turns each into the same canonical string.
+#[test]
+fn recode_has_fewest_nonzero_digits() {
+    for index in 0..3usize.pow(9) {
+        let mut rest = index;
+        let mut digits = [0i8; 9];
+        for digit in &mut digits {
+            *digit = (rest % 3) as i8 - 1;
+            rest /= 3;
+        }
+        let total = value(&digits);
+        let mut canonical = recoded(total.unsigned_abs());
+        if total < 0 {
+            for digit in &mut canonical {
+                *digit = -*digit;
+            }
+        }
+        assert!(weight(&canonical) <= weight(&digits));
+
+        let bytes: Vec<u8> = digits.iter().map(|&digit| digit as u8).collect();
+        let expected: Vec<u8> = canonical.iter().map(|&digit| digit as u8).collect();
+        let mut out = [9; 12];
+        assert_eq!(clean(&bytes, &mut out), Ok(expected.len()));
+        assert_eq!(out[..expected.len()], expected);
+        assert_eq!(out[expected.len()..], [9; 12][expected.len()..]);
+
+        let mut out = [0; 8];
+        let (sign, _) = read_back(&bytes, &mut out).unwrap();
+        let size = i64::from_le_bytes(out);
+        assert_eq!(total, if sign == 1 { -size } else { size });
+    }
+}
+
+#[test]
+fn plans_end_at_the_number() {
+    for number in 1..2000i128 {
+        let bytes = (number as u16).to_le_bytes();
+        for (method, width) in METHODS {
+            let mut out = [0; 1000];
+            let counts = plan(&bytes, method, width, &mut out).unwrap();
+            assert_eq!(forecast(&bytes, method, width), Ok(counts));
+            let steps = counts.doublings + counts.additions + counts.subtractions;
+            let steps = &out[..5 * steps];
+
+            let mut values = vec![1i128];
+            let mut counted = [0; 3];
+            for step in steps.chunks(5) {
+                let j = usize::from(u16::from_le_bytes([step[1], step[2]]));
+                let k = usize::from(u16::from_le_bytes([step[3], step[4]]));
+                let (value, kind) = match step[0] {
+                    0 if j == k => (2 * values[j], 0),
+                    0 => (values[j] + values[k], 1),
+                    1 => (values[j] - values[k], 2),
+                    _ => unreachable!(),
+                };
+                values.push(value);
+                counted[kind] += 1;
+            }
+            assert_eq!(values.last(), Some(&number));
+            assert_eq!(
+                counted,
+                [counts.doublings, counts.additions, counts.subtractions]
+            );
+
+            let mut space = vec![0; 34 * values.len()];
+            assert_eq!(check(&bytes, steps, &mut space), Ok(counts));
+            for (record, value) in space.chunks(34).zip(&values) {
+                assert_eq!(record[0], u8::from(*value < 0));
+                assert_eq!(record[1..17], value.unsigned_abs().to_le_bytes());
+                assert_eq!(record[17..], [0; 17]);
+            }
+        }
+    }
+}
+
+/// Propositions 4, 5, 7 and 8 of source document 004: the tables.
+#[test]
+fn published_totals() {
+    // Numbers with a non-adjacent form of n digits, and their nonzero digits.
+    let numbers = [1, 1, 3, 5, 11, 21, 43, 85, 171, 341, 683];
+    let nonzero = [1, 1, 5, 9, 25, 53, 125, 273, 609, 1325, 2885];
+    let mut numbers_found = [0; 13];
+    let mut nonzero_found = [0; 13];
+    // Digits and nonzero digits over all numbers of n bits.
+    let lengths = [1, 5, 14, 37, 90, 213, 490, 1109, 2474, 5461, 11946];
+    let weights = [1, 3, 7, 17, 39, 89, 199, 441, 967, 2105, 4551];
+    let mut lengths_found = [0; 13];
+    let mut weights_found = [0; 13];
+    for number in 1..1u64 << 12 {
+        let digits = recoded(number);
+        if digits.len() <= 12 {
+            numbers_found[digits.len()] += 1;
+            nonzero_found[digits.len()] += weight(&digits);
+        }
+        let bits = 64 - number.leading_zeros() as usize;
+        lengths_found[bits] += digits.len();
+        weights_found[bits] += weight(&digits);
+    }
+    assert_eq!(numbers_found[1..=11], numbers);
+    assert_eq!(nonzero_found[1..=11], nonzero);
+    assert_eq!(lengths_found[1..=11], lengths);
+    assert_eq!(weights_found[1..=11], weights);
+
+    // Corollary 9: steps by methods 1 and 4, summed over all numbers of n bits.
+    let binary_weights = [1, 3, 8, 20, 48, 112, 256, 576, 1280, 2816, 6144];
+    for bits in 1..=11usize {
+        let count = 1usize << (bits - 1);
+        let mut binary = 0;
+        let mut naf = 0;
+        for number in count..2 * count {
+            let bytes = (number as u64).to_le_bytes();
+            let counts = forecast(&bytes, 1, 0).unwrap();
+            binary += counts.doublings + counts.additions;
+            assert_eq!(counts.subtractions, 0);
+            let counts = forecast(&bytes, 4, 0).unwrap();
+            naf += counts.doublings + counts.additions + counts.subtractions;
+        }
+        assert_eq!(binary, bits * count + binary_weights[bits - 1] - 2 * count);
+        assert_eq!(naf, lengths[bits - 1] + weights[bits - 1] - 2 * count);
+    }
+}

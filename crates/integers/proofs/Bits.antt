@@ -1,19 +1,16 @@
 -- The bit length, and the quotients by powers of two that a scan from the top meets. Assumes nothing.
 use mathlib.Core.Path.{_≡_, refl, sym, ap, _∙_}
 use mathlib.Core.Logic.{_↔_}
-use mathlib.Core.Bool.{false}
 use mathlib.Core.List.{List}
 use Prim.Native.Nat.{ℕ, zero, suc, _+_, _*_, _-_, _/_, _%_, _^_, _<_, _≤_}
-use native.Mathlib.Nat.{pow-zero, pow-suc, mul-zero, mul-suc, mul-comm, mul-assoc, mul-pos, mod-mod, zero-div, add-mul-div-left, div-lt-iff-lt-mul, div-le-self}
+use native.Mathlib.Nat.{pow-zero, pow-suc, mul-zero, mul-suc, mul-comm, div-lt-iff-lt-mul, div-le-self}
 use native.Mathlib.Numerals.{add-one}
 use native.Mathlib.Omega.{arith}
-use borrow.Author.Tests.{eq-eqb, ne-eqb}
-use lib.Dec.{eqb}
 use lib.Count.{ones, ones-cat, leadingZeros, leading-length}
-use lib.ListN.{length, getD, drop, drop-of-length-le}
+use lib.ListN.{length, getD, drop}
 use lib.Pow.{pow-pos, pow-add, shr-shr, split, field, mod-mod-pow}
 use Rattle.integers.specs.Bits.{bit, lengthUpTo, bitLength}
-use Rattle.integers.specs.Positional.{positional, bytesValue, wordsValue, Significant}
+use Rattle.integers.specs.Positional.{positional, bytesValue, Significant}
 use Rattle.integers.proofs.Positional.{Below, positional-drop, positional-lt, positional-div, positional-at}
 
 length-up-to : (f n k : ℕ) → n ≤ f → (lengthUpTo f n ≤ k → n < 2 ^ k) × (n < 2 ^ k → lengthUpTo f n ≤ k)
@@ -147,22 +144,6 @@ bit-of-byte l place b =
     let e : 8 * (place / 8) + place % 8 ≡ place = omega arith in
     rw e at (bit-of-element 8 l (place / 8) (place % 8) (omega arith) b)
 
--- what stands from a place on: the rest of its word, and the words above
-pub from-place : (l : List ℕ) (place : ℕ) → Below (2 ^ 64) l
-    → wordsValue l / 2 ^ place ≡ getD l (place / 64) 0 / 2 ^ (place % 64) + 2 ^ (64 - place % 64) * wordsValue (drop (suc (place / 64)) l)
-from-place l place b =
-    let k : ℕ = place / 64 in
-    let r : ℕ = place % 64 in
-    let w : ℕ = getD l k 0 in
-    let u : ℕ = wordsValue (drop (suc k) l) in
-    let e : place ≡ 64 * k + r = omega arith in
-    let d : wordsValue l / 2 ^ (64 * k) ≡ w + 2 ^ 64 * u =
-    ap (λ (p : ℕ). wordsValue l / p) (sym (power-of-power 64 k)) ∙ sym (positional-div (2 ^ 64) l k b) ∙ positional-drop (2 ^ 64) l k in
-    let sum : 64 ≡ r + (64 - r) = omega arith in
-    let p : 2 ^ 64 ≡ 2 ^ r * 2 ^ (64 - r) = ap (λ (n : ℕ). 2 ^ n) sum ∙ pow-add 2 r (64 - r) in
-    let m : 2 ^ 64 * u ≡ 2 ^ r * (2 ^ (64 - r) * u) = ap (λ (n : ℕ). n * u) p ∙ mul-assoc (2 ^ r) (2 ^ (64 - r)) u in
-    ap (λ (n : ℕ). wordsValue l / 2 ^ n) e ∙ sym (shr-shr (wordsValue l) (64 * k) r) ∙ ap (λ (n : ℕ). n / 2 ^ r) (d ∙ ap (λ (n : ℕ). w + n) m) ∙ add-mul-div-left w (2 ^ (64 - r) * u) (pow-pos r)
-
 -- at most eight binary digits stand in two bytes
 pub bits-of-bytes : (l : List ℕ) (place count : ℕ) → Below 256 l → count ≤ 8
     → (getD l (place / 8) 0 + 256 * getD l (place / 8 + 1) 0) / 2 ^ (place % 8) % 2 ^ count ≡ bytesValue l / 2 ^ place % 2 ^ count
@@ -209,27 +190,6 @@ length-by-top l n b s some =
     let nonzero : 0 < t = omega (arith, s .top some) in
     let c = length-from (bytesValue l) (n - 1) m (omega arith) (omega arith) (omega arith) in
     omega arith
-
--- ---- whether words hold nothing
-
-pub zero-word : (l : List ℕ) (k : ℕ) → getD l k 0 ≡ 0 → eqb (wordsValue (drop k l)) 0 ≡ eqb (wordsValue (drop (suc k) l)) 0
-zero-word l k z = go (wordsValue (drop (suc k) l)) (omega (arith, positional-drop (2 ^ 64) l k))
-  where
-    go : (u : ℕ) → wordsValue (drop k l) ≡ 2 ^ 64 * u → eqb (wordsValue (drop k l)) 0 ≡ eqb u 0
-    go zero e = eq-eqb (wordsValue (drop k l)) 0 (omega arith)
-    go (suc u) e = ne-eqb (wordsValue (drop k l)) 0 (λ n. omega arith) ∙ sym (ne-eqb (suc u) 0 (λ n. omega arith))
-
-pub nonzero-word : (l : List ℕ) (k : ℕ) → (getD l k 0 ≡ 0 → ⊥) → eqb (wordsValue (drop k l)) 0 ≡ false
-nonzero-word l k n = ne-eqb (wordsValue (drop k l)) 0 (λ z. n (omega (arith, positional-drop (2 ^ 64) l k)))
-
--- above the last word there is nothing
-pub above-all : (l : List ℕ) (place : ℕ) → Below (2 ^ 64) l → length l ≤ place / 64 → wordsValue l / 2 ^ place ≡ 0
-unfolding positional
-above-all l place b h =
-    let e : 64 * (place / 64) + place % 64 ≡ place = omega arith in
-    let d : wordsValue l / 2 ^ (64 * (place / 64)) ≡ 0 =
-    ap (λ (p : ℕ). wordsValue l / p) (sym (power-of-power 64 (place / 64))) ∙ sym (positional-div (2 ^ 64) l (place / 64) b) ∙ ap wordsValue (drop-of-length-le l h) in
-    ap (λ (n : ℕ). wordsValue l / 2 ^ n) (sym e) ∙ sym (shr-shr (wordsValue l) (64 * (place / 64)) (place % 64)) ∙ ap (λ (n : ℕ). n / 2 ^ (place % 64)) d ∙ zero-div (2 ^ (place % 64))
 
 -- a number has at most eight binary digits to a byte
 pub length-of-bytes : (l : List ℕ) → Below 256 l → bitLength (bytesValue l) ≤ 8 * length l

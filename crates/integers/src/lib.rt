@@ -7,9 +7,8 @@ ghost use lib.Count;
 ghost use lib.Dec.{eqb};
 ghost use lib.ListN.{length, take, drop, getD};
 ghost use mir.Val.{boolByte};
-ghost use Rattle.rules.specs.Limits.{numberBytes, numberWords};
+ghost use Rattle.rules.specs.Limits.{numberBytes};
 ghost use Rattle.integers.specs.Bits.{bit, bitLength};
-ghost use Rattle.integers.specs.Seen.{IsSeen};
 ghost use Rattle.integers.specs.Positional.{bytesValue, wordsValue, lowBytes, Significant};
 
 // The byte at a place: 0 above the number.
@@ -122,76 +121,31 @@ pub fn words_of(number: &[u8]) -> [u64; NUMBER_WORDS]
     words
 }
 
-// Whether the words from k on hold nothing.
-fn is_zero_above(words: [u64; NUMBER_WORDS], from: usize) -> bool
-    requires { ⌜ from ≤ numberWords ⌝ }
-    ensures { λ r. ⌜ r ≡ eqb (wordsValue (drop from words)) 0 ⌝ }
+// Whether the words hold nothing: without a branch, since most numbers have no zero word.
+pub fn is_zero(words: &[u64]) -> bool
+    ensures { λ r. ⌜ r ≡ eqb (wordsValue (now (words .entry))) 0 ⌝ }
 {
-    let mut k = from;
-    while k < NUMBER_WORDS {
-        if words[k] != 0 {
-            return false;
-        }
+    let mut none = true;
+    let mut k = 0;
+    while k < words.len() {
+        none = none & (words[k] == 0);
         k += 1;
     }
-    true
+    none
 }
 
-// What stands at a place of the number that the words hold: the binary digit there, the one above,
-// and whether nothing stands at the place or above it.
-pub struct Seen {
-    pub low: u64,
-    pub above: u64,
-    pub none: bool,
-}
-
-pub fn seen_from(words: [u64; NUMBER_WORDS], place: usize) -> Seen
-    ensures { λ r. ⌜ IsSeen (wordsValue words / 2 ^ place) r ⌝ }
+// Half of the number that the words hold, rounded down.
+pub fn halved(words: [u64; NUMBER_WORDS]) -> [u64; NUMBER_WORDS]
+    ensures { λ r. ⌜ wordsValue r ≡ wordsValue words / 2 ⌝ }
 {
-    let k = place / 64;
-    if NUMBER_WORDS <= k {
-        return Seen {
-            low: 0,
-            above: 0,
-            none: true,
-        };
+    let mut half = words;
+    let mut k = 0;
+    while k + 1 < NUMBER_WORDS {
+        half[k] = words[k] / 2 + words[k + 1] % 2 * 0x8000_0000_0000_0000;
+        k += 1;
     }
-    let here = words[k] >> (place % 64);
-    if place % 64 == 63 {
-        return seen_at_the_top(words, k, here);
-    }
-    if here == 0 {
-        return Seen {
-            low: 0,
-            above: 0,
-            none: is_zero_above(words, k + 1),
-        };
-    }
-    Seen {
-        low: here % 2,
-        above: here / 2 % 2,
-        none: false,
-    }
-}
-
-// The same at the top of word k, where `here` is its highest digit.
-fn seen_at_the_top(words: [u64; NUMBER_WORDS], k: usize, here: u64) -> Seen
-    requires { ⌜ k < numberWords ⌝ }
-    requires { ⌜ here < 2 ⌝ }
-    ensures { λ r. ⌜ IsSeen (here + 2 * wordsValue (drop (k + 1) words)) r ⌝ }
-{
-    if NUMBER_WORDS <= k + 1 {
-        return Seen {
-            low: here,
-            above: 0,
-            none: here == 0,
-        };
-    }
-    Seen {
-        low: here,
-        above: words[k + 1] % 2,
-        none: (here == 0) & is_zero_above(words, k + 1),
-    }
+    half[k] = words[k] / 2;
+    half
 }
 
 // Writes the eight bytes of a word at `at`.

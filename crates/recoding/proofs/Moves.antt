@@ -1,6 +1,6 @@
 -- One move of a recoder: the lowest digit of v + c, and what is left, by the two low binary digits of v. Assumes nothing.
 use mathlib.Core.Path.{_≡_, refl, sym, ap, _∙_}
-use mathlib.Core.Logic.{_≢_, inl, inr}
+use mathlib.Core.Logic.{_≢_}
 use mathlib.Core.Bool.{Bool, true, false, not, _&&_}
 use mathlib.Core.List.{List}
 use Prim.Native.Nat.{ℕ, zero, suc, _+_, _*_, _/_, _%_, _^_, _<_, _≤_}
@@ -8,34 +8,29 @@ use borrow.Author.Tests.{lt-ltb, le-ltb, ne-eqb}
 use native.Mathlib.Nat.{add-mul-mod-self-left}
 use native.Mathlib.Omega.{arith}
 use lib.Dec.{leb, eqb}
-use lib.ListN.{length, take}
+use lib.ListN.{length, getD, take}
 use lib.Seq.{take-all}
 use mir.Val.{boolByte}
-use lib.Pow.{shr-shr}
-use Rattle.rules.specs.Limits.{numberBytes, numberWords}
+use Rattle.rules.specs.Limits.{numberBytes}
 use Rattle.rules.specs.declared.Refusal.the-variants.{NumberTooLong}
 use Rattle.integers.specs.Positional.{bytesValue, wordsValue}
-use Rattle.integers.specs.Seen.{IsSeen}
-use Rattle.integers.specs.declared.Seen.{Seen}
-use Rattle.integers.proofs.Positional.{Below}
-use Rattle.integers.proofs.Bits.{above-all}
+use Rattle.integers.proofs.Positional.{positional-drop}
 use Rattle.signed_digits.specs.Naf.{residue, lowDigit, rest}
 use Rattle.signed_digits.specs.Bytes.{digitByte}
 use Rattle.signed_digits.proofs.Steps.{low-digit-2, rest-2, by-four}
 use Rattle.recoding.specs.declared.recoder.Recoder.{Recoder}
 use Rattle.recoding.specs.declared.recoder.Start.the-variants.{Ready, Refused}
 use Rattle.recoding.specs.declared.recoder.Take.the-variants.{Digit, Done}
-use Rattle.recoding.specs.Take.{carried, standsFor, takeAnswer, takeLeaves, IsStart, IsTake, IsNext}
+use Rattle.recoding.specs.Take.{carried, standsFor, takeAnswer, takeLeaves, IsStart, IsTake}
 
 -- ---- the byte of the lowest digit, by the remainder modulo 4
-pub byte-even : (n : ℕ) → n % 2 ≡ 0 → digitByte (lowDigit 2 n) ≡ 0
-byte-even = by-four _ (λ q. (λ h. rw (low-digit-2 q .0), λ h. absurd (omega arith), λ h. rw (low-digit-2 q .2), λ h. absurd (omega arith)))
-
-pub byte-one : (n : ℕ) → n % 4 ≡ 1 → digitByte (lowDigit 2 n) ≡ 1
-byte-one = by-four _ (λ q. (λ h. absurd (omega arith), λ h. rw (low-digit-2 q .1), λ h. absurd (omega arith), λ h. absurd (omega arith)))
-
-pub byte-minus : (n : ℕ) → n % 2 ≢ 0 → n % 4 ≢ 1 → digitByte (lowDigit 2 n) ≡ 255
-byte-minus = by-four _ (λ q. (λ h k. absurd (omega arith), λ h k. absurd (omega arith), λ h k. absurd (omega arith), λ h k. rw (low-digit-2 q .3)))
+pub byte-at : (n : ℕ) → (255 * 256 ^ 3 + 256) / 2 ^ (8 * (n % 4)) % 256 ≡ digitByte (lowDigit 2 n)
+byte-at = by-four _ (λ q. (
+  let e : (4 * q) % 4 ≡ 0 = omega arith in rw (e, low-digit-2 q .0),
+  let e : (4 * q + 1) % 4 ≡ 1 = omega arith in rw (e, low-digit-2 q .1),
+  let e : (4 * q + 2) % 4 ≡ 2 = omega arith in rw (e, low-digit-2 q .2),
+  let e : (4 * q + 3) % 4 ≡ 3 = omega arith in rw (e, low-digit-2 q .3),
+))
 
 -- the digit depends on that remainder alone
 pub same-digit : (a b : ℕ) → a % 4 ≡ b % 4 → lowDigit 2 a ≡ lowDigit 2 b
@@ -69,13 +64,9 @@ pub one-small : (b : Bool) → boolByte b ≤ 1
 one-small true = omega arith
 one-small false = omega arith
 
--- at the place above stands half of it
-pub next-half : (words : List ℕ) (place next : ℕ) → Below (2 ^ 64) words → length words ≡ numberWords → IsNext place next
-    → wordsValue words / 2 ^ next ≡ wordsValue words / 2 ^ place / 2
-next-half words place next b long (inl e) = rw e (sym (shr-shr (wordsValue words) place 1))
-next-half words place next b long (inr e) =
-    let z : wordsValue words / 2 ^ place ≡ 0 = above-all words place b (omega arith) in
-    rw (e .1, z)
+-- the low word has the two low binary digits
+low-word : (words : List ℕ) → (getD words 0 0 % 2 ≡ wordsValue words % 2) × (getD words 0 0 / 2 % 2 ≡ wordsValue words / 2 % 2)
+low-word words = (omega (arith, positional-drop (2 ^ 64) words 0), omega (arith, positional-drop (2 ^ 64) words 0))
 
 -- ---- the definitions of a take, where something is left
 pub answer-some : (n : ℕ) → n ≢ 0 → takeAnswer n ≡ Digit (digitByte (lowDigit 2 n))
@@ -99,59 +90,55 @@ going zero true h z = omega arith
 going (suc v) b h z = omega arith
 
 -- ---- the two returns of a take
-pub done-is : (r : Recoder) (s : Seen) → (s .none && not (r .carry)) ≡ true → IsSeen (wordsValue (r .words) / 2 ^ r .place) s → IsTake r (record { next = r; answer = Done })
-unfolding standsFor
-done-is r s h seen =
-    let v : ℕ = wordsValue (r .words) / 2 ^ r .place in
-    let z : v + carried (r .carry) ≡ 0 = ended v (r .carry) (sym (ap (λ (t : Bool). t && not (r .carry)) (seen .none)) ∙ h) in
-    record { answer = rw z; next = rw z; done = λ h. refl }
+module _ (r : Recoder) (none : Bool) (is-none : none ≡ eqb (wordsValue (r .words)) 0) where
+  pub done-is : (none && not (r .carry)) ≡ true → IsTake r (record { next = r; answer = Done })
+  unfolding standsFor
+  done-is h =
+      let v : ℕ = wordsValue (r .words) in
+      let z : v + carried (r .carry) ≡ 0 = ended v (r .carry) (sym (ap (λ (t : Bool). t && not (r .carry)) is-none) ∙ h) in
+      record { answer = rw z; next = rw z; done = λ h. refl }
 
-pub move-is : (r : Recoder) (s : Seen) (next digit : ℕ) → Below (2 ^ 64) (r .words) → length (r .words) ≡ numberWords → IsNext (r .place) next
-    → (s .none && not (r .carry)) ≡ false → IsSeen (wordsValue (r .words) / 2 ^ r .place) s
-    → digit ≡ digitByte (lowDigit 2 (s .low + s .above + boolByte (r .carry) + s .above))
-    → IsTake r (record { next = record { words = r .words; place = next; carry = leb 2 (s .low + s .above + boolByte (r .carry)) }; answer = Digit digit })
-unfolding standsFor
-move-is r s next digit b long n left seen byte =
-    let low : ℕ = s .low in
-    let above : ℕ = s .above in
-    let v : ℕ = wordsValue (r .words) / 2 ^ r .place in
-    let c : ℕ = carried (r .carry) in
-    let e : boolByte (r .carry) ≡ c = carried-byte (r .carry) in
-    let small : c ≤ 1 = omega (arith, one-small (r .carry)) in
-    let some : v + c ≢ 0 = going v (r .carry) (sym (ap (λ (t : Bool). t && not (r .carry)) (seen .none)) ∙ left) in
-    let half = next-half (r .words) (r .place) next b long n in
-    let l : low ≡ v % 2 = seen .low in
-    let a : above ≡ v / 2 % 2 = seen .above in
-    let d : lowDigit 2 (low + above + c + above) ≡ lowDigit 2 (v + c) = same-digit (low + above + c + above) (v + c) (residue v c low above l a) in
-    let m : rest 2 (v + c) ≡ v / 2 + (low + above + c) / 2 = moved v c small ∙ ap (λ (k : ℕ). v / 2 + k / 2) (sum v c low above l a) in
-    record {
-      answer = rw (byte, e, d) (sym (answer-some (v + c) some));
-      next = rw (e, half, carried-half (low + above + c) (omega arith), leaves-some (v + c) some) (sym m);
-      done = λ z. absurd (some z);
-    }
-  where
-    sum : (v c low above : ℕ) → low ≡ v % 2 → above ≡ v / 2 % 2 → v % 4 % 2 + v % 4 / 2 + c ≡ low + above + c
-    sum v c low above l a = omega arith
+  pub move-is : (low above digit : ℕ) (half : List ℕ) → (none && not (r .carry)) ≡ false
+      → low ≡ getD (r .words) 0 0 % 2 → above ≡ getD (r .words) 0 0 / 2 % 2 → wordsValue half ≡ wordsValue (r .words) / 2
+      → digit ≡ digitByte (lowDigit 2 (low + above + boolByte (r .carry) + above))
+      → IsTake r (record { next = record { words = half; carry = leb 2 (low + above + boolByte (r .carry)) }; answer = Digit digit })
+  unfolding standsFor
+  move-is low above digit half left lows aboves halves byte =
+      let v : ℕ = wordsValue (r .words) in
+      let c : ℕ = carried (r .carry) in
+      let e : boolByte (r .carry) ≡ c = carried-byte (r .carry) in
+      let small : c ≤ 1 = omega (arith, one-small (r .carry)) in
+      let some : v + c ≢ 0 = going v (r .carry) (sym (ap (λ (t : Bool). t && not (r .carry)) is-none) ∙ left) in
+      let l : low ≡ v % 2 = lows ∙ low-word (r .words) .0 in
+      let a : above ≡ v / 2 % 2 = aboves ∙ low-word (r .words) .1 in
+      let d : lowDigit 2 (low + above + c + above) ≡ lowDigit 2 (v + c) = same-digit (low + above + c + above) (v + c) (residue v c low above l a) in
+      let m : rest 2 (v + c) ≡ v / 2 + (low + above + c) / 2 = moved v c small ∙ ap (λ (k : ℕ). v / 2 + k / 2) (sum v c low above l a) in
+      record {
+        answer = rw (byte, e, d) (sym (answer-some (v + c) some));
+        next = rw (e, halves, carried-half (low + above + c) (omega arith), leaves-some (v + c) some) (sym m);
+        done = λ z. absurd (some z);
+      }
+    where
+      sum : (v c low above : ℕ) → low ≡ v % 2 → above ≡ v / 2 % 2 → v % 4 % 2 + v % 4 / 2 + c ≡ low + above + c
+      sum v c low above l a = omega arith
 
-    residue : (v c low above : ℕ) → low ≡ v % 2 → above ≡ v / 2 % 2 → (low + above + c + above) % 4 ≡ (v + c) % 4
-    residue v c low above l a =
-        let q : ℕ = v / 4 in
-        let s : v + c ≡ low + above + c + above + 4 * q = omega arith in
-        sym (rw (s, add-mul-mod-self-left))
+      residue : (v c low above : ℕ) → low ≡ v % 2 → above ≡ v / 2 % 2 → (low + above + c + above) % 4 ≡ (v + c) % 4
+      residue v c low above l a =
+          let q : ℕ = v / 4 in
+          let s : v + c ≡ low + above + c + above + 4 * q = omega arith in
+          sym (rw (s, add-mul-mod-self-left))
 
 -- ---- the two returns of the start
 pub refused-is : (number : List ℕ) (words : List ℕ) → numberBytes < length number → wordsValue words ≡ 0
-    → IsStart number (record { recoder = record { words = words; place = 0; carry = false }; answer = Refused NumberTooLong })
+    → IsStart number (record { recoder = record { words = words; carry = false }; answer = Refused NumberTooLong })
 unfolding standsFor
 refused-is number words h z =
     let t = lt-ltb numberBytes (length number) h in
-    let o : wordsValue words / 2 ^ 0 ≡ 0 = omega arith in
-    record { answer = rw t; recoder = rw (t, o) }
+    record { answer = rw t; recoder = rw (t, z) }
 
 pub ready-is : (number words : List ℕ) → length number ≤ numberBytes → wordsValue words ≡ bytesValue (take numberBytes number)
-    → IsStart number (record { recoder = record { words = words; place = 0; carry = false }; answer = Ready })
+    → IsStart number (record { recoder = record { words = words; carry = false }; answer = Ready })
 unfolding standsFor
 ready-is number words h e =
     let t = le-ltb numberBytes (length number) h in
-    let o : wordsValue words / 2 ^ 0 ≡ wordsValue words = omega arith in
-    record { answer = rw t; recoder = rw (t, o) (omega (arith, e, ap bytesValue (take-all numberBytes number h))) }
+    record { answer = rw t; recoder = rw t (omega (arith, e, ap bytesValue (take-all numberBytes number h))) }

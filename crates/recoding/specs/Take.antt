@@ -2,12 +2,11 @@
 use mathlib.Core.Path.{_≡_}
 use mathlib.Core.Bool.{Bool, true, false, cond}
 use mathlib.Core.List.{List, [], _∷_}
-use mathlib.Core.Logic.{_⊎_}
-use Prim.Native.Nat.{ℕ, zero, suc, _+_, _*_, _/_, _^_, _≤_}
+use Prim.Native.Nat.{ℕ, zero, suc, _+_}
 use lib.Dec.{ltb}
 use lib.IntN.{ℤ, pos}
 use lib.ListN.{length, replicate}
-use Rattle.rules.specs.Limits.{numberBytes, numberWords}
+use Rattle.rules.specs.Limits.{numberBytes}
 use Rattle.rules.specs.Outcome.{Outcome, answered, refusal}
 use Rattle.rules.specs.declared.Refusal.the-variants.{NumberTooLong}
 use Rattle.integers.specs.Positional.{bytesValue, wordsValue}
@@ -21,14 +20,14 @@ use Rattle.recoding.specs.declared.recoder.Take.{Take}
 use Rattle.recoding.specs.declared.recoder.Take.the-variants.{Digit, Done}
 use Rattle.recoding.specs.declared.recoder.Taken.{Taken}
 
--- The number that a recoder stands for: the value of its words divided by 2 ^ place, rounded down, plus one where it carries. Every recoder stands for
--- one, also one put together by hand: its digits to come are those of the canonical string of that number.
+-- The number that a recoder stands for: the value of its words, plus one where it carries. Every recoder stands for one, also one put together by hand:
+-- its digits to come are those of the canonical string of that number.
 abbrev pub carried : Bool → ℕ
 carried true = 1
 carried false = 0
 
 unfoldable pub standsFor : Recoder → ℕ
-standsFor r = wordsValue (r .words) / 2 ^ r .place + carried (r .carry)
+standsFor r = wordsValue (r .words) + carried (r .carry)
 
 -- the answer at the start, and the number that the recoder handed back stands for: zero after a refusal
 abbrev pub startAnswer : List ℕ → Start
@@ -86,7 +85,3 @@ digitOrDone (d ∷ ds) (suc k) = digitOrDone ds k
 -- the digits that a recoder stands for, in bytes
 unfoldable pub digitsToCome : Recoder → List ℕ
 digitsToCome r = digitBytes (canonical (pos (standsFor r)))
-
--- the place above, or a place above all words
-abbrev pub IsNext : ℕ → ℕ → Type 0
-IsNext place next = (next ≡ place + 1) ⊎ ((64 * numberWords ≤ place) × (next ≡ place))

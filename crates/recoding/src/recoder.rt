@@ -1,5 +1,6 @@
 // Canonical digits one at a time, lowest first.
-use integers::seen_from;
+use integers::halved;
+use integers::is_zero;
 use integers::words_of;
 use rules::NUMBER_BYTES;
 use rules::NUMBER_WORDS;
@@ -7,13 +8,11 @@ use rules::Refusal;
 ghost use mathlib.Core.Path.{_≡_};
 ghost use Rattle.signed_digits.specs.Naf.{lowDigit};
 ghost use Rattle.signed_digits.specs.Bytes.{digitByte};
-ghost use Rattle.recoding.specs.Take.{standsFor, IsStart, IsTake, IsNext};
+ghost use Rattle.recoding.specs.Take.{standsFor, IsStart, IsTake};
 
-// A recoder stands for the value of its words, least significant first, divided by two to the power
-// of its place and rounded down, plus one where it carries.
+// A recoder stands for the value of its words, least significant first, plus one where it carries.
 pub struct Recoder {
     pub words: [u64; NUMBER_WORDS],
-    pub place: usize,
     pub carry: bool,
 }
 
@@ -48,7 +47,6 @@ impl Recoder {
             return Started {
                 recoder: Recoder {
                     words: [0; NUMBER_WORDS],
-                    place: 0,
                     carry: false,
                 },
                 answer: Start::Refused(Refusal::NumberTooLong),
@@ -57,7 +55,6 @@ impl Recoder {
         Started {
             recoder: Recoder {
                 words: words_of(number),
-                place: 0,
                 carry: false,
             },
             answer: Start::Ready,
@@ -69,21 +66,20 @@ impl Recoder {
         ensures { λ r. ⌜ IsTake self r ⌝ }
     {
         let words = self.words;
-        let place = self.place;
         let carry = self.carry;
-        let seen = seen_from(words, place);
-        if seen.none & !carry {
+        if is_zero(&words) & !carry {
             return Taken {
                 next: self,
                 answer: Take::Done,
             };
         }
-        let ones = seen.low + seen.above + carry as u64;
-        let residue = ones + seen.above;
+        let low = words[0] % 2;
+        let above = words[0] / 2 % 2;
+        let ones = low + above + carry as u64;
+        let residue = ones + above;
         Taken {
             next: Recoder {
-                words: words,
-                place: next_place(place),
+                words: halved(words),
                 carry: 2 <= ones,
             },
             answer: Take::Digit(digit_byte(residue)),
@@ -91,26 +87,9 @@ impl Recoder {
     }
 }
 
-// The place above; above all words one place is like another.
-fn next_place(place: usize) -> usize
-    ensures { λ r. ⌜ IsNext place r ⌝ }
-{
-    if place < 64 * NUMBER_WORDS {
-        place + 1
-    } else {
-        place
-    }
-}
-
-// The byte of the lowest digit of a number.
+// The byte of the lowest digit of a number: 0, 1, 0, minus 1 by the remainder modulo 4.
 pub fn digit_byte(number: u64) -> u8
     ensures { λ r. ⌜ r ≡ digitByte (lowDigit 2 number) ⌝ }
 {
-    if number % 2 == 0 {
-        0
-    } else if number % 4 == 1 {
-        1
-    } else {
-        255
-    }
+    ((0xFF00_0100u64 >> (8 * (number % 4))) % 256) as u8
 }

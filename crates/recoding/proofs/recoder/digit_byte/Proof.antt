@@ -1,20 +1,22 @@
 -- `recoding::recoder::digit_byte` meets its contract. Assumes nothing.
-use mathlib.Core.Path.{sym}
-use Rattle.recoding.proofs.Moves.{byte-even, byte-one, byte-minus}
+use Rattle.recoding.proofs.Moves.{byte-at}
 use borrow.Author.Needs.{needs}
 use Rattle.recoding.proofs.recoder.digit_byte.Statement.{statement}
 use Rattle.recoding.proofs.recoder.digit_byte.Tie as tie
 use Rattle.recoding.proofs.recoder.digit_byte.Reads as reads
 use Rattle.recoding.proofs.recoder.digit_byte.Lts as lts
 
+mul-result : tie.Need-mul-result
+mul-result c = search needs
+
+shr-result : tie.Need-shr-result
+shr-result c = search needs
+
+cast-result : tie.Need-cast-result
+cast-result c = search needs
+
 returns : tie.Need-returns
-returns c = sym (byte-even (c .before .args .number) (c .if1 .taken))
-
-returns-2 : tie.Need-returns-2
-returns-2 c = sym (byte-one (c .before .before .args .number) (c .if2 .taken))
-
-returns-3 : tie.Need-returns-3
-returns-3 c = sym (byte-minus (c .before .before .args .number) (c .before .if1 .left) (c .if2 .left))
+returns c = byte-at (c .args .number)
 
 pub digit-byte-spec : {M : Type 1} → statement M
-digit-byte-spec = tie.close (tie.spec returns returns-2 returns-3)
+digit-byte-spec = tie.close (tie.spec mul-result shr-result cast-result returns)

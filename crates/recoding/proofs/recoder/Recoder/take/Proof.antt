@@ -1,24 +1,32 @@
 -- `recoding::recoder::Recoder::take` meets its contract. Assumes nothing.
-use Prim.Native.Nat.{ℕ}
+use mathlib.Core.Path.{refl}
+use Prim.Native.Nat.{_/_, _%_}
 use native.Mathlib.Omega.{arith}
 use lib.ListN.{getD}
-use mir.Syntax.{w64}
-use mir.Val.{Fits}
 use Rattle.recoding.proofs.Moves.{done-is, move-is, one-small}
 use borrow.Author.Needs.{needs}
 use Rattle.recoding.proofs.recoder.Recoder.take.Statement.{statement}
 use Rattle.recoding.proofs.recoder.Recoder.take.Tie as tie
 use Rattle.recoding.proofs.recoder.Recoder.take.Reads as reads
 use Rattle.recoding.proofs.recoder.Recoder.take.Lts as lts
-use Rattle.integers.proofs.seen_from.Reads as seen-from-reads
+use Rattle.integers.proofs.halved.Reads as halved-reads
+use Rattle.integers.proofs.is_zero.Reads as is-zero-reads
 use Rattle.recoding.proofs.recoder.digit_byte.Reads as digit-byte-reads
-use Rattle.recoding.proofs.recoder.next_place.Reads as next-place-reads
 
-seen-from-requires : tie.Need-seen-from-requires
-seen-from-requires c κs = search needs
+slice-aggregate-is-zero : tie.Need-slice-aggregate-is-zero
+slice-aggregate-is-zero c = search needs
+
+is-zero-requires : tie.Need-is-zero-requires
+is-zero-requires c κs = search needs
 
 returns : tie.Need-returns
-returns c = done-is (c .before .before .before .before .args .self) (c .before .before .seen-from .result) (c .if1 .taken) (c .before .before .seen-from .ensures)
+returns c = done-is (c .before .before .before .before .args .self) (c .before .is-zero .result) (c .before .is-zero .ensures) (c .if1 .taken)
+
+array-read-low : tie.Need-array-read-low
+array-read-low c = search needs
+
+array-read-above : tie.Need-array-read-above
+array-read-above c = search needs
 
 add-ones : tie.Need-add-ones
 add-ones c = search needs
@@ -27,34 +35,38 @@ cast-ones : tie.Need-cast-ones
 cast-ones c = search needs
 
 add-ones-2 : tie.Need-add-ones-2
-add-ones-2 c = omega (arith, one-small (c .before .before .before .before .before .args .self .carry))
+add-ones-2 c = omega (arith, one-small (c .before .before .before .before .args .self .carry))
 
 add-residue : tie.Need-add-residue
-add-residue c = omega (arith, one-small (c .before .before .before .before .before .before .args .self .carry))
+add-residue c = omega (arith, one-small (c .before .before .before .before .args .self .carry))
 
-next-place-requires : tie.Need-next-place-requires
-next-place-requires c κs = search needs
+halved-requires : tie.Need-halved-requires
+halved-requires c κs = search needs
 
 digit-byte-requires : tie.Need-digit-byte-requires
 digit-byte-requires c κs = search needs
 
 returns-2 : tie.Need-returns-2
 returns-2 c =
-    let self = c .before .before .before .before .before .before .before .before .args .self in
-    let seen = c .before .before .before .before .before .before .seen-from in
-    let below : (i : ℕ) → Fits w64 (getD (self .words) i 0) = λ i. search needs in
-    move-is self (seen .result) (c .before .next-place .result) (c .digit-byte .result) (λ i. below i .fits) (search needs) (c .before .next-place .ensures) (c .before .before .before .before .if1 .left) (seen .ensures) (c .digit-byte .ensures)
+    let tested = c .before .before .before in
+    let self = tested .before .before .before .args .self in
+    let word = getD (self .words) 0 0 in
+    move-is self (tested .is-zero .result) (tested .is-zero .ensures) (word % 2) (word / 2 % 2) (c .digit-byte .result) (c .before .halved .result)
+    (c .before .before .if1 .left) refl refl (c .before .halved .ensures) (c .digit-byte .ensures)
 
 pub take-spec : {M : Type 1} → statement M
 take-spec =
     tie.close
     (tie.spec
-    seen-from-requires
+    slice-aggregate-is-zero
+    is-zero-requires
     returns
+    array-read-low
+    array-read-above
     add-ones
     cast-ones
     add-ones-2
     add-residue
-    next-place-requires
+    halved-requires
     digit-byte-requires
     returns-2)

@@ -136,14 +136,7 @@ pub fn is_zero(v: Value) -> bool
     ensures { λ r. ⌜ r ≡ eqb (natAbs (integerOf v)) 0 ⌝ }
 {
     let words = v.words;
-    let mut k = 0;
-    while k < VALUE_WORDS {
-        if words[k] != 0 {
-            return false;
-        }
-        k += 1;
-    }
-    true
+    integers::is_zero(&words)
 }
 
 // Whether a value's size is below the bound: the top word holds a single byte.

@@ -2,20 +2,27 @@
 // slice is passed as a pointer and a length. include/lesmutka.h says what each call takes and
 // leaves.
 mod answers;
+mod kept;
 
 use answers::Length;
 use answers::Limits;
+use answers::Started;
 use answers::Steps;
 use answers::Value;
+use kept::KEPT_WORDS;
+use recoding::recoder::Recoder;
+use recoding::recoder::Take;
 ghost use mathlib.Core.Path.{_≡_};
 ghost use lib.ListN.{length};
 ghost use Rattle.rules.specs.Limits.{documented};
 ghost use Rattle.recoding.specs.Recode.{recodeAnswer, recodeBuffer};
+ghost use Rattle.recoding.specs.Take.{startAnswer, startNumber};
 ghost use Rattle.cleaning.specs.Clean.{cleanAnswer, cleanBuffer};
 ghost use Rattle.reading.specs.ReadBack.{readBackAnswer, readBackBuffer};
 ghost use Rattle.planning.specs.Plan.{forecastAnswer, planAnswer, planBuffer};
 ghost use Rattle.checking.specs.Check.{checkAnswer, checkSpace};
-ghost use Rattle.lesmutka.specs.Answers.{writtenFields, readFields, countedFields, limitFields};
+ghost use Rattle.lesmutka.specs.Answers.{startedFields, writtenFields, readFields, countedFields, limitFields};
+ghost use Rattle.lesmutka.specs.Kept.{keptNumber, IsKeptTake};
 
 // Writes the canonical string of a number.
 #[no_mangle]
@@ -24,6 +31,37 @@ pub extern "C" fn lesmutka_recode(number: &[u8], out: &mut [u8]) -> Length
     ensures buffer { λ r. ⌜ now (out .exit) ≡ recodeBuffer (now (number .entry)) (now (out .entry)) ⌝ }
 {
     answers::of_written(recoding::recode(number, out))
+}
+
+// What a take answers where no digit is left: a number above all bytes.
+const DONE: u32 = 256;
+
+// Starts taking the digits of a number, in a recoder that the caller keeps.
+#[no_mangle]
+pub extern "C" fn lesmutka_start(number: &[u8], recoder: &mut [u64; KEPT_WORDS]) -> Started
+    ensures answer { λ r. ⌜ r ≡ startedFields (startAnswer (now (number .entry))) ⌝ }
+    ensures recoder { λ r. ⌜ keptNumber (now (recoder .exit)) ≡ startNumber (now (number .entry)) ⌝ }
+{
+    let started = Recoder::start(number);
+    *recoder = kept::kept_of(started.recoder);
+    let answer = started.answer;
+    answers::of_start(answer)
+}
+
+// Takes the lowest digit that is left.
+#[no_mangle]
+pub extern "C" fn lesmutka_take(recoder: &mut [u64; KEPT_WORDS]) -> u32
+    ensures { λ r. ⌜ IsKeptTake (now (recoder .entry)) (now (recoder .exit)) r ⌝ }
+{
+    let taken = kept::recoder_of(*recoder).take();
+    let answer = taken.answer;
+    match answer {
+        Take::Digit(digit) => {
+            *recoder = kept::kept_of(taken.next);
+            digit as u32
+        }
+        Take::Done => DONE,
+    }
 }
 
 // Writes the canonical string of a digit string's value.

@@ -1,0 +1,25 @@
+-- `lesmutka::kept::recoder_of` meets its contract. Assumes nothing.
+use lib.ListN.{getD}
+use Rattle.rules.specs.Limits.{numberWords}
+use Rattle.recoding.specs.Take.{standsFor}
+use Rattle.lesmutka.specs.Kept.{keptNumber}
+use Rattle.lesmutka.proofs.Copied.{carried-from}
+use borrow.Author.Needs.{needs}
+use Rattle.lesmutka.proofs.kept.recoder_of.Statement.{statement}
+use Rattle.lesmutka.proofs.kept.recoder_of.Tie as tie
+use Rattle.lesmutka.proofs.kept.recoder_of.Reads as reads
+use Rattle.lesmutka.proofs.kept.recoder_of.Lts as lts
+use Rattle.lesmutka.proofs.kept.words_in.Reads as words-in-reads
+
+words-in-requires : tie.Need-words-in-requires
+words-in-requires c κs = search needs
+
+array-read-t7 : tie.Need-array-read-t7
+array-read-t7 c = search needs
+
+returns : tie.Need-returns
+unfolding standsFor keptNumber
+returns c = rw (c .words-in .ensures, carried-from (getD (c .before .args .t1) numberWords 0))
+
+pub recoder-of-spec : {M : Type 1} → statement M
+recoder-of-spec = tie.close (tie.spec words-in-requires array-read-t7 returns)

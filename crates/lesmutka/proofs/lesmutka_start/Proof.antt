@@ -1,0 +1,27 @@
+-- `lesmutka::lesmutka_start` meets its contract. Assumes nothing.
+use mathlib.Core.Path.{ap, _∙_}
+use Rattle.lesmutka.specs.Answers.{startedFields}
+use borrow.Author.Needs.{needs}
+use Rattle.lesmutka.proofs.lesmutka_start.Statement.{statement}
+use Rattle.lesmutka.proofs.lesmutka_start.Tie as tie
+use Rattle.lesmutka.proofs.lesmutka_start.Reads as reads
+use Rattle.lesmutka.proofs.lesmutka_start.Lts as lts
+use Rattle.lesmutka.proofs.answers.of_start.Reads as of-start-reads
+use Rattle.lesmutka.proofs.kept.kept_of.Reads as kept-of-reads
+use Rattle.recoding.proofs.recoder.Recoder.start.Reads as start-reads
+
+start-requires : tie.Need-start-requires
+start-requires c κs = search needs
+
+kept-of-requires : tie.Need-kept-of-requires
+kept-of-requires c κs = search needs
+
+of-start-requires : tie.Need-of-start-requires
+of-start-requires c κs = search needs
+
+returns : tie.Need-returns
+returns c = (c .of-start .ensures ∙ ap startedFields (c .before .before .start .ensures .answer), c .before .kept-of .ensures ∙ c .before .before .start .ensures .recoder)
+
+pub lesmutka-start-spec : {M : Type 1} → statement M
+lesmutka-start-spec =
+    tie.close (tie.spec start-requires kept-of-requires of-start-requires returns)

@@ -1,0 +1,33 @@
+-- A recoder in words that the caller keeps: the number that it stands for, whatever they hold, and what start and take do to it.
+use Prim.Native.Nat.{ℕ, zero, suc, _+_}
+use mathlib.Core.Path.{_≡_}
+use mathlib.Core.List.{List}
+use lib.ListN.{take, getD}
+use Rattle.rules.specs.Limits.{numberWords}
+use Rattle.integers.specs.Positional.{wordsValue}
+use Rattle.recoding.specs.declared.recoder.Take.{Take}
+use Rattle.recoding.specs.declared.recoder.Take.the-variants.{Digit, Done}
+use Rattle.recoding.specs.Take.{takeAnswer, takeLeaves}
+
+-- the last word says whether it carries: one, unless it is 0
+abbrev pub carriedBy : ℕ → ℕ
+carriedBy zero = 0
+carriedBy (suc n) = 1
+
+-- the number: that of the first words, least significant first, plus one where it carries
+unfoldable pub keptNumber : List ℕ → ℕ
+keptNumber kept = wordsValue (take numberWords kept) + carriedBy (getD kept numberWords 0)
+
+-- the answer of a take as C takes it: the digit's byte, or a number above all bytes
+abbrev pub doneNumber : ℕ
+doneNumber = 256
+
+abbrev pub takenNumber : Take → ℕ
+takenNumber (Digit d) = d
+takenNumber Done = doneNumber
+
+-- A take of a kept recoder: the answer and the number left go by the number that it stood for, and done leaves every word unchanged.
+pub record IsKeptTake (before after : List ℕ) (r : ℕ) : Type 0 where
+  pub answer : r ≡ takenNumber (takeAnswer (keptNumber before))
+  pub next : keptNumber after ≡ takeLeaves (keptNumber before)
+  pub done : keptNumber before ≡ 0 → after ≡ before

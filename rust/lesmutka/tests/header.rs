@@ -1,0 +1,68 @@
+//! The C header, this crate and the linked library say the same: limits, refusals, words.
+use lesmutka::{limits, Refusal};
+
+const HEADER: &str = include_str!("../../../include/lesmutka.h");
+
+/// The value of a constant of the header.
+fn constant(name: &str) -> usize {
+    let define = format!("#define {} ", name);
+    let line = HEADER.lines().find(|line| line.starts_with(&define)).expect(name);
+    line[define.len()..].parse().expect(name)
+}
+
+#[test]
+fn limits_agree() {
+    let linked = limits();
+    assert_eq!(linked.number_bytes, lesmutka::NUMBER_BYTES);
+    assert_eq!(linked.string_digits, lesmutka::STRING_DIGITS);
+    assert_eq!(linked.step_bytes, lesmutka::STEP_BYTES);
+    assert_eq!(linked.plan_steps, lesmutka::PLAN_STEPS);
+    assert_eq!(linked.value_bytes, lesmutka::VALUE_BYTES);
+    assert_eq!(linked.record_bytes, lesmutka::RECORD_BYTES);
+    assert_eq!(linked.number_bytes, constant("LESMUTKA_NUMBER_BYTES"));
+    assert_eq!(linked.string_digits, constant("LESMUTKA_STRING_DIGITS"));
+    assert_eq!(linked.step_bytes, constant("LESMUTKA_STEP_BYTES"));
+    assert_eq!(linked.plan_steps, constant("LESMUTKA_PLAN_STEPS"));
+    assert_eq!(linked.record_bytes, constant("LESMUTKA_RECORD_BYTES"));
+}
+
+/// All refusals, in the order of their numbers.
+fn refusals() -> [Refusal; 12] {
+    [
+        Refusal::NumberTooLong,
+        Refusal::NumberIsZero,
+        Refusal::MethodOrWidth,
+        Refusal::NotADigit { place: 7 },
+        Refusal::StringTooLong,
+        Refusal::RoomTooSmall { needed: 7 },
+        Refusal::PlanLength,
+        Refusal::WorkSpaceTooShort,
+        Refusal::StepUnsound { step: 7 },
+        Refusal::ValueIsZero { step: 7 },
+        Refusal::ValueTooLarge { step: 7 },
+        Refusal::WrongEnd { step: 7 },
+    ]
+}
+
+#[test]
+fn numbers_run_from_1_to_12() {
+    for (i, refusal) in refusals().iter().enumerate() {
+        assert_eq!(refusal.number() as usize, i + 1);
+    }
+}
+
+#[test]
+fn words_agree() {
+    let table = HEADER.split("words[] = {").nth(1).expect("the header's table of words");
+    let words: Vec<&str> = table
+        .split("};")
+        .next()
+        .unwrap()
+        .lines()
+        .filter_map(|line| line.trim().strip_prefix('"')?.strip_suffix("\","))
+        .collect();
+    assert_eq!(words.len(), 13);
+    for refusal in refusals() {
+        assert_eq!(words[refusal.number() as usize], refusal.message().to_string());
+    }
+}

@@ -124,9 +124,7 @@ pub struct Generator {
 
 impl Generator {
     pub fn new(seed: u64) -> Generator {
-        Generator {
-            rng: Rng::new(seed),
-        }
+        Generator { rng: Rng::new(seed) }
     }
 
     pub fn rng(&mut self) -> &mut Rng {
@@ -187,11 +185,7 @@ impl Generator {
     pub fn forecast_case(&mut self) -> ForecastCase {
         let number = self.number();
         let (method, width) = self.method_and_width();
-        ForecastCase {
-            number,
-            method,
-            width,
-        }
+        ForecastCase { number, method, width }
     }
 
     pub fn check_case(&mut self) -> CheckCase {
@@ -265,9 +259,7 @@ impl Generator {
             }
             7 => {
                 let length = self.rng.between(1, 32);
-                let byte = self
-                    .rng
-                    .pick(&[0x55, 0xAA, 0x33, 0xCC, 0x6D, 0xB6, 0xDB, 0x11]);
+                let byte = self.rng.pick(&[0x55, 0xAA, 0x33, 0xCC, 0x6D, 0xB6, 0xDB, 0x11]);
                 vec![byte; length]
             }
             8 => self.runs(),

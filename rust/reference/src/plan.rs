@@ -78,8 +78,7 @@ impl<'a> Chain<'a> {
         let start = STEP_BYTES * self.filled;
         let [j_low, j_high] = (j as u16).to_le_bytes();
         let [k_low, k_high] = (k as u16).to_le_bytes();
-        self.out[start..start + STEP_BYTES]
-            .copy_from_slice(&[operation, j_low, j_high, k_low, k_high]);
+        self.out[start..start + STEP_BYTES].copy_from_slice(&[operation, j_low, j_high, k_low, k_high]);
         self.filled += 1;
         self.latest = self.filled;
     }

@@ -92,10 +92,7 @@ fn plans_end_at_the_number() {
                 counted[kind] += 1;
             }
             assert_eq!(values.last(), Some(&number));
-            assert_eq!(
-                counted,
-                [counts.doublings, counts.additions, counts.subtractions]
-            );
+            assert_eq!(counted, [counts.doublings, counts.additions, counts.subtractions]);
 
             let mut space = vec![0; 34 * values.len()];
             assert_eq!(check(&bytes, steps, &mut space), Ok(counts));

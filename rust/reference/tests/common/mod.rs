@@ -68,11 +68,7 @@ impl Big {
         if self.negative != other.negative && self.compare_size(other) == Ordering::Less {
             return other.plus(self);
         }
-        let sign = if self.negative == other.negative {
-            1
-        } else {
-            -1
-        };
+        let sign = if self.negative == other.negative { 1 } else { -1 };
         let mut size = Vec::new();
         let mut carry = 0i32;
         for i in 0..self.size.len().max(other.size.len()) + 1 {
@@ -213,9 +209,7 @@ pub fn read_back(digits: &[u8], out: &mut [u8]) -> Result<(u8, usize), Refusal> 
 type Step = (u8, usize, usize);
 
 fn bits_value(bits: &[bool]) -> usize {
-    bits.iter()
-        .rev()
-        .fold(0, |value, &bit| 2 * value + usize::from(bit))
+    bits.iter().rev().fold(0, |value, &bit| 2 * value + usize::from(bit))
 }
 
 /// The steps of a plan, straight from the words of document 01.
@@ -297,9 +291,7 @@ fn steps_of(e: &Big, method: u32, width: u32) -> Result<Vec<Step>, Refusal> {
                 while !bits[at + length - 1] {
                     length -= 1;
                 }
-                let v = bits[at..at + length]
-                    .iter()
-                    .fold(0, |v, &bit| 2 * v + usize::from(bit));
+                let v = bits[at..at + length].iter().fold(0, |v, &bit| 2 * v + usize::from(bit));
                 latest = match latest {
                     None => Some(position(v)),
                     Some(mut from) => {

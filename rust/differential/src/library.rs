@@ -1,0 +1,87 @@
+//! The linked functions with the reference's signatures. Straight through the C boundary: nothing
+//! of the safe wrapper stands between.
+use lesmutka::sys;
+use reference::{Counts, Refusal};
+
+fn refused(refusal: usize, place: usize, rest: &[usize]) -> Result<(), Refusal> {
+    if refusal == 0 {
+        assert_eq!(place, 0, "a place without a refusal");
+        return Ok(());
+    }
+    assert!(
+        rest.iter().all(|&field| field == 0),
+        "a refusal that answers more than number and place"
+    );
+    Err(Refusal {
+        number: refusal as u8,
+        place,
+    })
+}
+
+fn counts(steps: sys::Steps) -> Result<Counts, Refusal> {
+    let rest = [steps.doublings, steps.additions, steps.subtractions];
+    refused(steps.refusal, steps.place, &rest)?;
+    Ok(Counts {
+        doublings: steps.doublings,
+        additions: steps.additions,
+        subtractions: steps.subtractions,
+    })
+}
+
+pub fn recode(number: &[u8], out: &mut [u8]) -> Result<usize, Refusal> {
+    let answer = unsafe { sys::lesmutka_recode(number.as_ptr(), number.len(), out.as_mut_ptr(), out.len()) };
+    refused(answer.refusal, answer.place, &[answer.length]).map(|_| answer.length)
+}
+
+pub fn clean(digits: &[u8], out: &mut [u8]) -> Result<usize, Refusal> {
+    let answer = unsafe { sys::lesmutka_clean(digits.as_ptr(), digits.len(), out.as_mut_ptr(), out.len()) };
+    refused(answer.refusal, answer.place, &[answer.length]).map(|_| answer.length)
+}
+
+pub fn read_back(digits: &[u8], out: &mut [u8]) -> Result<(u8, usize), Refusal> {
+    let answer = unsafe { sys::lesmutka_read_back(digits.as_ptr(), digits.len(), out.as_mut_ptr(), out.len()) };
+    refused(answer.refusal, answer.place, &[answer.sign, answer.length]).map(|_| (answer.sign as u8, answer.length))
+}
+
+pub fn plan(number: &[u8], method: u32, width: u32, out: &mut [u8]) -> Result<Counts, Refusal> {
+    counts(unsafe {
+        sys::lesmutka_plan(
+            number.as_ptr(),
+            number.len(),
+            method,
+            width,
+            out.as_mut_ptr(),
+            out.len(),
+        )
+    })
+}
+
+pub fn forecast(number: &[u8], method: u32, width: u32) -> Result<Counts, Refusal> {
+    counts(unsafe { sys::lesmutka_forecast(number.as_ptr(), number.len(), method, width) })
+}
+
+pub fn check(number: &[u8], plan: &[u8], space: &mut [u8]) -> Result<Counts, Refusal> {
+    counts(unsafe {
+        sys::lesmutka_check(
+            number.as_ptr(),
+            number.len(),
+            plan.as_ptr(),
+            plan.len(),
+            space.as_mut_ptr(),
+            space.len(),
+        )
+    })
+}
+
+/// A recoder in memory that is lent, at the alignment of a word.
+pub fn start(number: &[u8], recoder: &mut sys::Recoder) -> Result<(), Refusal> {
+    let answer = unsafe { sys::lesmutka_start(number.as_ptr(), number.len(), recoder) };
+    refused(answer.refusal, answer.place, &[])
+}
+
+pub fn take(recoder: &mut sys::Recoder) -> Option<u8> {
+    match unsafe { sys::lesmutka_take(recoder) } {
+        sys::DONE => None,
+        byte => Some(u8::try_from(byte).expect("a digit's byte, or done")),
+    }
+}

@@ -1,0 +1,325 @@
+//! Every call of the proved library beside an implementation written from the papers alone: the
+//! same answers, and the same bytes in all memory, lent or not. A fixed seed; stops at the first
+//! difference.
+mod library;
+mod memory;
+
+use lesmutka::sys;
+use memory::Lent;
+use reference::generate::{Generator, Rng};
+use reference::{Counts, Refusal};
+use std::fmt::Debug;
+
+const SEED: u64 = 0x6c65_736d_7574_6b61;
+const CASES: usize = 100_000;
+
+/// How often a call answered, and gave each refusal.
+struct Tally {
+    call: &'static str,
+    answered: usize,
+    refused: [usize; 13],
+}
+
+impl Tally {
+    fn new(call: &'static str) -> Tally {
+        Tally {
+            call,
+            answered: 0,
+            refused: [0; 13],
+        }
+    }
+
+    fn count<T>(&mut self, answer: &Result<T, Refusal>) {
+        match answer {
+            Ok(_) => self.answered += 1,
+            Err(refusal) => self.refused[refusal.number as usize] += 1,
+        }
+    }
+
+    fn cases(&self) -> usize {
+        self.answered + self.refused.iter().sum::<usize>()
+    }
+
+    /// Prints the counts. A call that did not answer, did not give each of its refusals, or gave
+    /// another, was not tested.
+    fn print(&self, refusals: &[usize]) {
+        print!(
+            "{:<10} {:>7} cases: {:>6} answered",
+            self.call,
+            self.cases(),
+            self.answered
+        );
+        for (number, &count) in self.refused.iter().enumerate() {
+            if count > 0 {
+                print!(", {} refused {}", count, number);
+            }
+        }
+        println!();
+        assert!(self.cases() >= CASES, "{}: too few cases", self.call);
+        assert!(self.answered > 0, "{}: no answer", self.call);
+        for number in 0..13 {
+            assert_eq!(
+                self.refused[number] > 0,
+                refusals.contains(&number),
+                "{}: refusal {}",
+                self.call,
+                number
+            );
+        }
+    }
+}
+
+/// Says what differed, and ends.
+fn differ(call: &str, what: &str, inputs: &dyn Debug) -> ! {
+    eprintln!("{}: {} differ for {:x?}", call, what, inputs);
+    std::process::exit(1);
+}
+
+/// One call on both sides: `ours` and `theirs` read the inputs and may write into `lent`.
+fn compare<T: PartialEq + Debug>(
+    tally: &mut Tally,
+    inputs: &[&Lent],
+    lent: &Lent,
+    ours: impl Fn(&mut [u8]) -> Result<T, Refusal>,
+    theirs: impl Fn(&mut [u8]) -> Result<T, Refusal>,
+) -> Lent {
+    let before: Vec<Lent> = inputs.iter().map(|&input| input.clone()).collect();
+    let mut left = lent.clone();
+    let mut right = lent.clone();
+    let answer = ours(left.part_mut());
+    let expected = theirs(right.part_mut());
+    let parts: Vec<&[u8]> = inputs.iter().map(|input| input.part()).collect();
+    if answer != expected {
+        differ(tally.call, "answers", &(parts, lent.part().len(), answer, expected));
+    }
+    if left != right {
+        differ(tally.call, "bytes left", &(parts, left.part(), right.part()));
+    }
+    if inputs.iter().zip(&before).any(|(input, before)| *input != before) {
+        differ(tally.call, "inputs before and after", &parts);
+    }
+    tally.count(&answer);
+    left
+}
+
+fn recode(cases: &mut Generator, rng: &mut Rng) -> Tally {
+    let mut tally = Tally::new("recode");
+    for _ in 0..CASES {
+        let case = cases.recode_case();
+        let number = Lent::holding(rng, &case.number);
+        let lent = Lent::noise(rng, case.room);
+        compare(
+            &mut tally,
+            &[&number],
+            &lent,
+            |out| library::recode(number.part(), out),
+            |out| reference::recode(number.part(), out),
+        );
+    }
+    tally
+}
+
+fn clean(cases: &mut Generator, rng: &mut Rng) -> Tally {
+    let mut tally = Tally::new("clean");
+    for _ in 0..CASES {
+        let case = cases.clean_case();
+        let digits = Lent::holding(rng, &case.digits);
+        let lent = Lent::noise(rng, case.room);
+        compare(
+            &mut tally,
+            &[&digits],
+            &lent,
+            |out| library::clean(digits.part(), out),
+            |out| reference::clean(digits.part(), out),
+        );
+    }
+    tally
+}
+
+fn read_back(cases: &mut Generator, rng: &mut Rng) -> Tally {
+    let mut tally = Tally::new("read back");
+    for _ in 0..CASES {
+        let case = cases.read_back_case();
+        let digits = Lent::holding(rng, &case.digits);
+        let lent = Lent::noise(rng, case.room);
+        compare(
+            &mut tally,
+            &[&digits],
+            &lent,
+            |out| library::read_back(digits.part(), out),
+            |out| reference::read_back(digits.part(), out),
+        );
+    }
+    tally
+}
+
+/// Plans; each that is written goes through the library's own check, which accepts it with the
+/// same counts.
+fn plan(cases: &mut Generator, rng: &mut Rng) -> Tally {
+    let mut tally = Tally::new("plan");
+    for _ in 0..CASES {
+        let case = cases.plan_case();
+        let number = Lent::holding(rng, &case.number);
+        let lent = Lent::noise(rng, case.room);
+        let written = compare(
+            &mut tally,
+            &[&number],
+            &lent,
+            |out| library::plan(number.part(), case.method, case.width, out),
+            |out| reference::plan(number.part(), case.method, case.width, out),
+        );
+        if let Ok(counts) = library::forecast(number.part(), case.method, case.width) {
+            let steps = total(counts);
+            if 5 * steps <= case.room {
+                let mut space = vec![0; 34 * (steps + 1)];
+                let plan = &written.part()[..5 * steps];
+                if library::check(number.part(), plan, &mut space) != Ok(counts) {
+                    differ("own plans", "check and forecast", &(number.part(), plan));
+                }
+            }
+        }
+    }
+    tally
+}
+
+fn total(counts: Counts) -> usize {
+    counts.doublings + counts.additions + counts.subtractions
+}
+
+fn forecast(cases: &mut Generator, rng: &mut Rng) -> Tally {
+    let mut tally = Tally::new("forecast");
+    for _ in 0..CASES {
+        let case = cases.forecast_case();
+        let number = Lent::holding(rng, &case.number);
+        let nothing = Lent::noise(rng, 0);
+        compare(
+            &mut tally,
+            &[&number],
+            &nothing,
+            |_| library::forecast(number.part(), case.method, case.width),
+            |_| reference::forecast(number.part(), case.method, case.width),
+        );
+    }
+    tally
+}
+
+fn check(cases: &mut Generator, rng: &mut Rng) -> Tally {
+    let mut tally = Tally::new("check");
+    for _ in 0..CASES {
+        let case = cases.check_case();
+        let number = Lent::holding(rng, &case.number);
+        let plan = Lent::holding(rng, &case.plan);
+        let lent = Lent::noise(rng, case.room);
+        compare(
+            &mut tally,
+            &[&number, &plan],
+            &lent,
+            |space| library::check(number.part(), plan.part(), space),
+            |space| reference::check(number.part(), plan.part(), space),
+        );
+    }
+    tally
+}
+
+/// A recoder between words of noise.
+struct Guarded {
+    below: [u64; 8],
+    recoder: sys::Recoder,
+    above: [u64; 8],
+}
+
+impl Guarded {
+    fn noise(rng: &mut Rng) -> Guarded {
+        let mut words = || rng.next_u64();
+        Guarded {
+            below: [(); 8].map(|_| words()),
+            recoder: sys::Recoder {
+                words: [(); 5].map(|_| words()),
+            },
+            above: [(); 8].map(|_| words()),
+        }
+    }
+}
+
+/// Takes until the reference is done, and three times more.
+fn takes(number: &[u8], recoder: &mut sys::Recoder, mut theirs: reference::Recoder) {
+    let mut more = 4;
+    while more > 0 {
+        let before = *recoder;
+        let answer = library::take(recoder);
+        let (next, expected) = theirs.take();
+        if answer != expected {
+            differ("take", "digits", &(number, before.words, answer, expected));
+        }
+        if answer.is_none() {
+            if *recoder != before {
+                differ("take", "recoders before and after done", &(number, before.words));
+            }
+            more -= 1;
+        }
+        theirs = next;
+    }
+}
+
+fn take(cases: &mut Generator, rng: &mut Rng) -> Tally {
+    let mut tally = Tally::new("take");
+    for _ in 0..CASES {
+        let case = cases.take_case();
+        let number = Lent::holding(rng, &case.number);
+        let before = number.clone();
+        let mut ours = Guarded::noise(rng);
+        let (below, above) = (ours.below, ours.above);
+        let answer = library::start(number.part(), &mut ours.recoder);
+        let (theirs, expected) = reference::Recoder::start(number.part());
+        if answer != expected {
+            differ("start", "answers", &(number.part(), answer, expected));
+        }
+        takes(number.part(), &mut ours.recoder, theirs);
+        if number != before || ours.below != below || ours.above != above {
+            differ("take", "bytes that no take was lent", &number.part());
+        }
+        tally.count(&answer);
+    }
+    tally
+}
+
+/// Recoders put together by hand: they stand for their words, plus one where the last is not 0.
+fn by_hand(rng: &mut Rng) -> usize {
+    for _ in 0..CASES {
+        let mut recoder = Guarded::noise(rng).recoder;
+        for word in &mut recoder.words {
+            match rng.below(4) {
+                0 => *word = 0,
+                1 => *word = u64::MAX,
+                2 => *word >>= rng.below(64),
+                _ => {}
+            }
+        }
+        let mut number = [0; 33];
+        let mut carry = u64::from(recoder.words[4] != 0);
+        for (word, bytes) in recoder.words[..4].iter().zip(number.chunks_mut(8)) {
+            let (sum, wrapped) = word.overflowing_add(carry);
+            bytes.copy_from_slice(&sum.to_le_bytes());
+            carry = u64::from(wrapped);
+        }
+        if carry == 0 {
+            let (theirs, _) = reference::Recoder::start(&number[..32]);
+            takes(&number, &mut recoder, theirs);
+        }
+    }
+    CASES
+}
+
+fn main() {
+    let cases = &mut Generator::new(SEED);
+    let rng = &mut Rng::new(SEED ^ 1);
+    recode(cases, rng).print(&[1, 6]);
+    take(cases, rng).print(&[1]);
+    clean(cases, rng).print(&[4, 5, 6]);
+    read_back(cases, rng).print(&[4, 5, 6]);
+    plan(cases, rng).print(&[1, 2, 3, 6]);
+    forecast(cases, rng).print(&[1, 2, 3]);
+    check(cases, rng).print(&[1, 2, 7, 8, 9, 10, 11, 12]);
+    println!("recoders put together by hand: {}", by_hand(rng));
+    println!("differential: no difference");
+}

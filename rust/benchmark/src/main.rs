@@ -1,0 +1,279 @@
+//! The proved library's time beside that of plain Rust, for the same job on the same inputs.
+//!
+//! Both are release builds and are called as functions of another crate, through slices. Each round
+//! runs every job once on both sides, one after the other, so that a busy machine strikes both. The
+//! plain side is `reference`, written from the papers: no allocation, words of 64 bits, ordinary
+//! safe Rust.
+use lesmutka::sys;
+use reference::generate::Rng;
+use std::time::Instant;
+
+/// How many inputs a job has, and how often they are run in a round.
+const INPUTS: usize = 64;
+const ROUNDS: usize = 400;
+
+/// One job on both sides: each runs the i-th input.
+struct Job<'a> {
+    name: String,
+    proved: Box<dyn FnMut(usize) + 'a>,
+    plain: Box<dyn FnMut(usize) + 'a>,
+    proved_times: Vec<f64>,
+    plain_times: Vec<f64>,
+}
+
+impl<'a> Job<'a> {
+    fn new(name: &str, proved: impl FnMut(usize) + 'a, plain: impl FnMut(usize) + 'a) -> Job<'a> {
+        Job {
+            name: name.to_string(),
+            proved: Box::new(proved),
+            plain: Box::new(plain),
+            proved_times: Vec::new(),
+            plain_times: Vec::new(),
+        }
+    }
+
+    /// A round on both sides; which goes first changes from round to round.
+    fn round(&mut self, round: usize) {
+        if round % 2 == 0 {
+            self.proved_times.push(time(&mut self.proved));
+            self.plain_times.push(time(&mut self.plain));
+        } else {
+            self.plain_times.push(time(&mut self.plain));
+            self.proved_times.push(time(&mut self.proved));
+        }
+    }
+
+    fn print(&mut self) {
+        let proved = spread(&mut self.proved_times);
+        let plain = spread(&mut self.plain_times);
+        println!(
+            "{:<24} {:>8.0} {:>8.0}   {:>8.0} {:>8.0}   {:>5.2} {:>6.2}",
+            self.name,
+            proved.best,
+            proved.median,
+            plain.best,
+            plain.median,
+            proved.best / plain.best,
+            proved.median / plain.median
+        );
+    }
+}
+
+/// Keeps an answer from being left out.
+fn keep<T: Copy>(answer: T) {
+    // SAFETY: it reads a local variable.
+    unsafe { std::ptr::read_volatile(&answer) };
+}
+
+/// Nanoseconds for one input, over all inputs.
+fn time(run: &mut dyn FnMut(usize)) -> f64 {
+    let start = Instant::now();
+    for i in 0..INPUTS {
+        run(i);
+    }
+    start.elapsed().as_nanos() as f64 / INPUTS as f64
+}
+
+struct Spread {
+    best: f64,
+    median: f64,
+}
+
+fn spread(times: &mut [f64]) -> Spread {
+    times.sort_by(f64::total_cmp);
+    Spread {
+        best: times[0],
+        median: times[times.len() / 2],
+    }
+}
+
+/// Numbers of 32 bytes whose top byte is not 0.
+fn numbers(rng: &mut Rng) -> Vec<Vec<u8>> {
+    (0..INPUTS)
+        .map(|_| {
+            let mut number = rng.bytes(lesmutka::NUMBER_BYTES);
+            number[lesmutka::NUMBER_BYTES - 1] |= 0x80;
+            number
+        })
+        .collect()
+}
+
+/// Strings of so many digits, none of them better than another.
+fn strings(rng: &mut Rng, length: usize) -> Vec<Vec<u8>> {
+    (0..INPUTS)
+        .map(|_| (0..length).map(|_| [0, 1, 255][rng.below(3)]).collect())
+        .collect()
+}
+
+fn canonical(number: &[u8]) -> Vec<u8> {
+    let mut out = [0; lesmutka::RECODE_ROOM];
+    let length = reference::recode(number, &mut out).unwrap();
+    out[..length].to_vec()
+}
+
+/// A plan of 640 steps for a number: doublings of position 0, then the binary method's steps.
+fn longest(number: &[u8]) -> Vec<u8> {
+    let mut out = [0; lesmutka::PLAN_ROOM];
+    let counts = reference::plan(number, 1, 0, &mut out).unwrap();
+    let steps = counts.doublings + counts.additions;
+    let more = lesmutka::PLAN_STEPS - steps;
+    let shifted = |low: u8, high: u8| match u16::from_le_bytes([low, high]) {
+        0 => [0, 0],
+        position => (position + more as u16).to_le_bytes(),
+    };
+    let mut plan = vec![0; lesmutka::STEP_BYTES * more];
+    for step in out[..lesmutka::STEP_BYTES * steps].chunks(lesmutka::STEP_BYTES) {
+        plan.push(step[0]);
+        plan.extend(shifted(step[1], step[2]));
+        plan.extend(shifted(step[3], step[4]));
+    }
+    plan
+}
+
+fn proved_recode(number: &[u8], out: &mut [u8]) -> sys::Length {
+    unsafe { sys::lesmutka_recode(number.as_ptr(), number.len(), out.as_mut_ptr(), out.len()) }
+}
+
+fn proved_takes(number: &[u8]) -> u32 {
+    let mut recoder = sys::Recoder { words: [0; 5] };
+    unsafe { sys::lesmutka_start(number.as_ptr(), number.len(), &mut recoder) };
+    let mut sum = 0;
+    loop {
+        match unsafe { sys::lesmutka_take(&mut recoder) } {
+            sys::DONE => return sum,
+            digit => sum += digit,
+        }
+    }
+}
+
+fn plain_takes(number: &[u8]) -> u32 {
+    let (mut recoder, _) = reference::Recoder::start(number);
+    let mut sum = 0;
+    while let (next, Some(digit)) = recoder.take() {
+        recoder = next;
+        sum += u32::from(digit);
+    }
+    sum
+}
+
+fn proved_clean(digits: &[u8], out: &mut [u8]) -> sys::Length {
+    unsafe { sys::lesmutka_clean(digits.as_ptr(), digits.len(), out.as_mut_ptr(), out.len()) }
+}
+
+fn proved_read_back(digits: &[u8], out: &mut [u8]) -> sys::Value {
+    unsafe { sys::lesmutka_read_back(digits.as_ptr(), digits.len(), out.as_mut_ptr(), out.len()) }
+}
+
+fn proved_plan(number: &[u8], method: u32, width: u32, out: &mut [u8]) -> sys::Steps {
+    unsafe {
+        sys::lesmutka_plan(
+            number.as_ptr(),
+            number.len(),
+            method,
+            width,
+            out.as_mut_ptr(),
+            out.len(),
+        )
+    }
+}
+
+fn proved_forecast(number: &[u8], method: u32, width: u32) -> sys::Steps {
+    unsafe { sys::lesmutka_forecast(number.as_ptr(), number.len(), method, width) }
+}
+
+fn proved_check(number: &[u8], plan: &[u8], space: &mut [u8]) -> sys::Steps {
+    unsafe {
+        sys::lesmutka_check(
+            number.as_ptr(),
+            number.len(),
+            plan.as_ptr(),
+            plan.len(),
+            space.as_mut_ptr(),
+            space.len(),
+        )
+    }
+}
+
+fn main() {
+    let rng = &mut Rng::new(1);
+    let numbers = &numbers(rng);
+    let canonicals: &Vec<Vec<u8>> = &numbers.iter().map(|number| canonical(number)).collect();
+    let strings = &strings(rng, 256);
+    let longest: &Vec<Vec<u8>> = &numbers.iter().map(|number| longest(number)).collect();
+    const ROOM: usize = 4096;
+    const SPACE: usize = lesmutka::work_space(lesmutka::PLAN_STEPS);
+
+    // What is timed is done: both sides accept the longest plans.
+    let mut space = vec![0; SPACE];
+    for (number, plan) in numbers.iter().zip(longest) {
+        assert_eq!(proved_check(number, plan, &mut space).refusal, 0);
+        assert!(reference::check(number, plan, &mut space).is_ok());
+    }
+
+    let mut jobs = Vec::new();
+    let (mut a, mut b) = (vec![0; ROOM], vec![0; ROOM]);
+    jobs.push(Job::new(
+        "recode",
+        move |i| keep(proved_recode(&numbers[i], &mut a)),
+        move |i| keep(reference::recode(&numbers[i], &mut b)),
+    ));
+    jobs.push(Job::new(
+        "take, all digits",
+        move |i| keep(proved_takes(&numbers[i])),
+        move |i| keep(plain_takes(&numbers[i])),
+    ));
+    let (mut a, mut b) = (vec![0; ROOM], vec![0; ROOM]);
+    jobs.push(Job::new(
+        "clean, 256 digits",
+        move |i| keep(proved_clean(&strings[i], &mut a)),
+        move |i| keep(reference::clean(&strings[i], &mut b)),
+    ));
+    let (mut a, mut b) = (vec![0; ROOM], vec![0; ROOM]);
+    jobs.push(Job::new(
+        "read back, the NAF",
+        move |i| keep(proved_read_back(&canonicals[i], &mut a)),
+        move |i| keep(reference::read_back(&canonicals[i], &mut b)),
+    ));
+    for (name, method, width) in [
+        ("binary", 1, 0),
+        ("fixed windows 4", 2, 4),
+        ("sliding windows 4", 3, 4),
+        ("NAF", 4, 0),
+    ] {
+        let (mut a, mut b) = (vec![0; ROOM], vec![0; ROOM]);
+        jobs.push(Job::new(
+            &format!("plan, {}", name),
+            move |i| keep(proved_plan(&numbers[i], method, width, &mut a)),
+            move |i| keep(reference::plan(&numbers[i], method, width, &mut b)),
+        ));
+        jobs.push(Job::new(
+            &format!("forecast, {}", name),
+            move |i| keep(proved_forecast(&numbers[i], method, width)),
+            move |i| keep(reference::forecast(&numbers[i], method, width)),
+        ));
+    }
+    let (mut a, mut b) = (vec![0; SPACE], vec![0; SPACE]);
+    jobs.push(Job::new(
+        "check, 640 steps",
+        move |i| keep(proved_check(&numbers[i], &longest[i], &mut a)),
+        move |i| keep(reference::check(&numbers[i], &longest[i], &mut b)),
+    ));
+
+    println!(
+        "ns a call: {} rounds over {} numbers of 32 bytes; buffers lent once, not cleared",
+        ROUNDS, INPUTS
+    );
+    println!("{:<24} {:>17}   {:>17}   {:>12}", "", "proved", "plain Rust", "ratio");
+    println!(
+        "{:<24} {:>8} {:>8}   {:>8} {:>8}   {:>5} {:>6}",
+        "call", "best", "median", "best", "median", "best", "median"
+    );
+    for round in 0..ROUNDS {
+        for job in &mut jobs {
+            job.round(round);
+        }
+    }
+    for job in &mut jobs {
+        job.print();
+    }
+}

@@ -1,6 +1,6 @@
 -- The scan for a byte that is no digit, one place more, and what its end says. Assumes nothing.
 use mathlib.Core.Path.{_≡_, refl}
-use mathlib.Core.Bool.{Bool, true, false, cond}
+use mathlib.Core.Bool.{Bool, true, false, cond, _&&_}
 use mathlib.Core.List.{List, [], _∷_}
 use Prim.Native.Nat.{ℕ, zero, suc, _+_, _<_, _≤_}
 use native.Mathlib.Decide.{decLt}
@@ -13,6 +13,14 @@ use Rattle.rules.specs.Limits.{stringDigits}
 use Rattle.rules.specs.declared.Refusal.{Refusal}
 use Rattle.rules.specs.declared.Refusal.the-variants.{NotADigit, StringTooLong}
 use Rattle.digit_strings.specs.Checked.{isDigit, firstBad, checked, DigitString}
+use Rattle.digit_strings.specs.Internal.{DigitsFor}
+
+not-both : {b : Bool} → b ≡ true → b ≡ false → ⊥
+not-both e f = let z : _≡_ {A = ℕ} 0 1 = cc in omega arith
+
+pub both-true : (a b : Bool) → (a && b) ≡ true → (a ≡ true) × (b ≡ true)
+both-true true b e = (refl, e)
+both-true false b e = absurd (not-both e refl)
 
 module _ (s : List ℕ) where
   pub here : (i : ℕ) → i < length s → isDigit (getD s i 0) ≡ false → firstBad (drop i s) ≡ 0
@@ -26,6 +34,25 @@ module _ (s : List ℕ) where
   pub never : firstBad (drop (length s) s) ≡ 0
   unfolding firstBad
   never = rw drop-length
+
+  pub none-yet : (from : ℕ) → DigitsFor s from 0
+  none-yet from =
+      let e : from + 0 ≡ from = omega arith in
+      rw e (omega arith)
+
+  -- a digit more
+  pub one-more : (from n : ℕ) → from + n < length s → isDigit (getD s (from + n) 0) ≡ true → DigitsFor s from n → DigitsFor s from (n + 1)
+  one-more from n h b e =
+      let l = later (from + n) h b in
+      let f : from + n + 1 ≡ from + (n + 1) = omega arith in
+      omega (arith, e, rw f at l)
+
+  -- so many more
+  pub more : (n m : ℕ) → DigitsFor s 0 n → DigitsFor s n m → DigitsFor s 0 (n + m)
+  more n m e f =
+      let g : 0 + n ≡ n = omega arith in
+      let k : 0 + (n + m) ≡ n + m = omega arith in
+      rw k (omega (arith, rw g at e, f))
 
 -- below the first bad place all are digits, and at it none is
 pub below-bad : (s : List ℕ) (i : ℕ) → i < firstBad s → isDigit (getD s i 0) ≡ true
@@ -46,9 +73,6 @@ at-bad (b ∷ s) h = go (isDigit b) refl h (λ k. at-bad s k)
     go : (t : Bool) → isDigit b ≡ t → cond t (suc (firstBad s)) 0 < length (b ∷ s) → (firstBad s < length s → isDigit (getD s (firstBad s) 0) ≡ false) → isDigit (getD (b ∷ s) (cond t (suc (firstBad s)) 0) 0) ≡ false
     go true e h rest = rest (omega arith)
     go false e h rest = e
-
-not-both : {b : Bool} → b ≡ true → b ≡ false → ⊥
-not-both e f = let z : _≡_ {A = ℕ} 0 1 = cc in omega arith
 
 -- no other place is so
 pub record LowestBad (s : List ℕ) (p : ℕ) : Type 0 where

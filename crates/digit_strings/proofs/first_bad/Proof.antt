@@ -1,6 +1,7 @@
 -- `digit_strings::first_bad` meets its contract: the bytes below i are digits. Assumes nothing.
 use mathlib.Core.Path.{_≡_, sym, _∙_, ap}
 use Prim.Native.Nat.{ℕ, _≤_, _-_, _+_}
+use native.Mathlib.Nat.{zero-add}
 use native.Mathlib.Omega.{arith}
 use lib.ListN.{length, drop}
 use Rattle.digit_strings.specs.Checked.{isDigit, firstBad}
@@ -18,8 +19,13 @@ Inv-loop digits i₀ i = (i ≤ length digits) × (firstBad digits ≡ i + first
 abbrev μ-loop : tie.MeasureT-loop
 μ-loop digits i₀ i = length digits - i
 
+whole-digits-requires : tie.Need-whole-digits-requires Inv-loop μ-loop
+whole-digits-requires c κs = search needs
+
 loop-holds : tie.Need-loop-holds Inv-loop μ-loop
-loop-holds c = search needs
+loop-holds c =
+    let e = zero-add (c .whole-digits .result) in
+    (c .whole-digits .ensures .0, rw e at (c .whole-digits .ensures .1))
 
 shared-slice-read-is-digit : tie.Need-shared-slice-read-is-digit Inv-loop μ-loop
 shared-slice-read-is-digit c = search needs
@@ -30,7 +36,7 @@ is-digit-requires c κs = search needs
 returns : tie.Need-returns Inv-loop μ-loop
 returns c =
     let loop = c .before .before .before .before .loop in
-    let digits = c .before .before .before .before .before .before .args .digits .now in
+    let digits = c .before .before .before .before .before .before .before .args .digits .now in
     omega (arith, loop .inv .1, here digits (loop .i) (search needs) (sym (c .before .is-digit .ensures) ∙ c .if1 .left))
 
 add-i : tie.Need-add-i Inv-loop μ-loop
@@ -42,12 +48,12 @@ loop-less c = search needs
 loop-again : tie.Need-loop-again Inv-loop μ-loop
 loop-again c =
     let loop = c .before .before .before .before .loop in
-    let digits = c .before .before .before .before .before .before .args .digits .now in
+    let digits = c .before .before .before .before .before .before .before .args .digits .now in
     (search needs, omega (arith, loop .inv .1, later digits (loop .i) (search needs) (sym (c .before .is-digit .ensures) ∙ c .if1 .taken)))
 
 returns-2 : tie.Need-returns-2 Inv-loop μ-loop
 returns-2 c =
-    let digits = c .before .before .before .args .digits .now in
+    let digits = c .before .before .before .before .args .digits .now in
     let e : c .before .loop .i ≡ length digits = omega arith in
     omega (arith, c .before .loop .inv .1, never digits, ap (λ (n : ℕ). firstBad (drop n digits)) e)
 
@@ -57,6 +63,7 @@ first-bad-spec =
     (tie.spec
     Inv-loop
     μ-loop
+    whole-digits-requires
     loop-holds
     shared-slice-read-is-digit
     is-digit-requires

@@ -1,16 +1,16 @@
 -- `digit_strings::is_digit` meets its contract. Assumes nothing.
-use borrow.Author.Tests.{lt-ltb, le-ltb}
-use borrow.Author.Needs.{needs}
+use mathlib.Core.Path.{_≡_, refl}
+use mathlib.Core.Bool.{Bool, true, false, cond, _||_}
+use lib.Dec.{ltb, eqb}
 use Rattle.digit_strings.proofs.is_digit.Statement.{statement}
 use Rattle.digit_strings.proofs.is_digit.Tie as tie
-use Rattle.digit_strings.proofs.is_digit.Reads as reads
-use Rattle.digit_strings.proofs.is_digit.Lts as lts
+
+either : (a b : Bool) → (a || b) ≡ cond a true b
+either true b = refl
+either false b = refl
 
 returns : tie.Need-returns
-returns c = rw (lt-ltb (c .before .args .byte) 2 (c .if1 .taken))
-
-returns-2 : tie.Need-returns-2
-returns-2 c = rw (le-ltb (c .before .args .byte) 2 (c .if1 .left))
+returns c = either (ltb (c .args .byte) 2) (eqb (c .args .byte) 255)
 
 pub is-digit-spec : {M : Type 1} → statement M
-is-digit-spec = tie.close (tie.spec returns returns-2)
+is-digit-spec = tie.close (tie.spec returns)

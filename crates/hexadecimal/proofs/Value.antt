@@ -1,0 +1,93 @@
+-- The bytes of a hexadecimal number have its value. Assumes nothing.
+use mathlib.Core.Path.{_≡_, refl, sym, ap, _∙_}
+use mathlib.Core.List.{List, [], _∷_, _++_}
+use Prim.Native.Nat.{ℕ, zero, suc, _+_, _-_, _*_, _/_, _%_, _^_, _<_, _≤_}
+use native.Mathlib.Nat.{pow-zero, pow-suc, mul-add, mul-assoc, mul-comm, mul-zero, add-zero, add-suc}
+use native.Mathlib.Omega.{arith}
+use borrow.Author.Tests.{lt-ltb, le-ltb}
+use lib.ListN.{length, getD, take, drop}
+use lib.Seq.{drop-cons, take-append-seam}
+use lib.ListN.{drop-of-length-le}
+use native.Mathlib.Numerals.{add-one}
+use mathlib.Core.Bool.{Bool, true, false}
+use Rattle.integers.specs.Positional.{positional, bytesValue}
+use Rattle.integers.specs.Tabulate.{tabulate}
+use Rattle.integers.proofs.Positional.{positional-append}
+use Rattle.integers.proofs.Tabulate.{length-tabulate, tabulate-same}
+use Rattle.hexadecimal.specs.Hex.{digitValue, placeValue, byteAt, hexValue, isHex, byteCount}
+
+-- one place more
+place-more : (b : ℕ) (f : ℕ → ℕ) (n : ℕ) → positional b (tabulate f (suc n)) ≡ positional b (tabulate f n) + b ^ n * f n
+unfolding positional tabulate
+place-more b f n = rw (positional-append b (tabulate f n) (f n ∷ []), length-tabulate f n, mul-zero, add-zero)
+
+-- two digits to a byte
+bytes-are-digits : (text : List ℕ) (n : ℕ) → (positional 256 (tabulate (byteAt text) n) ≡ positional 16 (tabulate (placeValue text) (2 * n))) × (256 ^ n ≡ 16 ^ (2 * n))
+unfolding positional tabulate
+bytes-are-digits text zero = (refl, refl)
+bytes-are-digits text (suc n) =
+    let ih = bytes-are-digits text n in
+    let d : ℕ → ℕ = placeValue text in
+    let P : ℕ = 16 ^ (2 * n) in
+    let two : 2 * suc n ≡ suc (suc (2 * n)) = omega arith in
+    let odd : 2 * n + 1 ≡ suc (2 * n) = omega arith in
+    let more : P * (d (2 * n) + 16 * d (suc (2 * n))) ≡ P * d (2 * n) + P * 16 * d (suc (2 * n)) = rw (mul-add, mul-assoc) in (
+      rw (place-more 256 (byteAt text) n, two, place-more 16 d (suc (2 * n)), place-more 16 d (2 * n), pow-suc, odd, ih .0, ih .1) (omega (arith, more)),
+      rw (two, pow-suc, pow-suc, pow-suc, ih .1) (omega arith),
+    )
+
+-- the digits below the first, which are those of the text behind it
+digit-behind : (c : ℕ) (text : List ℕ) (i : ℕ) → i < length text → placeValue (c ∷ text) i ≡ placeValue text i
+unfolding placeValue
+digit-behind c text i h =
+    let e : length (c ∷ text) - 1 - i ≡ suc (length text - 1 - i) = omega arith in
+    simp (lt-ltb i (length text) h, lt-ltb i (length (c ∷ text)) (omega arith), e)
+
+first-digit : (c : ℕ) (text : List ℕ) → placeValue (c ∷ text) (length text) ≡ digitValue c % 16
+unfolding placeValue
+first-digit c text =
+    let e : length (c ∷ text) - 1 - length text ≡ 0 = omega arith in
+    simp (lt-ltb (length text) (length (c ∷ text)) (omega arith), e)
+
+above : (text : List ℕ) (i : ℕ) → length text ≤ i → placeValue text i ≡ 0
+unfolding placeValue
+above text i h = simp (le-ltb i (length text) h)
+
+digits-have-value : (text : List ℕ) → positional 16 (tabulate (placeValue text) (length text)) ≡ hexValue text
+unfolding positional tabulate hexValue
+digits-have-value [] = refl
+digits-have-value (c ∷ text) =
+    rw (place-more 16 (placeValue (c ∷ text)) (length text), tabulate-same (placeValue (c ∷ text)) (placeValue text) (length text) (digit-behind c text), digits-have-value text, first-digit c text)
+    (omega (arith, mul-comm (16 ^ length text) (digitValue c % 16)))
+
+-- zeros above the first digit change nothing
+digits-above : (text : List ℕ) (m : ℕ) → positional 16 (tabulate (placeValue text) (length text + m)) ≡ hexValue text
+digits-above text zero = rw add-zero (digits-have-value text)
+digits-above text (suc m) =
+    rw (add-suc, place-more 16 (placeValue text) (length text + m), above text (length text + m) (omega arith), mul-zero, add-zero) (digits-above text m)
+
+has-value : (text : List ℕ) (n : ℕ) → length text ≤ 2 * n → bytesValue (tabulate (byteAt text) n) ≡ hexValue text
+has-value text n h =
+    let e : 2 * n ≡ length text + (2 * n - length text) = omega arith in
+    bytes-are-digits text n .0 ∙ rw e (digits-above text (2 * n - length text))
+
+-- as many bytes as the digits need, at the start of a buffer
+pub front-value : (text rest : List ℕ) → bytesValue (take (byteCount text) (tabulate (byteAt text) (byteCount text) ++ rest)) ≡ hexValue text
+front-value text rest =
+    let n : ℕ = byteCount text in
+    let t : List ℕ = tabulate (byteAt text) n in
+    let seam : take n (t ++ rest) ≡ t = rw (length-tabulate (byteAt text) n) at (take-append-seam t rest) in
+    rw seam (has-value text n (omega arith))
+
+-- one digit more, or a byte that is none
+pub digit-passed : (text : List ℕ) (i : ℕ) → i < length text → digitValue (getD text i 0) ≤ 15 → isHex (drop i text) ≡ isHex (drop (i + 1) text)
+unfolding isHex
+digit-passed text i h d = rw (add-one, drop-cons text i 0) (simp (le-ltb 15 (digitValue (getD text i 0)) d))
+
+pub not-digit : (text : List ℕ) (i : ℕ) → i < length text → 15 < digitValue (getD text i 0) → isHex (drop i text) ≡ false
+unfolding isHex
+not-digit text i h d = rw (drop-cons text i 0) (simp (lt-ltb 15 (digitValue (getD text i 0)) d))
+
+pub all-passed : (text : List ℕ) (i : ℕ) → length text ≤ i → isHex (drop i text) ≡ true
+unfolding isHex
+all-passed text i h = rw (drop-of-length-le text {i = i} h)

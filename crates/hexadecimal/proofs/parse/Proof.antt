@@ -1,0 +1,19 @@
+-- `hexadecimal::parse` meets its contract. Assumes nothing.
+use borrow.Author.Needs.{needs}
+use Rattle.hexadecimal.proofs.parse.Statement.{statement}
+use Rattle.hexadecimal.proofs.parse.Tie as tie
+
+without-mark-requires : tie.Need-without-mark-requires
+without-mark-requires c κs = search needs
+
+parse-digits-requires : tie.Need-parse-digits-requires
+parse-digits-requires c κs = search needs
+
+same-length : tie.Need-same-length
+same-length c = search needs
+
+returns : tie.Need-returns
+returns c = rw (c .before .before .before .before .without-mark .ensures) at (c .before .before .parse-digits .ensures)
+
+pub parse-spec : {M : Type 1} → statement M
+parse-spec = tie.close (tie.spec without-mark-requires parse-digits-requires same-length returns)

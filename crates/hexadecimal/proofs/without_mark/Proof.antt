@@ -1,0 +1,67 @@
+-- `hexadecimal::without_mark` meets its contract. Assumes nothing.
+use mathlib.Core.Path.{_≡_, sym, _∙_}
+use mathlib.Core.Bool.{true, false}
+use native.Mathlib.Omega.{arith}
+use Prim.Native.Nat.{_-_}
+use lib.ListN.{length, getD, drop, length-drop}
+use lib.Seq.{take-all}
+use borrow.Author.Tests.{eq-eqb, ne-eqb, lt-ltb, le-ltb}
+use Rattle.hexadecimal.specs.Hex.{isMark, unmarked}
+use borrow.Author.Needs.{needs}
+use Rattle.hexadecimal.proofs.without_mark.Statement.{statement}
+use Rattle.hexadecimal.proofs.without_mark.Tie as tie
+
+returns : tie.Need-returns
+unfolding unmarked
+returns c = simp (lt-ltb _ _ (c .if1 .taken))
+
+shared-slice-read-if2 : tie.Need-shared-slice-read-if2
+shared-slice-read-if2 c = search needs
+
+returns-2 : tie.Need-returns-2
+unfolding unmarked
+returns-2 c = simp (le-ltb _ _ (c .before .before .if1 .left), ne-eqb _ _ (c .if2 .taken))
+
+shared-slice-read-is-mark : tie.Need-shared-slice-read-is-mark
+shared-slice-read-is-mark c = search needs
+
+is-mark-requires : tie.Need-is-mark-requires
+is-mark-requires c κs = search needs
+
+sub-result : tie.Need-sub-result
+sub-result c = search needs
+
+part-result-start : tie.Need-part-result-start
+part-result-start c = search needs
+
+part-result-end : tie.Need-part-result-end
+part-result-end c = search needs
+
+returns-3 : tie.Need-returns-3
+unfolding unmarked
+returns-3 c =
+    let word = c .before .before .before .before .before .before .before .before .args .word .now in
+    let mark : isMark (getD (c .before .before .before .before .before .before .before .before .args .word .now) 1 0) ≡ true = sym (c .before .before .is-mark .ensures) ∙ c .before .if3 .taken in
+    simp (le-ltb _ _ (c .before .before .before .before .before .before .if1 .left), eq-eqb _ _ (c .before .before .before .before .if2 .left), mark)
+    (take-all (length word - 2) (drop 2 word) (omega (arith, length-drop 2 word)))
+
+returns-4 : tie.Need-returns-4
+unfolding unmarked
+returns-4 c =
+    let mark : isMark (getD (c .before .before .before .before .before .before .before .args .word .now) 1 0) ≡ false = sym (c .before .is-mark .ensures) ∙ c .if3 .left in
+    simp (le-ltb _ _ (c .before .before .before .before .before .if1 .left), eq-eqb _ _ (c .before .before .before .if2 .left), mark)
+
+pub without-mark-spec : {M : Type 1} → statement M
+without-mark-spec =
+    tie.close
+    (tie.spec
+    returns
+    shared-slice-read-if2
+    returns-2
+    shared-slice-read-is-mark
+    is-mark-requires
+    sub-result
+    part-result-start
+    part-result-end
+    returns-3
+    returns-4)

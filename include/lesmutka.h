@@ -253,13 +253,13 @@ static inline const char *lesmutka_words(size_t refusal) {
         "no such method, or a width that it does not allow",
         "the digit at this place is none of 0, 1, -1",
         "the digit string is longer than 512 digits",
-        "the output needs this many bytes, more than lent",
-        "the plan is no whole number of steps, or has more than 640",
+        "the output needs this many bytes",
+        "the plan is no whole number of steps of 5 bytes, or has more than 640 steps",
         "the work space is too short for the plan",
-        "this step has an unknown operation or names a position not yet filled",
+        "this step has an unknown operation, or a position that is not below its own",
         "the value at this step is zero",
-        "the value at this step has size 2^264 or more",
-        "all steps are sound, but the plan does not end at the number",
+        "the value at this step has a size of 2^264 or more",
+        "the last value, at this step, is not the number",
     };
     return refusal < sizeof words / sizeof words[0] ? words[refusal] : "no such refusal";
 }

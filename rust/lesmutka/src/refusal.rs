@@ -1,5 +1,5 @@
 //! Why a call says no.
-use crate::{NUMBER_BYTES, PLAN_STEPS, STRING_DIGITS, VALUE_BYTES};
+use crate::{NUMBER_BYTES, PLAN_STEPS, STEP_BYTES, STRING_DIGITS, VALUE_BYTES};
 use core::fmt;
 
 /// Why a call says no. A case holds its place where it has one other than 0.
@@ -118,23 +118,23 @@ impl fmt::Display for Message {
             Refusal::MethodOrWidth => f.write_str("no such method, or a width that it does not allow"),
             Refusal::NotADigit { .. } => f.write_str("the digit at this place is none of 0, 1, -1"),
             Refusal::StringTooLong => write!(f, "the digit string is longer than {} digits", STRING_DIGITS),
-            Refusal::RoomTooSmall { .. } => f.write_str("the output needs this many bytes, more than lent"),
+            Refusal::RoomTooSmall { .. } => f.write_str("the output needs this many bytes"),
             Refusal::PlanLength => {
                 write!(
                     f,
-                    "the plan is no whole number of steps, or has more than {}",
-                    PLAN_STEPS
+                    "the plan is no whole number of steps of {} bytes, or has more than {} steps",
+                    STEP_BYTES, PLAN_STEPS
                 )
             }
             Refusal::WorkSpaceTooShort => f.write_str("the work space is too short for the plan"),
             Refusal::StepUnsound { .. } => {
-                f.write_str("this step has an unknown operation or names a position not yet filled")
+                f.write_str("this step has an unknown operation, or a position that is not below its own")
             }
             Refusal::ValueIsZero { .. } => f.write_str("the value at this step is zero"),
             Refusal::ValueTooLarge { .. } => {
-                write!(f, "the value at this step has size 2^{} or more", 8 * VALUE_BYTES)
+                write!(f, "the value at this step has a size of 2^{} or more", 8 * VALUE_BYTES)
             }
-            Refusal::WrongEnd { .. } => f.write_str("all steps are sound, but the plan does not end at the number"),
+            Refusal::WrongEnd { .. } => f.write_str("the last value, at this step, is not the number"),
         }
     }
 }

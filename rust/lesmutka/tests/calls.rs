@@ -202,7 +202,7 @@ fn a_refusal_prints_number_place_and_words() {
     let refusal = recode(&[3], &mut []).unwrap_err();
     assert_eq!(
         refusal.to_string(),
-        "refused 6, place 3: the output needs this many bytes, more than lent"
+        "refused 6, place 3: the output needs this many bytes"
     );
     let error: Box<dyn std::error::Error> = Box::new(refusal);
     assert_eq!(error.to_string(), refusal.to_string());

@@ -51,8 +51,8 @@ fn numbers_run_from_1_to_12() {
     }
 }
 
-#[test]
-fn words_agree() {
+/// The header's words, by the number of the refusal.
+fn header_words() -> Vec<&'static str> {
     let table = HEADER.split("words[] = {").nth(1).expect("the header's table of words");
     let words: Vec<&str> = table
         .split("};")
@@ -62,7 +62,27 @@ fn words_agree() {
         .filter_map(|line| line.trim().strip_prefix('"')?.strip_suffix("\","))
         .collect();
     assert_eq!(words.len(), 13);
+    words
+}
+
+#[test]
+fn words_agree() {
     for refusal in refusals() {
-        assert_eq!(words[refusal.number() as usize], refusal.message().to_string());
+        assert_eq!(header_words()[refusal.number() as usize], refusal.message().to_string());
     }
+}
+
+/// The command line's words, in the answers that its tests store.
+#[test]
+fn words_of_the_command_line_agree() {
+    let answers = include_str!("../../../tests/command_line/answers.txt");
+    let mut seen = [false; 13];
+    for line in answers.lines() {
+        if let Some(refused) = line.strip_prefix("refused ") {
+            let number: usize = refused.split(',').next().unwrap().parse().unwrap();
+            assert_eq!(refused.split_once(": ").unwrap().1, header_words()[number]);
+            seen[number] = true;
+        }
+    }
+    assert!(seen.iter().filter(|&&seen| seen).count() >= 5);
 }

@@ -2,7 +2,7 @@
 use rules::NUMBER_WORDS;
 ghost use mathlib.Core.Path.{_≡_};
 ghost use mathlib.Core.List.{_++_};
-ghost use Prim.Native.Nat.{_+_, _*_, _/_, _^_, _<_, _≤_, min};
+ghost use Prim.Native.Nat.{_+_, _*_, _/_, _%_, _^_, _<_, _≤_, min};
 ghost use lib.Count;
 ghost use lib.Dec.{eqb};
 ghost use lib.ListN.{length, take, drop, getD};
@@ -41,6 +41,25 @@ pub fn bit_at(number: &[u8], place: usize) -> u64
     ensures { λ r. ⌜ r ≡ bit (bytesValue (now (number .entry))) place ⌝ }
 {
     (byte_at(number, place / 8) >> (place % 8)) % 2
+}
+
+// 2 to the power of n.
+pub fn power(n: usize) -> u64
+    requires { ⌜ n < 64 ⌝ }
+    ensures { λ r. ⌜ r ≡ 2 ^ n ⌝ }
+{
+    1 << n
+}
+
+// The value of the `count` binary digits from a place on. They may cross from a byte into the next
+// one.
+pub fn bits_at(number: &[u8], place: usize, count: usize) -> u64
+    requires { ⌜ count ≤ 8 ⌝ }
+    ensures { λ r. ⌜ r ≡ bytesValue (now (number .entry)) / 2 ^ place % 2 ^ count ⌝ }
+{
+    let at = place / 8;
+    let bytes = byte_at(number, at) + 256 * byte_at(number, at + 1);
+    (bytes >> (place % 8)) % power(count)
 }
 
 // How many binary digits a number has.

@@ -1,6 +1,8 @@
 // Method 2, fixed windows of `width` bits: its steps counted, and written.
 use integers::bit_length;
+use integers::bits_at;
 use integers::byte_at;
+use integers::power;
 use plan_writing::Cursor;
 use rules::Counts;
 ghost use mathlib.Core.Path.{_≡_};
@@ -14,28 +16,18 @@ ghost use Rattle.rules.specs.Limits.{numberBytes, stepBytes};
 ghost use Rattle.integers.specs.Positional.{bytesValue};
 ghost use Rattle.chains.specs.Steps.{planBytesOf};
 ghost use Rattle.chains.specs.Counts.{countsOf};
-ghost use Rattle.methods.specs.Building.{Building, doubled};
+ghost use Rattle.methods.specs.Building.{Building};
 ghost use Rattle.methods.specs.FixedWindows.{ladder, window, topWindow, atWindow, windowSteps, fixedWindowSteps};
 ghost use Rattle.methods.specs.Forecast.{tableCounts, nonzeroWindows};
 ghost use Rattle.plan_writing.specs.Writing.{Writing};
 
-// 2 to the power of the width.
-fn power(width: usize) -> usize
-    requires { ⌜ width < 64 ⌝ }
-    ensures { λ r. ⌜ r ≡ 2 ^ width ⌝ }
-{
-    1 << width
-}
-
-// The value of window i. It may cross from a byte into the next one.
+// The value of window i.
 fn window_at(number: &[u8], width: usize, i: usize) -> usize
     requires { ⌜ width ≤ 8 ⌝ }
     requires { ⌜ width * i ≤ 8 * numberBytes ⌝ }
     ensures { λ r. ⌜ r ≡ window (bytesValue (now (number .entry))) width i ⌝ }
 {
-    let place = width * i;
-    let two = byte_at(number, place / 8) + 256 * byte_at(number, place / 8 + 1);
-    (two >> (place % 8)) as usize % power(width)
+    bits_at(number, width * i, width) as usize
 }
 
 // The place of the top window, the one that holds the top bit: 0 for a number below 2^width.
@@ -61,7 +53,7 @@ fn table_size(width: usize) -> usize
     requires { ⌜ (1 ≤ width) × (width < 64) ⌝ }
     ensures { λ r. ⌜ r ≡ 2 ^ width - 2 ⌝ }
 {
-    power(width) - 2
+    power(width) as usize - 2
 }
 
 // The counts of the first n steps of a table.
@@ -136,26 +128,12 @@ fn write_ladder(out: &mut [u8], n: usize)
     }
 }
 
-// Doubles n times.
-fn double_times(c: Cursor, out: &mut [u8], n: usize) -> Cursor
-    requires { ⌜ stepBytes * (c .steps + n) ≤ length (now out) ⌝ }
-    ensures { λ r. ⌜ (r .steps ≡ c .steps + n) × ((lent : List ℕ) (b : Building) → Writing lent (now (out .entry)) c b → Writing lent (now (out .exit)) r (doubled n b)) ⌝ }
-{
-    let mut last = c;
-    let mut done = 0;
-    while done < n {
-        last = last.double(out);
-        done += 1;
-    }
-    last
-}
-
 // The steps of one window below the top.
 fn at_window(c: Cursor, out: &mut [u8], width: usize, value: usize) -> Cursor
     requires { ⌜ stepBytes * (c .steps + width + cond (eqb value 0) 0 1) ≤ length (now out) ⌝ }
     ensures { λ r. ⌜ (r .steps ≡ c .steps + width + cond (eqb value 0) 0 1) × ((lent : List ℕ) (b : Building) → Writing lent (now (out .entry)) c b → Writing lent (now (out .exit)) r (atWindow width value b)) ⌝ }
 {
-    let moved = double_times(c, out, width);
+    let moved = c.double_times(out, width);
     if value == 0 {
         moved
     } else {

@@ -1,19 +1,20 @@
 // Method 3, sliding windows of at most `width` bits: its steps counted, and written.
 use integers::bit_at;
 use integers::bit_length;
-use integers::byte_at;
+use integers::bits_at;
+use integers::power;
 use plan_writing::Cursor;
 use rules::Counts;
 ghost use mathlib.Core.Path.{_≡_};
 ghost use mathlib.Core.Logic.{_≢_};
 ghost use mathlib.Core.List.{List, _++_};
-ghost use Prim.Native.Nat.{ℕ, _+_, _*_, _-_, _/_, _%_, _^_, _≤_, _<_};
+ghost use Prim.Native.Nat.{ℕ, _+_, _*_, _-_, _%_, _≤_, _<_};
 ghost use lib.ListN.{length, drop};
 ghost use Rattle.rules.specs.Limits.{numberBytes, stepBytes};
 ghost use Rattle.integers.specs.Positional.{bytesValue};
 ghost use Rattle.chains.specs.Steps.{planBytesOf};
 ghost use Rattle.chains.specs.Counts.{countsOf};
-ghost use Rattle.methods.specs.Building.{Building, doubled};
+ghost use Rattle.methods.specs.Building.{Building};
 ghost use Rattle.methods.specs.SlidingWindows.{tableStep, oddTable, oddPosition, tableSize, slidingWindowSteps};
 ghost use Rattle.methods.specs.Forecast.{tableCounts, laterWindows};
 ghost use Rattle.plan_writing.specs.Writing.{Writing};
@@ -31,24 +32,6 @@ struct Start {
     below: usize,
     position: usize,
     table: usize,
-}
-
-// 2 to the power of n.
-fn power(n: usize) -> u64
-    requires { ⌜ n < 64 ⌝ }
-    ensures { λ r. ⌜ r ≡ 2 ^ n ⌝ }
-{
-    1 << n
-}
-
-// The value of the `count` bits from a place on.
-fn bits_at(number: &[u8], place: usize, count: usize) -> u64
-    requires { ⌜ count ≤ 8 ⌝ }
-    ensures { λ r. ⌜ r ≡ bytesValue (now (number .entry)) / 2 ^ place % 2 ^ count ⌝ }
-{
-    let at = place / 8;
-    let bytes = byte_at(number, at) + 256 * byte_at(number, at + 1);
-    (bytes >> (place % 8)) % power(count)
 }
 
 // The lowest place that a window of at most `width` bits from place n down can have.
@@ -202,27 +185,14 @@ fn write_table(out: &mut [u8], size: usize) -> Cursor
     c
 }
 
-// Doubles n times.
-fn double_times(c: Cursor, out: &mut [u8], n: usize) -> Cursor
-    requires { ⌜ stepBytes * (c .steps + n) ≤ length (now out) ⌝ }
-    ensures { λ r. ⌜ (r .steps ≡ c .steps + n) × ((lent : List ℕ) (b : Building) → Writing lent (now (out .entry)) c b → Writing lent (now (out .exit)) r (doubled n b)) ⌝ }
-{
-    let mut d = c;
-    let mut done: usize = 0;
-    while done < n {
-        d = d.double(out);
-        done += 1;
-    }
-    d
-}
-
 // The steps of what the scan takes at a place.
 fn at_window(c: Cursor, out: &mut [u8], w: Window) -> Cursor
     requires { ⌜ w .value < 64 ⌝ }
     requires { ⌜ stepBytes * (c .steps + w .bits + w .value % 2) ≤ length (now out) ⌝ }
     ensures { λ r. ⌜ (r .steps ≡ c .steps + w .bits + w .value % 2) × ((lent : List ℕ) (b : Building) → Writing lent (now (out .entry)) c b → Writing lent (now (out .exit)) r (atWindow w b)) ⌝ }
 {
-    let doubled = double_times(c, out, w.bits);
+    let bits = w.bits;
+    let doubled = c.double_times(out, bits);
     if w.value % 2 == 0 {
         doubled
     } else {

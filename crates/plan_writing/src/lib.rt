@@ -6,7 +6,7 @@ ghost use Prim.Native.Nat.{ℕ, _+_, _*_, _≤_, _<_};
 ghost use lib.ListN.{length, take, drop};
 ghost use Rattle.rules.specs.Limits.{stepBytes};
 ghost use Rattle.chains.specs.Steps.{Step, stepBytesOf, add, subtract};
-ghost use Rattle.methods.specs.Building.{Building, double, addAt, subtractAt, followed};
+ghost use Rattle.methods.specs.Building.{Building, double, doubled, addAt, subtractAt, followed};
 ghost use Rattle.plan_writing.specs.Writing.{Writing, stepOf};
 
 // How many steps stand, and the position called latest.
@@ -59,6 +59,20 @@ impl Cursor {
     {
         let latest = self.latest;
         self.follow(out, 0, latest, latest)
+    }
+
+    // The same n times.
+    pub fn double_times(self, out: &mut [u8], n: usize) -> Cursor
+        requires { ⌜ stepBytes * (self .steps + n) ≤ length (now out) ⌝ }
+        ensures { λ r. ⌜ (r .steps ≡ self .steps + n) × ((lent : List ℕ) (b : Building) → Writing lent (now (out .entry)) self b → Writing lent (now (out .exit)) r (doubled n b)) ⌝ }
+    {
+        let mut last = self;
+        let mut done = 0;
+        while done < n {
+            last = last.double(out);
+            done += 1;
+        }
+        last
     }
 
     // add(latest, p)

@@ -5,7 +5,6 @@ use Rattle.method_sliding_windows.proofs.table_size.Statement.{statemen
 use Rattle.method_sliding_windows.proofs.table_size.Tie as tie
 use Rattle.method_sliding_windows.proofs.table_size.Reads as reads
 use Rattle.method_sliding_windows.proofs.table_size.Lts as lts
-use Rattle.method_sliding_windows.proofs.power.Reads as power-reads
 
 sub-power : tie.Need-sub-power
 sub-power c = search needs

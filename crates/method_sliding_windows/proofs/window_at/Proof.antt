@@ -15,7 +15,6 @@ use Rattle.method_sliding_windows.proofs.window_at.Tie as tie
 use Rattle.method_sliding_windows.proofs.window_at.Reads as reads
 use Rattle.method_sliding_windows.proofs.window_at.Lts as lts
 use Rattle.integers.proofs.bit_at.Reads as bit-at-reads
-use Rattle.method_sliding_windows.proofs.bits_at.Reads as bits-at-reads
 use Rattle.method_sliding_windows.proofs.lowest.Reads as lowest-reads
 
 -- the bits that were read, without their trailing zeros

@@ -1,13 +1,9 @@
--- `method_sliding_windows::bits_at` meets its contract. Assumes nothing.
+-- `integers::bits_at` meets its contract. Assumes nothing.
 use lib.Pow.{pow-pos}
 use Rattle.integers.proofs.Bits.{bits-of-bytes}
 use borrow.Author.Needs.{needs}
-use Rattle.method_sliding_windows.proofs.bits_at.Statement.{statement}
-use Rattle.method_sliding_windows.proofs.bits_at.Tie as tie
-use Rattle.method_sliding_windows.proofs.bits_at.Reads as reads
-use Rattle.method_sliding_windows.proofs.bits_at.Lts as lts
-use Rattle.integers.proofs.byte_at.Reads as byte-at-reads
-use Rattle.method_sliding_windows.proofs.power.Reads as power-reads
+use Rattle.integers.proofs.bits_at.Statement.{statement}
+use Rattle.integers.proofs.bits_at.Tie as tie
 
 byte-at-requires : tie.Need-byte-at-requires
 byte-at-requires c κs = search needs

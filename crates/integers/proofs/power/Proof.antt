@@ -1,13 +1,11 @@
--- `method_sliding_windows::power` meets its contract. Assumes nothing.
+-- `integers::power` meets its contract. Assumes nothing.
 use native.Mathlib.Nat.{one-mul}
 use native.Mathlib.Omega.{arith}
 use Prim.Native.Nat.{_^_}
 use lib.Pow.{shl-exact}
 use borrow.Author.Needs.{needs}
-use Rattle.method_sliding_windows.proofs.power.Statement.{statement}
-use Rattle.method_sliding_windows.proofs.power.Tie as tie
-use Rattle.method_sliding_windows.proofs.power.Reads as reads
-use Rattle.method_sliding_windows.proofs.power.Lts as lts
+use Rattle.integers.proofs.power.Statement.{statement}
+use Rattle.integers.proofs.power.Tie as tie
 
 shl-result : tie.Need-shl-result
 shl-result c = search needs

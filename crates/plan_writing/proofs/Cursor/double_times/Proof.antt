@@ -1,4 +1,4 @@
--- `method_fixed_windows::double_times` meets its contract: so many doublings are written. Assumes nothing.
+-- `plan_writing::Cursor::double_times` meets its contract: so many doublings are written. Assumes nothing.
 use mathlib.Core.Path.{_≡_, refl}
 use mathlib.Core.List.{List}
 use Prim.Native.Nat.{ℕ, _≤_, _+_, _-_}
@@ -7,10 +7,10 @@ use native.Mathlib.Omega.{arith}
 use lib.ListN.{length}
 use Rattle.methods.specs.Building.{Building, doubled}
 use Rattle.methods.proofs.Laws.{doubled-last}
 use Rattle.plan_writing.specs.Writing.{Writing}
 use borrow.Author.Needs.{needs}
-use Rattle.method_fixed_windows.proofs.double_times.Statement.{statement}
-use Rattle.method_fixed_windows.proofs.double_times.Tie as tie
+use Rattle.plan_writing.proofs.Cursor.double_times.Statement.{statement}
+use Rattle.plan_writing.proofs.Cursor.double_times.Tie as tie
 
 abbrev Inv-loop : tie.InvT-loop
 Inv-loop out₀ n last₀ done₀ out last done = (done ≤ n) × (length out ≡ length out₀) × (last .steps ≡ last₀ .steps + done) × ((lent : List ℕ) (b : Building) → Writing lent out₀ last₀ b → Writing lent out last (doubled done b))

@@ -6,3 +6,4 @@ pub mod Blocks
 pub mod Words
 pub mod Shortest
 pub mod Carry
+pub mod Down

@@ -1,7 +1,7 @@
 // Little-endian numbers: bytes and words.
 use rules::NUMBER_WORDS;
 ghost use mathlib.Core.Path.{_≡_};
-ghost use mathlib.Core.List.{_++_};
+ghost use mathlib.Core.List.{_∷_, _++_};
 ghost use Prim.Native.Nat.{_+_, _*_, _/_, _%_, _^_, _<_, _≤_, min};
 ghost use lib.Count;
 ghost use lib.Dec.{eqb};
@@ -138,6 +138,28 @@ pub fn words_of(number: &[u8]) -> [u64; NUMBER_WORDS]
         k += 1;
     }
     words
+}
+
+// The word at k: 0 above the highest.
+fn word_in(words: &[u64], k: usize) -> u64
+    ensures { λ r. ⌜ r ≡ getD (now (words .entry)) k 0 ⌝ }
+{
+    if k < words.len() { words[k] } else { 0 }
+}
+
+// The word below k: 0 below the lowest.
+fn word_under(words: &[u64], k: usize) -> u64
+    ensures { λ r. ⌜ r ≡ getD (0 ∷ now (words .entry)) k 0 ⌝ }
+{
+    if k == 0 { 0 } else { word_in(words, k - 1) }
+}
+
+// The 64 binary digits from place n down, the one at n as the highest. Below place 0 stand zeros.
+pub fn digits_down(words: &[u64], n: usize) -> u64
+    ensures { λ r. ⌜ r ≡ 2 ^ 64 * wordsValue (now (words .entry)) / 2 ^ (n + 1) % 2 ^ 64 ⌝ }
+{
+    let k = n / 64;
+    (word_in(words, k) << (63 - n % 64)) + (word_under(words, k) >> (n % 64)) / 2
 }
 
 // Whether the words hold nothing: without a branch, since most numbers have no zero word.

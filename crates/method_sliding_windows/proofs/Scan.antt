@@ -1,39 +1,62 @@
--- The scan by what it takes at each place, and where it starts. Assumes nothing.
-use mathlib.Core.Path.{_≡_, refl, sym, ap, _∙_}
+-- The scan by what it takes at once, and where it starts. Assumes nothing.
+use mathlib.Core.Path.{_≡_, refl, sym, ap, subst, _∙_}
 use mathlib.Core.Logic.{_≢_}
 use mathlib.Core.List.{List, _++_}
 use Prim.Native.Nat.{ℕ, zero, suc, _+_, _*_, _-_, _%_, _<_, _≤_}
 use borrow.Author.Tests.{eq-eqb, ne-eqb}
 use native.Mathlib.Decide.{ℕ-discrete}
-use native.Mathlib.Nat.{add-zero}
+use native.Mathlib.Nat.{zero-add, add-zero, suc-add, lt-of-lt-of-le}
 use native.Mathlib.Omega.{arith}
-use lib.ListN.{length, drop}
+use lib.ListN.{length, take, drop}
 use lib.Pow.{pow-mono}
+use lib.Seq.{take-all}
+use Rattle.rules.specs.Limits.{numberBytes}
+use Rattle.integers.specs.Positional.{bytesValue, wordsValue}
+use Rattle.integers.proofs.Positional.{Below}
 use Rattle.integers.specs.Bits.{bit, bitLength}
-use Rattle.integers.proofs.Bits.{quotient-none}
+use Rattle.integers.proofs.Bits.{quotient-none, bit-length-iff, bytes-length}
 use Rattle.rules.specs.declared.Counts.{Counts}
 use Rattle.chains.specs.Steps.{Step, planBytesOf}
 use Rattle.chains.specs.Counts.{counts, countsOf}
 use Rattle.chains.proofs.Bytes.{length-plan}
-use Rattle.methods.specs.Building.{Building, none, doubled, addAt}
+use Rattle.methods.specs.Building.{Building, none, double, doubled, addAt}
 use Rattle.methods.specs.SlidingWindows.{oddTable, oddPosition, tableSize, longest, windowValue, slide, scanFrom, slidingWindowSteps}
 use Rattle.methods.specs.Forecast.{tableCounts, laterWindows, scanCounts, slidingWindowCounts}
 use Rattle.methods.proofs.Counted.{total, length-counted}
 use Rattle.methods.proofs.Laws.{length-followed, length-doubled}
-use Rattle.methods.proofs.SlidingWindows.{Entry, scan-fuel, slide-grows, belowWindow, top, first-one, first-window, first-value, whole-entry, entry-whole, entry-or-scan, no-subtractions, length-table, sliding-short, sliding-counts}
+use Rattle.methods.proofs.SlidingWindows.{Entry, scan-fuel, slide-grows, belowWindow, top, longest-window, window-entry, first-window, first-value, whole-entry, entry-whole, entry-or-scan, no-subtractions, length-table, sliding-short, sliding-counts}
 use Rattle.plan_writing.specs.declared.Cursor.{Cursor}
 use Rattle.plan_writing.specs.Writing.{Writing}
 use Rattle.method_sliding_windows.specs.declared.Window.{Window}
 use Rattle.method_sliding_windows.specs.declared.Start.{Start}
-use Rattle.method_sliding_windows.proofs.Windows.{taken-window, taken-zero, taken-bounds, window-odd, zero-value}
-use Rattle.method_sliding_windows.specs.Scan.{taken, windowAt, atWindow, startFrom, startOf}
+use Rattle.method_sliding_windows.proofs.Digits.{digits-zero, first-in}
+use Rattle.method_sliding_windows.specs.Scan.{windowAt, digitsDown, firstIn, atWindow, Turn, startFrom, startOf}
+
+-- ---- a number and its words
+
+-- the number within the limit that words hold, and the place n of its top bit
+pub record Held (number words : List ℕ) (n : ℕ) : Type 0 where
+  pub same : wordsValue words ≡ bytesValue number
+  pub some : 0 < wordsValue words
+  pub top : n ≡ bitLength (wordsValue words) - 1
+  pub few : bitLength (wordsValue words) ≤ 8 * numberBytes
+
+pub held : (number words : List ℕ) (k : ℕ) → Below 256 number → length number ≤ numberBytes → bytesValue number ≢ 0 → wordsValue words ≡ bytesValue (take numberBytes number) → k ≡ bitLength (bytesValue number) → Held number words (k - 1)
+held number words k b short some e l =
+    let same : wordsValue words ≡ bytesValue number = e ∙ ap bytesValue (take-all numberBytes number short) in
+    record {
+      same = same;
+      some = omega arith;
+      top = rw (l, same);
+      few = rw same (bytes-length number numberBytes b short);
+    }
 
 -- ---- one turn
 
--- below place i stands i - 1
-below : (P : ℕ → ℕ → Type 0) → ((n : ℕ) → P (suc n) n) → (i : ℕ) → 0 < i → P i (i - 1)
-below P at zero some = absurd (omega arith)
-below P at (suc n) some = let s : suc n - 1 ≡ n = omega arith in rw s (at n)
+doubled-more : (z l : ℕ) (b : Building) → doubled l (doubled z b) ≡ doubled (z + l) b
+unfolding doubled
+doubled-more zero l b = rw zero-add
+doubled-more (suc z) l b = rw suc-add (doubled-more z l (double b))
 
 length-at : (w : Window) (b : Building) → length (atWindow w b .steps) ≡ length (b .steps) + w .bits + w .value % 2
 unfolding atWindow
@@ -45,47 +68,77 @@ length-at w b =
           rw (ne-eqb (w .value % 2) 0 o) (omega (arith, length-doubled (w .bits) b))
     ]
 
+-- the bits from place m up to i are zeros
+abbrev Zeros : ℕ → ℕ → ℕ → Type 0
+Zeros e m i = (j : ℕ) → m ≤ j → j < i → bit e j ≡ 0
+
 module _ (e d : ℕ) (wide : 1 ≤ d) where
-  module _ (n : ℕ) where
-    -- the place below, with fuel enough
-    below-taken : suc n - taken e n d ≤ n
-    below-taken = omega (arith, taken-bounds e n d wide)
+  -- k zeros are k doublings
+  over-zeros : (k m : ℕ) → Zeros e m (m + k) → (b : Building) → (slide e d (m + k) (m + k) b ≡ slide e d m m (doubled k b)) × (laterWindows e d (m + k) (m + k) ≡ laterWindows e d m m)
+  unfolding slide laterWindows doubled
+  over-zeros zero m z b = let s : m + 0 ≡ m = omega arith in rw s (refl, refl)
+  over-zeros (suc k) m z b =
+      let none : bit e (m + k) ≢ 1 = omega (arith, z (m + k) (omega arith) (omega arith)) in
+      let s : m + suc k ≡ suc (m + k) = omega arith in
+      rw (s, ne-eqb (bit e (m + k)) 1 none) (over-zeros k m (λ j h l. z j h (omega arith)) (double b))
 
-    slide-next : (b : Building) → slide e d (suc n) (suc n) b ≡ slide e d (suc n - taken e n d) (suc n - taken e n d) (atWindow (windowAt e n d) b)
-    unfolding slide atWindow doubled
-    slide-next b =
-        elim (ℕ-discrete (bit e n) 1) [
-          | yes o ↦
-              let odd : windowValue e n (taken e n d) % 2 ≢ 0 = omega (arith, window-odd e n d wide o) in
-              rw (eq-eqb (bit e n) 1 o, ne-eqb (windowValue e n (taken e n d) % 2) 0 odd, ← taken-window e n d wide o) (scan-fuel e d wide n (suc n - taken e n d) (suc n - taken e n d) _ below-taken (omega arith) .1)
-          | no z ↦
-              let even : windowValue e n (taken e n d) % 2 ≡ 0 = rw (zero-value e n d wide z) in
-              let s : suc n - 1 ≡ n = omega arith in
-              rw (ne-eqb (bit e n) 1 z, eq-eqb (windowValue e n (taken e n d) % 2) 0 even, taken-zero e n d wide z, s)
-        ]
+  module _ (n : ℕ) (one : bit e n ≡ 1) where
+    -- bits and value of the window at place n
+    abbrev l : ℕ
+    l = longest e n d
 
-    later-next : laterWindows e d (suc n) (suc n) ≡ windowValue e n (taken e n d) % 2 + laterWindows e d (suc n - taken e n d) (suc n - taken e n d)
-    unfolding laterWindows
-    later-next =
-        elim (ℕ-discrete (bit e n) 1) [
-          | yes o ↦
-              let same = scan-fuel e d wide n (suc n - taken e n d) (suc n - taken e n d) none below-taken (omega arith) .0 in
-              rw (eq-eqb (bit e n) 1 o, window-odd e n d wide o, ← taken-window e n d wide o) (omega arith)
-          | no z ↦
-              let s : suc n - 1 ≡ n = omega arith in
-              rw (ne-eqb (bit e n) 1 z, zero-value e n d wide z, taken-zero e n d wide z, s) (omega arith)
-        ]
+    abbrev v : ℕ
+    v = windowValue e n l
 
-  -- the same below place i, where w is taken
-  module _ (i : ℕ) (some : 0 < i) (w : Window) (same : w ≡ windowAt e (i - 1) d) where
-    slide-turn : (b : Building) → slide e d i i b ≡ slide e d (i - w .bits) (i - w .bits) (atWindow w b)
-    slide-turn b =
-        rw same (below (λ i n. slide e d i i b ≡ slide e d (i - taken e n d) (i - taken e n d) (atWindow (windowAt e n d) b)) (λ n. slide-next n b) i some)
+    at-one : (b : Building) → (slide e d (suc n) (suc n) b ≡ slide e d (suc n - l) (suc n - l) (addAt (oddPosition v) (doubled l b))) × (laterWindows e d (suc n) (suc n) ≡ suc (laterWindows e d (suc n - l) (suc n - l)))
+    unfolding slide laterWindows
+    at-one b =
+        let w = longest-window e n d one wide in
+        let same = scan-fuel e d wide n (suc n - l) (suc n - l) (addAt (oddPosition v) (doubled l b)) (omega arith) (omega arith) in
+        rw (eq-eqb (bit e n) 1 one) (same .1, ap suc (same .0))
 
-    pub later-turn : laterWindows e d i i ≡ w .value % 2 + laterWindows e d (i - w .bits) (i - w .bits)
-    later-turn =
-        rw same
-        (below (λ i n. laterWindows e d i i ≡ windowValue e n (taken e n d) % 2 + laterWindows e d (i - taken e n d) (i - taken e n d)) later-next i some)
+    turn-window : (z : ℕ) → Zeros e (suc n) (suc n + z) → d ≤ 6 → Turn e d (suc n + z) (record { bits = z + l; value = v })
+    unfolding atWindow
+    turn-window z zeros narrow =
+        let w = longest-window e n d one wide in
+        let entry = window-entry w in
+        let left : suc n + z - (z + l) ≡ suc n - l = omega (arith, w .within) in
+        let odd : v % 2 ≢ 0 = omega (arith, entry .odd) in
+        record {
+          some = omega (arith, w .some);
+          within = omega (arith, w .within);
+          small = lt-of-lt-of-le (entry .narrow) (pow-mono {j = 6} narrow);
+          steps = λ b. rw (left, ne-eqb (v % 2) 0 odd, ← doubled-more z l b) (over-zeros z (suc n) zeros b .0 ∙ at-one (doubled z b) .0);
+          windows = rw left (omega (arith, over-zeros z (suc n) zeros none .1, at-one none .1, entry .odd));
+        }
+
+  turn-zeros : (i k : ℕ) → 1 ≤ k → k ≤ i → Zeros e (i - k) i → Turn e d i (record { bits = k; value = 0 })
+  unfolding atWindow
+  turn-zeros i k some within zeros =
+      let s : i - k + k ≡ i = omega arith in
+      let over = over-zeros k (i - k) (λ j h l. zeros j h (omega arith)) in
+      record {
+        some = some;
+        within = within;
+        small = omega arith;
+        steps = λ b. rw s at (over b .0);
+        windows = omega (arith, rw s at (over none .1));
+      }
+
+  -- the same of the 64 digits x from place i - 1 down
+  module _ (narrow : d ≤ 6) (i : ℕ) (more : 1 ≤ i) (x : ℕ) (digits : x ≡ digitsDown e (i - 1)) where
+    pub next-zeros : (k : ℕ) → x < 64 → 1 ≤ k → k ≤ i → k ≤ 58 → Turn e d i (record { bits = k; value = 0 })
+    next-zeros k low some within few =
+        turn-zeros i k some within (λ j h l. digits-zero e (i - 1) j (j + 63 - (i - 1)) (omega arith) (omega arith) (bit-length-iff (digitsDown e (i - 1)) (j + 63 - (i - 1)) .1 (lt-of-lt-of-le (rw digits at low) (pow-mono {i = 6} (omega arith)))))
+
+    pub next-window : 64 ≤ x → Turn e d i (firstIn x d)
+    next-window big =
+        let f = first-in e (i - 1) d wide narrow (rw digits at big) in
+        let n : ℕ = f .place in
+        let z : ℕ = 64 - bitLength (digitsDown e (i - 1)) in
+        let s : i ≡ suc n + z = omega (arith, f .below) in
+        let t = turn-window n (f .one) z (λ j h l. f .zeros j h (omega arith)) narrow in
+        rw (digits, f .window) (subst (λ (k : ℕ). Turn e d k (record { bits = z + longest e n d; value = windowValue e n (longest e n d) })) (sym s) t)
 
 -- ---- a loop that writes: what is written so far, and that the places below i will give the rest
 
@@ -99,9 +152,9 @@ module _ (lent here : List ℕ) (c : Cursor) (e d : ℕ) (all : List Step) where
   unfolding slide
   sliding-end u = u .writing .bytes ∙ rw (u .rest, length-plan all)
 
-  module _ (wide : 1 ≤ d) (i : ℕ) (some : 0 < i) (u : Sliding lent here c e d i all) (w : Window) (same : w ≡ windowAt e (i - 1) d) where
+  module _ (wide : 1 ≤ d) (i : ℕ) (u : Sliding lent here c e d i all) (w : Window) (t : Turn e d i w) where
     turn : slide e d (i - w .bits) (i - w .bits) (atWindow w (u .building)) .steps ≡ all
-    turn = rw (← slide-turn e d wide i some w same (u .building)) (u .rest)
+    turn = rw (← t .steps (u .building)) (u .rest)
 
     -- the steps of the next turn are among all
     pub sliding-room : c .steps + w .bits + w .value % 2 ≤ length all
@@ -127,11 +180,11 @@ counts-from e d s =
 module _ (e d : ℕ) (some : 0 < e) (wide : 1 ≤ d) where
   -- what is taken at the top bit is a window
   abbrev at-top : Start
-  at-top = startFrom (top e) d (record { bits = longest e (top e) d; value = windowValue e (top e) (longest e (top e) d) })
+  at-top = startFrom (top e) d (windowAt e (top e) d)
 
   started : startOf e d ≡ at-top
   unfolding startOf
-  started = rw (taken-window e (top e) d wide (first-one e d some wide))
+  started = refl
 
   -- the method's two cases: one window, and more than one
   by-start : (slidingWindowSteps e d ≡ steps-from e d at-top) × (slidingWindowCounts e d ≡ counts-from e d at-top)

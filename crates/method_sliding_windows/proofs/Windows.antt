@@ -1,31 +1,22 @@
--- What the scan takes at a place: how many bits, of which value; the longest window by its trailing zeros. Assumes nothing.
+-- The longest window at a place, by the trailing zeros of as many bits as it may have. Assumes nothing.
 use mathlib.Core.Path.{_≡_, sym, ap, _∙_}
 use mathlib.Core.Logic.{_≢_}
 use Prim.Native.Nat.{ℕ, zero, suc, _+_, _-_, _/_, _%_, _^_, _<_, _≤_}
-use borrow.Author.Tests.{eq-eqb, ne-eqb, le-leb, lt-leb}
-use native.Mathlib.Decide.{decLe, ℕ-discrete}
-use native.Mathlib.Nat.{sub-zero, mod-lt, lt-of-lt-of-le}
+use borrow.Author.Tests.{eq-eqb, ne-eqb, le-leb}
+use native.Mathlib.Decide.{ℕ-discrete}
+use native.Mathlib.Nat.{sub-zero, mod-eq-of-lt}
 use native.Mathlib.Numerals.{add-one, one-add}
 use native.Mathlib.Omega.{arith}
-use lib.Count.{trailingZeros}
-use lib.Pow.{pow-pos, pow-mono, shr-shr, field}
-use Rattle.integers.specs.Bits.{bit}
-use Rattle.integers.proofs.Bits.{bit-small}
+use lib.Count.{leadingZeros, trailingZeros}
+use lib.Pow.{shr-lt, shr-shr, field}
+use Rattle.integers.specs.Bits.{bit, bitLength}
+use Rattle.integers.proofs.Bits.{bit-small, bit-length-iff}
 use Rattle.methods.specs.SlidingWindows.{longest, windowValue}
-use Rattle.methods.proofs.SlidingWindows.{low-bit, longest-window, window-entry}
-use Rattle.method_sliding_windows.specs.Scan.{taken, windowAt}
+use Rattle.methods.proofs.SlidingWindows.{low-bit}
+use Rattle.method_sliding_windows.specs.Scan.{firstIn}
+use Rattle.method_sliding_windows.proofs.Digits.{leading-bits, top-one, seven-digits}
 
 module _ (e n : ℕ) where
-  -- more bits than there are places change nothing
-  longest-most : (d m : ℕ) → m ≡ suc n - (suc n - d) → longest e n d ≡ longest e n m
-  unfolding longest
-  longest-most zero m h = let z : m ≡ 0 = omega arith in rw z
-  longest-most (suc l) m h =
-      elim (decLe l n) [
-        | yes t ↦ let s : m ≡ suc l = omega arith in rw s
-        | no t ↦ rw (lt-leb l n (omega arith)) (longest-most l m (omega arith))
-      ]
-
   -- the t trailing zeros of l bits are not in the window
   record Stripped (l t : ℕ) : Type 0 where
     some : t < l
@@ -74,51 +65,52 @@ module _ (e n : ℕ) where
             rw (lowest l (omega arith) ∙ even, half l (omega arith)) (shorter l (omega arith) _ z (stripped k l one (omega arith) (omega arith) (omega arith)))
       ]
 
-module _ (e n d : ℕ) (wide : 1 ≤ d) where
-  pub taken-window : bit e n ≡ 1 → taken e n d ≡ longest e n d
-  unfolding taken
-  taken-window o = rw (eq-eqb (bit e n) 1 o)
+-- b is the value of the d bits from place n down
+module _ (e n d b : ℕ) (one : bit e n ≡ 1) (wide : 1 ≤ d) (few : d ≤ 64) (within : d ≤ suc n) (read : b ≡ windowValue e n d) where
+  all : Stripped e n d (trailingZeros 64 b)
+  all = rw read (stripped e n 64 d one few wide within)
 
-  pub taken-zero : bit e n ≢ 1 → taken e n d ≡ 1
-  unfolding taken
-  taken-zero z = rw (ne-eqb (bit e n) 1 z)
+  stripped-few : trailingZeros 64 b < d
+  stripped-few = all .some
 
-  pub taken-bounds : (1 ≤ taken e n d) × (taken e n d ≤ d) × (taken e n d ≤ suc n)
-  taken-bounds =
-      elim (ℕ-discrete (bit e n) 1) [
-        | yes o ↦ let w = longest-window e n d o wide in rw (taken-window o) (w .some, w .narrow, w .within)
-        | no z ↦ rw (taken-zero z) (omega arith, omega arith, omega arith)
-      ]
+  window-bits : longest e n d ≡ d - trailingZeros 64 b
+  window-bits = all .bits
 
-  -- a window's value is odd, and a 0 has the value 0
-  pub window-odd : bit e n ≡ 1 → windowValue e n (taken e n d) % 2 ≡ 1
-  window-odd o = rw (taken-window o) (window-entry (longest-window e n d o wide) .odd)
+  window-value : b / 2 ^ trailingZeros 64 b ≡ windowValue e n (longest e n d)
+  window-value = ap (λ (x : ℕ). x / 2 ^ trailingZeros 64 b) read ∙ all .value ∙ ap (λ (l : ℕ). windowValue e n l) (sym window-bits)
 
-  pub zero-value : bit e n ≢ 1 → windowValue e n (taken e n d) ≡ 0
-  unfolding bit
-  zero-value z =
-      let s : suc n - 1 ≡ n = omega arith in
-      rw (taken-zero z, s) (omega (arith, bit-small e n))
+-- of 64 digits, by their leading zeros
+module _ (x d : ℕ) (big : 64 ≤ x) (small : x < 2 ^ 64) (wide : 1 ≤ d) (narrow : d ≤ 6) where
+  abbrev zeros : ℕ
+  zeros = leadingZeros 64 x
 
-  pub value-small : d ≤ 6 → windowValue e n (taken e n d) < 64
-  value-small h = lt-of-lt-of-le (mod-lt (e / 2 ^ (suc n - taken e n d)) (pow-pos (taken e n d))) (pow-mono {j = 6} (omega (arith, taken-bounds)))
+  abbrev read : ℕ
+  read = x / 2 ^ (64 - zeros - d)
 
-  -- ---- as the code takes them
+  abbrev trailing : ℕ
+  trailing = trailingZeros 64 read
 
-  pub zero-taken : bit e n ≡ 0 → record { bits = 1; value = 0 } ≡ windowAt e n d
-  zero-taken z = let o : bit e n ≢ 1 = omega arith in rw (zero-value o, taken-zero o)
+  pub zeros-few : (zeros + bitLength x ≡ 64) × (7 ≤ bitLength x)
+  zeros-few = (leading-bits x (omega arith) small, seven-digits x big)
 
-  -- b is the value of the most bits, from place low on
-  module _ (low most b : ℕ) (one : bit e n ≡ 1) (few : d ≤ 64) (least : low ≡ n + 1 - d) (whole : most ≡ n - low + 1) (read : b ≡ e / 2 ^ low % 2 ^ most) where
-    same : b ≡ windowValue e n most
-    same = let s : suc n - most ≡ low = omega arith in rw s read
+  reads : read ≡ windowValue x (bitLength x - 1) d
+  reads =
+      let k : ℕ = suc (bitLength x - 1) - d in
+      let s : 64 - zeros - d ≡ k = omega (arith, zeros-few) in
+      let all : bitLength x ≡ d + k = omega (arith, zeros-few) in
+      let fits : x < 2 ^ (d + k) = rw (← all) (bit-length-iff x (bitLength x) .0 (omega arith)) in
+      rw s (sym (mod-eq-of-lt (shr-lt d k fits)))
 
-    at-most : Stripped e n most (trailingZeros 64 b)
-    at-most = rw same (stripped e n 64 most one (omega arith) (omega arith) (omega arith))
+  one : bit x (bitLength x - 1) ≡ 1
+  one = top-one x (omega arith)
 
-    pub window-taken : (trailingZeros 64 b < most) × (record { bits = most - trailingZeros 64 b; value = b / 2 ^ trailingZeros 64 b } ≡ windowAt e n d)
-    window-taken =
-        let t : ℕ = trailingZeros 64 b in
-        let bits : taken e n d ≡ most - t = taken-window one ∙ longest-most e n d most (omega arith) ∙ at-most .bits in
-        let value : b / 2 ^ t ≡ windowValue e n (most - t) = ap (λ (x : ℕ). x / 2 ^ t) same ∙ at-most .value in
-        (at-most .some, rw (bits, value))
+  within : d ≤ suc (bitLength x - 1)
+  within = omega (arith, zeros-few)
+
+  pub trailing-few : trailing < d
+  trailing-few = stripped-few x (bitLength x - 1) d read one wide (omega arith) within reads
+
+  pub first-read : record { bits = zeros + d - trailing; value = read / 2 ^ trailing } ≡ firstIn x d
+  first-read =
+      let bits : zeros + d - trailing ≡ 64 - bitLength x + longest x (bitLength x - 1) d = omega (arith, zeros-few, trailing-few, window-bits x (bitLength x - 1) d read one wide (omega arith) within reads) in
+      rw (bits, window-value x (bitLength x - 1) d read one wide (omega arith) within reads)

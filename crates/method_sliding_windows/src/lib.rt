@@ -1,8 +1,8 @@
 // Method 3, sliding windows of at most `width` bits: its steps counted, and written.
-use integers::bit_at;
 use integers::bit_length;
-use integers::bits_at;
+use integers::digits_down;
 use integers::power;
+use integers::words_of;
 use plan_writing::Cursor;
 use rules::Counts;
 ghost use mathlib.Core.Path.{_≡_};
@@ -11,16 +11,18 @@ ghost use mathlib.Core.List.{List, _++_};
 ghost use Prim.Native.Nat.{ℕ, _+_, _*_, _-_, _%_, _≤_, _<_};
 ghost use lib.ListN.{length, drop};
 ghost use Rattle.rules.specs.Limits.{numberBytes, stepBytes};
-ghost use Rattle.integers.specs.Positional.{bytesValue};
+ghost use Rattle.integers.specs.Bits.{bitLength};
+ghost use Rattle.integers.specs.Positional.{bytesValue, wordsValue};
 ghost use Rattle.chains.specs.Steps.{planBytesOf};
 ghost use Rattle.chains.specs.Counts.{countsOf};
 ghost use Rattle.methods.specs.Building.{Building};
 ghost use Rattle.methods.specs.SlidingWindows.{tableStep, oddTable, oddPosition, tableSize, slidingWindowSteps};
 ghost use Rattle.methods.specs.Forecast.{tableCounts, laterWindows};
 ghost use Rattle.plan_writing.specs.Writing.{Writing};
-ghost use Rattle.method_sliding_windows.specs.Scan.{windowAt, atWindow, tableSteps, startOf};
+ghost use Rattle.method_sliding_windows.specs.Scan.{firstIn, atWindow, Turn, tableSteps, startOf};
 
-// What the scan takes at a place: the bits of a window and its value, or one bit that is 0.
+// What the scan takes at once: the zeros from a place down and the window below them, with its
+// value; or zeros alone, and 0.
 struct Window {
     bits: usize,
     value: u64,
@@ -34,31 +36,44 @@ struct Start {
     table: usize,
 }
 
-// The lowest place that a window of at most `width` bits from place n down can have.
-fn lowest(n: usize, width: usize) -> usize
-    requires { ⌜ 1 ≤ width ⌝ }
-    ensures { λ r. ⌜ r ≡ n + 1 - width ⌝ }
+// Of the 64 digits from a place down, the zeros down to the highest 1 and the window that begins
+// there. A window ends in 1: the zeros below its last 1 are not in it.
+fn window_in(digits: u64, width: usize) -> Window
+    requires { ⌜ 64 ≤ digits ⌝ }
+    requires { ⌜ (1 ≤ width) × (width ≤ 6) ⌝ }
+    ensures { λ r. ⌜ r ≡ firstIn digits width ⌝ }
 {
-    if n < width { 0 } else { n - (width - 1) }
+    let zeros = u64::leading_zeros(digits) as usize;
+    let window = digits >> (64 - zeros - width);
+    let trailing = u64::trailing_zeros(window) as usize;
+    Window {
+        bits: zeros + width - trailing,
+        value: window >> trailing,
+    }
 }
 
-// What the scan takes at place n. A window ends in 1: the zeros below its last 1 are not in it.
-fn window_at(number: &[u8], n: usize, width: usize) -> Window
-    requires { ⌜ (1 ≤ width) × (width ≤ 6) ⌝ }
-    ensures { λ r. ⌜ r ≡ windowAt (bytesValue (now (number .entry))) n width ⌝ }
-    ensures { λ r. ⌜ (1 ≤ r .bits) × (r .bits ≤ n + 1) × (r .value < 64) ⌝ }
+// As many zeros as are seen where no window is whole: of 64 digits, all but those of a window.
+fn zeros_above(place: usize) -> usize
+    requires { ⌜ 1 ≤ place ⌝ }
+    ensures { λ r. ⌜ (1 ≤ r) × (r ≤ place) × (r ≤ 58) ⌝ }
 {
-    if bit_at(number, n) == 0 {
-        return Window { bits: 1, value: 0 };
+    if place < 58 { place } else { 58 }
+}
+
+// What the scan takes below a place.
+fn next_window(words: &[u64], place: usize, width: usize) -> Window
+    requires { ⌜ 1 ≤ place ⌝ }
+    requires { ⌜ (1 ≤ width) × (width ≤ 6) ⌝ }
+    ensures { λ r. ⌜ Turn (wordsValue (now (words .entry))) width place r ⌝ }
+{
+    let digits = digits_down(words, place - 1);
+    if digits < 64 {
+        return Window {
+            bits: zeros_above(place),
+            value: 0,
+        };
     }
-    let low = lowest(n, width);
-    let most = n - low + 1;
-    let bits = bits_at(number, low, most);
-    let zeros = u64::trailing_zeros(bits) as usize;
-    Window {
-        bits: most - zeros,
-        value: bits >> zeros,
-    }
+    window_in(digits, width)
 }
 
 // The position at which the table holds an odd value.
@@ -94,15 +109,15 @@ fn table_steps(below: usize, at: usize, width: usize) -> usize
     if below == 0 { at } else { table_size(width) }
 }
 
-// Where the scan of a number above zero starts.
-fn start_of(number: &[u8], width: usize) -> Start
-    requires { ⌜ length (now number) ≤ numberBytes ⌝ }
-    requires { ⌜ bytesValue (now number) ≢ 0 ⌝ }
+// Where the scan of a number above zero starts, whose top bit stands at place n.
+fn start_of(words: &[u64], n: usize, width: usize) -> Start
+    requires { ⌜ wordsValue (now words) ≢ 0 ⌝ }
+    requires { ⌜ n ≡ bitLength (wordsValue (now words)) - 1 ⌝ }
+    requires { ⌜ n < 8 * numberBytes ⌝ }
     requires { ⌜ (1 ≤ width) × (width ≤ 6) ⌝ }
-    ensures { λ r. ⌜ r ≡ startOf (bytesValue (now (number .entry))) width ⌝ }
+    ensures { λ r. ⌜ r ≡ startOf (wordsValue (now (words .entry))) width ⌝ }
 {
-    let n = bit_length(number) - 1;
-    let window = window_at(number, n, width);
+    let window = window_in(digits_down(words, n), width);
     let below = n + 1 - window.bits;
     let at = position(window.value);
     Start {
@@ -113,14 +128,14 @@ fn start_of(number: &[u8], width: usize) -> Start
 }
 
 // How many windows the scan meets below a place.
-fn later_windows(number: &[u8], below: usize, width: usize) -> usize
+fn later_windows(words: &[u64], below: usize, width: usize) -> usize
     requires { ⌜ (1 ≤ width) × (width ≤ 6) ⌝ }
-    ensures { λ r. ⌜ r ≡ laterWindows (bytesValue (now (number .entry))) width below below ⌝ }
+    ensures { λ r. ⌜ r ≡ laterWindows (wordsValue (now (words .entry))) width below below ⌝ }
 {
     let mut windows: usize = 0;
     let mut i = below;
     while 0 < i {
-        let window = window_at(number, i - 1, width);
+        let window = next_window(words, i, width);
         windows += (window.value % 2) as usize;
         i -= window.bits;
     }
@@ -154,9 +169,10 @@ pub fn counts(number: &[u8], width: usize) -> Counts
     requires { ⌜ (1 ≤ width) × (width ≤ 6) ⌝ }
     ensures { λ r. ⌜ r ≡ countsOf (slidingWindowSteps (bytesValue (now (number .entry))) width) ⌝ }
 {
-    let start = start_of(number, width);
+    let words = words_of(number);
+    let start = start_of(&words, bit_length(number) - 1, width);
     let table = table_counts(start.table);
-    let windows = later_windows(number, start.below, width);
+    let windows = later_windows(&words, start.below, width);
     Counts {
         doublings: table.doublings + start.below,
         additions: table.additions + windows,
@@ -208,7 +224,8 @@ pub fn write(number: &[u8], width: usize, out: &mut [u8])
     requires { ⌜ stepBytes * length (slidingWindowSteps (bytesValue (now number)) width) ≤ length (now out) ⌝ }
     ensures { λ _. ⌜ now (out .exit) ≡ planBytesOf (slidingWindowSteps (bytesValue (now (number .entry))) width) ++ drop (length (planBytesOf (slidingWindowSteps (bytesValue (now (number .entry))) width))) (now (out .entry)) ⌝ }
 {
-    let start = start_of(number, width);
+    let words = words_of(number);
+    let start = start_of(&words, bit_length(number) - 1, width);
     let table = write_table(out, start.table);
     let mut c = Cursor {
         steps: table.steps,
@@ -216,7 +233,7 @@ pub fn write(number: &[u8], width: usize, out: &mut [u8])
     };
     let mut i = start.below;
     while 0 < i {
-        let window = window_at(number, i - 1, width);
+        let window = next_window(&words, i, width);
         c = at_window(c, out, window);
         i -= window.bits;
     }

@@ -2,31 +2,24 @@
 use mathlib.Core.Path.{_≡_}
 use Prim.Native.Nat.{_+_, _≤_}
 use native.Mathlib.Omega.{arith}
-use Rattle.integers.specs.Positional.{bytesValue}
+use Rattle.integers.specs.Positional.{wordsValue}
 use Rattle.methods.specs.Forecast.{laterWindows}
-use Rattle.method_sliding_windows.proofs.Scan.{later-turn}
 use borrow.Author.Needs.{needs}
 use Rattle.method_sliding_windows.proofs.later_windows.Statement.{statement}
 use Rattle.method_sliding_windows.proofs.later_windows.Tie as tie
-use Rattle.method_sliding_windows.proofs.later_windows.Reads as reads
-use Rattle.method_sliding_windows.proofs.later_windows.Lts as lts
-use Rattle.method_sliding_windows.proofs.window_at.Reads as window-at-reads
 
 abbrev Inv-loop : tie.InvT-loop
-Inv-loop number below width windows₀ i₀ windows i =
-    (i ≤ below) × (windows + i ≤ below) × (windows + laterWindows (bytesValue number) width i i ≡ laterWindows (bytesValue number) width below below)
+Inv-loop words below width windows₀ i₀ windows i =
+    (i ≤ below) × (windows + i ≤ below) × (windows + laterWindows (wordsValue words) width i i ≡ laterWindows (wordsValue words) width below below)
 
 abbrev μ-loop : tie.MeasureT-loop
-μ-loop number below width windows₀ i₀ windows i = i
+μ-loop words below width windows₀ i₀ windows i = i
 
 loop-holds : tie.Need-loop-holds Inv-loop μ-loop
 loop-holds c = (search needs, search needs, search needs)
 
-sub-window-at : tie.Need-sub-window-at Inv-loop μ-loop
-sub-window-at c = search needs
-
-window-at-requires : tie.Need-window-at-requires Inv-loop μ-loop
-window-at-requires c κs = search needs
+next-window-requires : tie.Need-next-window-requires Inv-loop μ-loop
+next-window-requires c κs = search needs
 
 add-windows : tie.Need-add-windows Inv-loop μ-loop
 add-windows c = search needs
@@ -40,10 +33,8 @@ loop-less c = search needs
 loop-again : tie.Need-loop-again Inv-loop μ-loop
 loop-again c =
     let loop = c .before .before .before .before .loop in
-    let args = c .before .before .before .before .before .before .args in
-    let window = c .before .before .window-at in
-    let turn = later-turn (bytesValue (args .number .now)) (args .width) (search needs) (loop .i) (search needs) (window .result) (window .ensures .0) in
-    (search needs, search needs, omega (arith, turn, loop .inv .2))
+    let turn = c .before .before .next-window .ensures in
+    (search needs, search needs, omega (arith, turn .windows, loop .inv .2))
 
 returns : tie.Need-returns Inv-loop μ-loop
 unfolding laterWindows
@@ -59,8 +50,7 @@ later-windows-spec =
     Inv-loop
     μ-loop
     loop-holds
-    sub-window-at
-    window-at-requires
+    next-window-requires
     add-windows
     sub-i
     loop-less

@@ -1,39 +1,57 @@
 -- `method_sliding_windows::start_of` meets its contract. Assumes nothing.
-use mathlib.Core.Path.{_≡_}
-use Prim.Native.Nat.{ℕ, _-_}
+use mathlib.Core.Path.{_≡_, ap, _∙_}
+use Prim.Native.Nat.{ℕ, _+_, _-_, _<_}
+use native.Mathlib.Nat.{lt-of-lt-of-le}
 use native.Mathlib.Numerals.{add-one}
 use native.Mathlib.Omega.{arith}
+use lib.Pow.{pow-mono}
 use Rattle.integers.specs.Bits.{bitLength}
-use Rattle.integers.specs.Positional.{bytesValue}
-use Rattle.integers.proofs.Bits.{some-bits}
-use Rattle.method_sliding_windows.specs.Scan.{windowAt, startOf}
+use Rattle.integers.specs.Positional.{wordsValue}
+use Rattle.methods.proofs.SlidingWindows.{first-window, window-entry}
+use Rattle.method_sliding_windows.specs.Scan.{windowAt, digitsDown, firstIn, startOf}
+use Rattle.method_sliding_windows.proofs.Digits.{start-large, start-window}
 use borrow.Author.Needs.{needs}
 use Rattle.method_sliding_windows.proofs.start_of.Statement.{statement}
 use Rattle.method_sliding_windows.proofs.start_of.Tie as tie
-use Rattle.method_sliding_windows.proofs.start_of.Reads as reads
-use Rattle.method_sliding_windows.proofs.start_of.Lts as lts
-use Rattle.integers.proofs.bit_length.Reads as bit-length-reads
-use Rattle.method_sliding_windows.proofs.position.Reads as position-reads
-use Rattle.method_sliding_windows.proofs.table_steps.Reads as table-steps-reads
-use Rattle.method_sliding_windows.proofs.window_at.Reads as window-at-reads
 
-bit-length-requires : tie.Need-bit-length-requires
-bit-length-requires c κs = search needs
+-- the digits from the top bit down
+digits : (c : tie.After-digits-down) → c .digits-down .result ≡ digitsDown (wordsValue (c .before .before .args .words .now)) (bitLength (wordsValue (c .before .before .args .words .now)) - 1)
+digits c = c .digits-down .ensures ∙ ap (λ (n : ℕ). digitsDown (wordsValue (c .before .before .args .words .now)) n) (c .before .before .pre .1 .0)
 
-sub-n : tie.Need-sub-n
-sub-n c = omega (arith, c .bit-length .ensures, some-bits (bytesValue (c .before .before .args .number .now)) (search needs))
+module _ (c : tie.After-window-in) where
+  abbrev e : ℕ
+  e = wordsValue (c .before .before .before .args .words .now)
 
-window-at-requires : tie.Need-window-at-requires
-window-at-requires c κs = search needs
+  abbrev d : ℕ
+  d = c .before .before .before .args .width
+
+  some : 0 < e
+  some = search needs
+
+  window : c .window-in .result ≡ windowAt e (bitLength e - 1) d
+  window = c .window-in .ensures ∙ ap (λ (x : ℕ). firstIn x d) (digits (c .before)) ∙ start-window e d some (search needs) (search needs)
+
+  within : c .window-in .result .bits < bitLength e - 1 + 2
+  within = rw window (omega (arith, first-window e d some (search needs) .within))
+
+  small : c .window-in .result .value < 64
+  small = rw window (lt-of-lt-of-le (window-entry (first-window e d some (search needs)) .narrow) (pow-mono {j = 6} (search needs)))
+
+digits-down-requires : tie.Need-digits-down-requires
+digits-down-requires c κs = search needs
+
+window-in-requires : tie.Need-window-in-requires
+window-in-requires c κs =
+    (rw (digits c) (start-large (wordsValue (c .before .before .args .words .now)) (c .before .before .args .width) (search needs) (search needs) (search needs)), search needs)
 
 add-below : tie.Need-add-below
 add-below c = search needs
 
 sub-below : tie.Need-sub-below
-sub-below c = search needs
+sub-below c = omega (arith, within (c .before))
 
 position-requires : tie.Need-position-requires
-position-requires c κs = search needs
+position-requires c κs = small (c .before)
 
 table-steps-requires : tie.Need-table-steps-requires
 table-steps-requires c κs = search needs
@@ -42,18 +60,16 @@ returns : tie.Need-returns
 unfolding startOf
 returns c =
     let args = c .before .before .before .before .before .before .args in
-    let e : ℕ = bytesValue (args .number .now) in
-    let length = c .before .before .before .before .bit-length .ensures in
-    let window : c .before .before .before .window-at .result ≡ windowAt e (bitLength e - 1) (args .width) = rw length at (c .before .before .before .window-at .ensures .0) in
-    rw (c .table-steps .ensures, length, add-one (bitLength e - 1), c .before .position .ensures, window)
+    let n : ℕ = bitLength (wordsValue (args .words .now)) - 1 in
+    let top : args .n ≡ n = search needs in
+    rw (c .table-steps .ensures, top, add-one n, c .before .position .ensures, window (c .before .before .before))
 
 pub start-of-spec : {M : Type 1} → statement M
 start-of-spec =
     tie.close
     (tie.spec
-    bit-length-requires
-    sub-n
-    window-at-requires
+    digits-down-requires
+    window-in-requires
     add-below
     sub-below
     position-requires

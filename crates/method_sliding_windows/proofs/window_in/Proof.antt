@@ -1,0 +1,48 @@
+-- `method_sliding_windows::window_in` meets its contract. Assumes nothing.
+use native.Mathlib.Omega.{arith}
+use lib.Count.{leading-le}
+use Rattle.method_sliding_windows.proofs.Windows.{zeros-few, trailing-few, first-read}
+use borrow.Author.Needs.{needs}
+use Rattle.method_sliding_windows.proofs.window_in.Statement.{statement}
+use Rattle.method_sliding_windows.proofs.window_in.Tie as tie
+
+cast-zeros : tie.Need-cast-zeros
+cast-zeros c = omega (arith, leading-le 64 (c .args .digits))
+
+sub-window : tie.Need-sub-window
+sub-window c = omega (arith, leading-le 64 (c .args .digits))
+
+sub-window-2 : tie.Need-sub-window-2
+sub-window-2 c = omega (arith, zeros-few (c .args .digits) (c .args .width) (search needs) (omega arith) (search needs) (search needs))
+
+shr-window : tie.Need-shr-window
+shr-window c = search needs
+
+cast-trailing : tie.Need-cast-trailing
+cast-trailing c = omega (arith, trailing-few (c .args .digits) (c .args .width) (search needs) (omega arith) (search needs) (search needs))
+
+add-t7 : tie.Need-add-t7
+add-t7 c = omega (arith, leading-le 64 (c .args .digits))
+
+sub-t8 : tie.Need-sub-t8
+sub-t8 c = omega (arith, trailing-few (c .args .digits) (c .args .width) (search needs) (omega arith) (search needs) (search needs))
+
+shr-t10 : tie.Need-shr-t10
+shr-t10 c = omega (arith, trailing-few (c .args .digits) (c .args .width) (search needs) (omega arith) (search needs) (search needs))
+
+returns : tie.Need-returns
+returns c = first-read (c .args .digits) (c .args .width) (search needs) (omega arith) (search needs) (search needs)
+
+pub window-in-spec : {M : Type 1} → statement M
+window-in-spec =
+    tie.close
+    (tie.spec
+    cast-zeros
+    sub-window
+    sub-window-2
+    shr-window
+    cast-trailing
+    add-t7
+    sub-t8
+    shr-t10
+    returns)

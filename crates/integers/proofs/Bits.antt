@@ -6,7 +6,7 @@ use Prim.Native.Nat.{ℕ, zero, suc, _+_, _*_, _-_, _/_, _%_, _^_, _<_, _≤_}
 use native.Mathlib.Nat.{pow-zero, pow-suc, mul-zero, mul-suc, mul-comm, div-lt-iff-lt-mul, div-le-self}
 use native.Mathlib.Numerals.{add-one}
 use native.Mathlib.Omega.{arith}
-use lib.Count.{ones, ones-cat, leadingZeros, leading-length}
+use lib.Count.{leadingZeros, leading-length}
 use lib.ListN.{length, getD, drop}
 use lib.Pow.{pow-pos, pow-add, shr-shr, split, field, mod-mod-pow}
 use Rattle.integers.specs.Bits.{bit, lengthUpTo, bitLength}
@@ -158,12 +158,6 @@ bits-of-bytes l place count b few =
     let w : 16 ≡ (16 - r - count + count) + r = omega arith in
     rw (s, two)
     (ap (λ (n : ℕ). v / 256 ^ q % 2 ^ n / 2 ^ r % 2 ^ count) w ∙ ap (λ (n : ℕ). n % 2 ^ count) (field (v / 256 ^ q) (16 - r - count + count) r) ∙ mod-mod-pow (v / 256 ^ q / 2 ^ r) (16 - r - count) count)
-
--- the ones of a byte below others
-pub ones-byte : (l : List ℕ) (i : ℕ) → Below 256 l → i < length l → ones (bytesValue (drop i l)) ≡ ones (bytesValue (drop (suc i) l)) + ones (getD l i 0)
-ones-byte l i b h =
-    let e : bytesValue (drop i l) ≡ bytesValue (drop (suc i) l) * 2 ^ 8 + getD l i 0 = omega (arith, positional-drop 256 l i) in
-    rw e (ones-cat 8 (bytesValue (drop (suc i) l)) (getD l i 0) (b i))
 
 -- ---- the bit length by the highest byte
 

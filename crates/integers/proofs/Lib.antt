@@ -7,3 +7,4 @@ pub mod Words
 pub mod Shortest
 pub mod Carry
 pub mod Down
+pub mod Counting

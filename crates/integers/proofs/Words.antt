@@ -2,10 +2,9 @@
 use mathlib.Core.Path.{_≡_, refl, sym, ap, _∙_}
 use mathlib.Core.Bool.{Bool, _&&_}
 use mathlib.Core.List.{List, [], _∷_, _++_}
-use Prim.Native.Nat.{ℕ, zero, suc, _+_, _*_, _-_, _/_, _%_, _^_, _<_, _≤_, min}
-use native.Mathlib.Decide.{decLe}
+use Prim.Native.Nat.{ℕ, zero, suc, _+_, _*_, _-_, _/_, _%_, _^_, _<_, _≤_}
 use borrow.Author.Tests.{eq-eqb, ne-eqb}
-use native.Mathlib.Nat.{zero-add, add-zero, suc-add, pow-suc, one-le-pow, mul-add, mul-assoc, mul-pos, mul-zero, min-eq-left, min-eq-right}
+use native.Mathlib.Nat.{zero-add, add-zero, suc-add, pow-suc, one-le-pow, mul-add, mul-assoc, mul-pos, mul-zero}
 use native.Mathlib.Numerals.{add-one}
 use native.Mathlib.Omega.{arith}
 use lib.Dec.{eqb}
@@ -73,6 +72,17 @@ words-value l (suc n) =
     rw (positional-split 256 (8 * n) (take (8 * n + 8) l), take-take (8 * n) (8 * n + 8) l (omega arith), drop-take (8 * n) 8 l) in
     rw e (top ∙ ap (λ (v : ℕ). v + (2 ^ 64) ^ n * wordAt l n) (words-value l n) ∙ ap (λ (p : ℕ). bytesValue (take (8 * n) l) + p * wordAt l n) (word-power n) ∙ sym low)
 
+-- the word at k, and the bytes above it
+pub words-from : (l : List ℕ) (k : ℕ) → bytesValue (drop (8 * k) l) ≡ bytesValue (drop (8 * (k + 1)) l) * 2 ^ 64 + wordAt l k
+words-from l k =
+    let e : 8 * (k + 1) ≡ 8 * k + 8 = omega arith in
+    rw (e, ← drop-drop 8 (8 * k) l) (omega (arith, positional-split 256 8 (drop (8 * k) l)))
+
+pub word-lt : (l : List ℕ) (k : ℕ) → Below 256 l → wordAt l k < 2 ^ 64
+word-lt l k b =
+    positional-lt 256 8 (take 8 (drop (8 * k) l)) (omega (arith, length-take 8 (drop (8 * k) l)))
+    (below-take 256 8 (drop (8 * k) l) (omega arith) (below-drop 256 (8 * k) l (omega arith) b))
+
 -- a part of a part
 pub part-part : (l : List ℕ) (at size from count : ℕ) → from + count ≤ size → part from count (part at size l) ≡ part (at + from) count l
 part-part l at size from count h =
@@ -88,13 +98,6 @@ words-low words k n h b =
     let q : wordsValue words / 256 ^ (8 * k) ≡ getD words k 0 + 256 ^ n * (256 ^ (8 - n) * above) =
     rw (← word-power k, ← positional-div (2 ^ 64) words k b, positional-drop (2 ^ 64) words k, ← mul-assoc (256 ^ n) (256 ^ (8 - n)) above, ← e) in
     rw (low-add (8 * k) n (wordsValue words), q, low-above n (getD words k 0) (256 ^ (8 - n) * above))
-
-pub take-least : (n : ℕ) (l : List ℕ) → take (min n (length l)) l ≡ take n l
-take-least n l = go (decLe n (length l))
-  where
-    go : Dec (n ≤ length l) → take (min n (length l)) l ≡ take n l
-    go (yes h) = rw (min-eq-left h)
-    go (no h) = let k : length l ≤ n = omega arith in rw (min-eq-right k, take-length l, take-all n l k)
 
 -- ---- whether words hold nothing
 

@@ -2,7 +2,7 @@
 use rules::NUMBER_WORDS;
 ghost use mathlib.Core.Path.{_≡_};
 ghost use mathlib.Core.List.{_∷_, _++_};
-ghost use Prim.Native.Nat.{_+_, _*_, _/_, _%_, _^_, _<_, _≤_, min};
+ghost use Prim.Native.Nat.{_+_, _*_, _/_, _%_, _^_, _<_, _≤_};
 ghost use lib.Count;
 ghost use lib.Dec.{eqb};
 ghost use lib.ListN.{length, take, drop, getD};
@@ -80,18 +80,12 @@ pub fn ones(number: &[u8]) -> usize
     ensures { λ r. ⌜ r ≡ Count.ones (bytesValue (now (number .entry))) ⌝ }
 {
     let mut total = 0;
-    let mut i = number.len();
-    while 0 < i {
-        i -= 1;
-        total += u8::count_ones(number[i]) as usize;
+    let mut k = 0;
+    while k < NUMBER_WORDS {
+        total += u64::count_ones(word_at(number, 8 * k)) as usize;
+        k += 1;
     }
     total
-}
-
-fn least(a: usize, b: usize) -> usize
-    ensures { λ r. ⌜ r ≡ min a b ⌝ }
-{
-    if a < b { a } else { b }
 }
 
 // The value of `count` bytes from `from` on.
@@ -109,22 +103,26 @@ fn word_of(bytes: &[u8], from: usize, count: usize) -> u64
     word
 }
 
-// The value of the eight bytes from `from` on, or of as many as there are.
-pub fn word_at(bytes: &[u8], from: usize) -> u64
-    ensures { λ r. ⌜ r ≡ bytesValue (take 8 (drop from (now (bytes .entry)))) ⌝ }
-{
-    if bytes.len() <= from {
-        return 0;
-    }
-    word_of(bytes, from, least(8, bytes.len() - from))
-}
-
 // The value of the eight bytes from `from` on.
 pub fn whole_word_at(bytes: &[u8], from: usize) -> u64
     requires { ⌜ from + 8 ≤ length (now bytes) ⌝ }
     ensures { λ r. ⌜ r ≡ bytesValue (take 8 (drop from (now (bytes .entry)))) ⌝ }
 {
     word_of(bytes, from, 8)
+}
+
+// The same, or the value of as many as there are. Eight become one load.
+pub fn word_at(bytes: &[u8], from: usize) -> u64
+    ensures { λ r. ⌜ r ≡ bytesValue (take 8 (drop from (now (bytes .entry)))) ⌝ }
+{
+    if bytes.len() <= from {
+        return 0;
+    }
+    let count = bytes.len() - from;
+    if 8 <= count {
+        return whole_word_at(bytes, from);
+    }
+    word_of(bytes, from, count)
 }
 
 // The words of a number, of which bytes above the limit are left out.

@@ -1,60 +1,64 @@
--- `integers::ones` meets its contract: the ones of the bytes from i on are counted. Assumes nothing.
-use mathlib.Core.Path.{_≡_, ap}
-use Prim.Native.Nat.{ℕ, suc, _≤_, _+_, _*_, _-_}
+-- `integers::ones` meets its contract: the ones of the words below k are counted. Assumes nothing.
+use mathlib.Core.Path.{_≡_}
+use Prim.Native.Nat.{ℕ, _≤_, _+_, _*_, _-_}
 use native.Mathlib.Omega.{arith}
 use lib.Count.{ones, onesIn, ones-le}
-use lib.ListN.{length, drop, getD}
-use lib.Seq.{drop-length}
+use lib.ListN.{length, drop, drop-of-length-le}
+use Rattle.rules.specs.Limits.{numberWords}
 use Rattle.integers.specs.Positional.{positional, bytesValue}
-use Rattle.integers.proofs.Bits.{ones-byte}
+use Rattle.integers.proofs.Counting.{ones-word}
 use borrow.Author.Needs.{needs}
 use Rattle.integers.proofs.ones.Statement.{statement}
 use Rattle.integers.proofs.ones.Tie as tie
 use Rattle.integers.proofs.ones.Reads as reads
 use Rattle.integers.proofs.ones.Lts as lts
+use Rattle.integers.proofs.word_at.Reads as word-at-reads
 
 abbrev Inv-loop : tie.InvT-loop
-Inv-loop number total₀ i₀ total i = (i ≤ length number) × (total + 8 * i ≤ 8 * length number) × (total ≡ ones (bytesValue (drop i number)))
+Inv-loop number total₀ k₀ total k = (k ≤ numberWords) × (total ≤ 64 * k) × (total + ones (bytesValue (drop (8 * k) number)) ≡ ones (bytesValue number))
 
 abbrev μ-loop : tie.MeasureT-loop
-μ-loop number total₀ i₀ total i = i
+μ-loop number total₀ k₀ total k = numberWords - k
 
--- a byte has at most eight ones
-byte-ones : (c : tie.After-shared-slice-known Inv-loop μ-loop) → ones (getD (c .before .before .before .args .number .now) (c .before .before .loop .i - 1) 0) ≤ 8
-byte-ones c =
-    ones-le 8 (getD (c .before .before .before .args .number .now) (c .before .before .loop .i - 1) 0) (c .shared-slice-known .given (c .before .before .loop .i - 1) .fits)
+-- a word has at most 64 ones
+word-ones : (c : tie.After-word-at Inv-loop μ-loop) → ones (c .word-at .result) ≤ 64
+word-ones c = ones-le 64 (c .word-at .result) (omega arith)
 
 loop-holds : tie.Need-loop-holds Inv-loop μ-loop
-unfolding positional ones onesIn
-loop-holds c = (search needs, search needs, rw (drop-length (c .args .number .now)))
+loop-holds c = search needs
 
-sub-i : tie.Need-sub-i Inv-loop μ-loop
-sub-i c = search needs
+mul-word-at : tie.Need-mul-word-at Inv-loop μ-loop
+mul-word-at c = search needs
 
-shared-slice-read-total : tie.Need-shared-slice-read-total Inv-loop μ-loop
-shared-slice-read-total c = search needs
+word-at-requires : tie.Need-word-at-requires Inv-loop μ-loop
+word-at-requires c κs = search needs
 
 cast-total : tie.Need-cast-total Inv-loop μ-loop
-cast-total c = omega (arith, byte-ones c)
+cast-total c = omega (arith, word-ones c)
 
 add-total : tie.Need-add-total Inv-loop μ-loop
-add-total c = omega (arith, byte-ones c)
+add-total c = omega (arith, word-ones c)
+
+add-k : tie.Need-add-k Inv-loop μ-loop
+add-k c = search needs
 
 loop-less : tie.Need-loop-less Inv-loop μ-loop
 loop-less c = search needs
 
 loop-again : tie.Need-loop-again Inv-loop μ-loop
 loop-again c =
+    let number = c .before .before .before .before .args .number .now in
     let loop = c .before .before .loop in
-    let number = c .before .before .before .args .number .now in
-    let e : loop .i ≡ suc (loop .i - 1) = omega arith in
-    let more = ones-byte number (loop .i - 1) (λ k. c .shared-slice-known .given k .fits) (search needs) in
-    (search needs, omega (arith, byte-ones c), omega (arith, loop .inv .2, more, ap (λ (n : ℕ). ones (bytesValue (drop n number))) e))
+    let more = rw (← c .word-at .ensures) at (ones-word number (loop .k) (λ i. c .before .before .before .shared-slice-known .given i .fits)) in
+    (search needs, omega (arith, word-ones c), omega (arith, loop .inv .2, more))
 
 returns : tie.Need-returns Inv-loop μ-loop
+unfolding positional ones onesIn
 returns c =
-    let e : c .before .loop .i ≡ 0 = omega arith in
-    rw e at (c .before .loop .inv .2)
+    let number = c .before .before .before .args .number .now in
+    let loop = c .before .loop in
+    let none = drop-of-length-le number {i = 8 * loop .k} (search needs) in
+    omega (arith, rw none at (loop .inv .2))
 
 pub ones-spec : {M : Type 1} → statement M
 ones-spec =
@@ -63,10 +67,11 @@ ones-spec =
     Inv-loop
     μ-loop
     loop-holds
-    sub-i
-    shared-slice-read-total
+    mul-word-at
+    word-at-requires
     cast-total
     add-total
+    add-k
     loop-less
     loop-again
     returns)

@@ -1,15 +1,15 @@
 -- `integers::word_at` meets its contract. Assumes nothing.
 use native.Mathlib.Omega.{arith}
-use mathlib.Core.Path.{_≡_, _∙_, ap}
-use lib.ListN.{take, drop, length-drop, drop-of-length-le}
-use Rattle.integers.specs.Positional.{positional, bytesValue}
-use Rattle.integers.proofs.Words.{take-least}
+use Prim.Native.Nat.{_-_}
+use lib.ListN.{length, drop, length-drop, drop-of-length-le}
+use lib.Seq.{take-all}
+use Rattle.integers.specs.Positional.{positional}
 use borrow.Author.Needs.{needs}
 use Rattle.integers.proofs.word_at.Statement.{statement}
 use Rattle.integers.proofs.word_at.Tie as tie
 use Rattle.integers.proofs.word_at.Reads as reads
 use Rattle.integers.proofs.word_at.Lts as lts
-use Rattle.integers.proofs.least.Reads as least-reads
+use Rattle.integers.proofs.whole_word_at.Reads as whole-word-at-reads
 use Rattle.integers.proofs.word_of.Reads as word-of-reads
 
 returns : tie.Need-returns
@@ -18,23 +18,25 @@ returns c =
     let args = c .before .before .args in
     rw (drop-of-length-le (args .bytes .now) {i = args .from} (c .if1 .taken))
 
-sub-least : tie.Need-sub-least
-sub-least c = search needs
+sub-count : tie.Need-sub-count
+sub-count c = search needs
 
-least-requires : tie.Need-least-requires
-least-requires c κs = search needs
-
-word-of-requires : tie.Need-word-of-requires
-word-of-requires c κs = omega (arith, c .least .ensures)
+whole-word-at-requires : tie.Need-whole-word-at-requires
+whole-word-at-requires c κs = search needs
 
 returns-2 : tie.Need-returns-2
-returns-2 c =
+returns-2 c = search needs
+
+word-of-requires : tie.Need-word-of-requires
+word-of-requires c κs = search needs
+
+returns-3 : tie.Need-returns-3
+returns-3 c =
     let args = c .before .before .before .before .args in
-    let l = args .bytes .now in
-    let count = c .before .least in
-    let e : take (count .result) (drop (args .from) l) ≡ take 8 (drop (args .from) l) =
-    rw (count .ensures, ← length-drop (args .from) l, take-least) in
-    c .word-of .ensures ∙ ap bytesValue e
+    let rest = drop (args .from) (args .bytes .now) in
+    rw (take-all 8 rest (rw length-drop (omega arith)), ← take-all (length (args .bytes .now) - args .from) rest (rw length-drop (omega arith))) (c .word-of .ensures)
 
 pub word-at-spec : {M : Type 1} → statement M
-word-at-spec = tie.close (tie.spec returns sub-least least-requires word-of-requires returns-2)
+word-at-spec =
+    tie.close
+    (tie.spec returns sub-count whole-word-at-requires returns-2 word-of-requires returns-3)

@@ -1,13 +1,11 @@
 -- The bytes of canonical digits, and what recode leaves in an array with room for every number. Assumes nothing.
 use mathlib.Core.Path.{_≡_, refl, _∙_}
 use mathlib.Core.Logic.{_≢_}
-use mathlib.Core.Bool.{Bool, true, false}
 use mathlib.Core.List.{List, _++_}
 use Prim.Native.Nat.{ℕ, _+_, _≤_}
 use native.Mathlib.Omega.{arith}
 use lib.IntN.{ℤ, pos}
 use lib.ListN.{length, drop, List·getD-append, List·getD-map}
-use mir.Val.{boolByte}
 use Rattle.rules.specs.Limits.{numberBytes}
 use Rattle.rules.specs.declared.Written.the-variants.{Length}
 use Rattle.integers.specs.Positional.{bytesValue}
@@ -23,10 +21,6 @@ use Rattle.recoding.proofs.Outcomes.{done}
 use Rattle.recoding.proofs.Promises.{recoding-length}
 use Rattle.methods.specs.Forecast.{isPlus, isMinus}
 use Rattle.method_naf.specs.Digits.{mostDigits, lengthIn, Digit, nought, plus, minus, Recoded}
-
-pub byte-small : (b : Bool) → boolByte b ≤ 1
-byte-small true = omega arith
-byte-small false = omega arith
 
 -- a byte that is not 0 takes a step beside the doubling
 pub step-more : {b : ℕ} {d : ℤ} → Digit b d → b ≢ 0 → isPlus d + isMinus d ≡ 1

@@ -1,2 +1,3 @@
 -- What the private functions of method 4 share.
 pub mod Digits
+pub mod Tally

@@ -1,4 +1,6 @@
 // Method 4, NAF: its steps counted, and written.
+mod words;
+
 use plan_writing::Cursor;
 use recoding::recode;
 use rules::Counts;
@@ -15,7 +17,6 @@ ghost use Rattle.integers.specs.Positional.{bytesValue};
 ghost use Rattle.chains.specs.Steps.{planBytesOf};
 ghost use Rattle.chains.specs.Counts.{countsOf};
 ghost use Rattle.methods.specs.Building.{Building};
-ghost use Rattle.methods.specs.Forecast.{isPlus, isMinus};
 ghost use Rattle.methods.specs.NonAdjacentForm.{atDigit, nafSteps};
 ghost use Rattle.plan_writing.specs.Writing.{Writing};
 ghost use Rattle.method_naf.specs.Digits.{lengthIn, Digit, Recoded};
@@ -41,43 +42,18 @@ fn recoded(number: &[u8], digits: &mut [u8; MOST_DIGITS]) -> usize
     length_of(recode(number, digits))
 }
 
-// 1 for the digit 1, and 0 for the others. In 16 bits, so that the compiler counts eight digits at a
-// time.
-fn plus(digit: u8) -> u16
-    ensures { λ r. ⌜ ((d : ℤ) → Digit digit d → r ≡ isPlus d) × (r ≤ 1) ⌝ }
-{
-    (digit == 1) as u16
-}
-
-// The same for the digit -1.
-fn minus(digit: u8) -> u16
-    ensures { λ r. ⌜ ((d : ℤ) → Digit digit d → r ≡ isMinus d) × (r ≤ 1) ⌝ }
-{
-    (digit == 255) as u16
-}
-
-// The counts of the steps for a number above zero: of the digits below the top, all, those that are
-// 1, and those that are -1.
+// The counts of the steps for a number above zero: of the digits below the top, a 1, all, those that
+// are 1, and those that are -1. All digits are one fewer than 3 e has in binary.
 pub fn counts(number: &[u8]) -> Counts
     requires { ⌜ length (now number) ≤ numberBytes ⌝ }
     requires { ⌜ bytesValue (now number) ≢ 0 ⌝ }
     ensures { λ r. ⌜ r ≡ countsOf (nafSteps (bytesValue (now (number .entry)))) ⌝ }
 {
-    let mut digits = [0u8; MOST_DIGITS];
-    let below = recoded(number, &mut digits) - 1;
-    let mut plus_digits: u16 = 0;
-    let mut minus_digits: u16 = 0;
-    let mut i = 0;
-    while i < below {
-        let digit = digits[i];
-        plus_digits += plus(digit);
-        minus_digits += minus(digit);
-        i += 1;
-    }
+    let digits = words::tally_of(number);
     Counts {
-        doublings: below,
-        additions: plus_digits as usize,
-        subtractions: minus_digits as usize,
+        doublings: digits.length - 2,
+        additions: digits.plus - 1,
+        subtractions: digits.minus,
     }
 }
 

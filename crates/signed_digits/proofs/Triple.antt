@@ -42,7 +42,7 @@ low-difference a = by-four _ (λ q.
       λ l m. let sum : (4 * q + 3 + a) % 2 ≡ 0 = omega arith in let odd : a % 2 ≡ 1 = omega arith in rw (d .3, sum, odd),
     ))
 
-halved : (a n : ℕ) → 2 * a ≤ n → n ≤ 2 * a + 2 → (rest 2 n + a / 2 ≡ (n + a) / 2) × (2 * (a / 2) ≤ rest 2 n) × (rest 2 n ≤ 2 * (a / 2) + 2)
+pub halved : (a n : ℕ) → 2 * a ≤ n → n ≤ 2 * a + 2 → (rest 2 n + a / 2 ≡ (n + a) / 2) × (2 * (a / 2) ≤ rest 2 n) × (rest 2 n ≤ 2 * (a / 2) + 2)
 halved a = by-four _ (λ q. omega (arith, rest-2 q))
 
 -- the bits of n, from the second on, are those of n / 2

@@ -1,0 +1,29 @@
+-- `method_naf::words::only_in` meets its contract. Assumes nothing.
+use mathlib.Core.Path.{refl}
+use Prim.Native.Nat.{ℕ, _-_, _^_, _<_, _≤_}
+use native.Mathlib.Omega.{arith}
+use lib.Bits.{bitAnd, and-le-l}
+use lib.Count.{ones, ones-le}
+use Rattle.method_naf.specs.Tally.{onlyIn}
+use borrow.Author.Needs.{needs}
+use Rattle.method_naf.proofs.words.only_in.Statement.{statement}
+use Rattle.method_naf.proofs.words.only_in.Tie as tie
+use Rattle.method_naf.proofs.words.only_in.Reads as reads
+use Rattle.method_naf.proofs.words.only_in.Lts as lts
+
+sub-result : tie.Need-sub-result
+sub-result c = and-le-l (c .args .a) (c .args .b)
+
+-- a word has at most 64 ones
+few : (a b : ℕ) → a < 2 ^ 64 → ones (a - bitAnd a b) ≤ 64
+few a b h = ones-le 64 (a - bitAnd a b) (omega arith)
+
+cast-result : tie.Need-cast-result
+cast-result c = omega (arith, few (c .args .a) (c .args .b) (omega arith))
+
+returns : tie.Need-returns
+unfolding onlyIn
+returns c = (refl, few (c .args .a) (c .args .b) (omega arith))
+
+pub only-in-spec : {M : Type 1} → statement M
+only-in-spec = tie.close (tie.spec sub-result cast-result returns)

@@ -1,0 +1,86 @@
+-- `method_naf::words::tally_of` meets its contract: the words below k are in the tally. Assumes nothing.
+use mathlib.Core.Path.{_≡_, _∙_, ap}
+use Prim.Native.Nat.{ℕ, _+_, _*_, _-_, _^_, _≤_}
+use native.Mathlib.Numerals.{add-one}
+use native.Mathlib.Omega.{arith}
+use lib.ListN.{length, getD, drop, drop-of-length-le}
+use lib.Seq.{take-all}
+use Rattle.rules.specs.Limits.{numberBytes, numberWords}
+use Rattle.integers.specs.Positional.{positional, bytesValue, wordsValue}
+use Rattle.integers.proofs.Positional.{positional-drop}
+use Rattle.method_naf.specs.Tally.{Within, Tallied}
+use Rattle.method_naf.proofs.Tally.{nothing-tallied, all-tallied}
+use borrow.Author.Needs.{needs}
+use Rattle.method_naf.proofs.words.tally_of.Statement.{statement}
+use Rattle.method_naf.proofs.words.tally_of.Tie as tie
+use Rattle.method_naf.proofs.words.tally_of.Reads as reads
+use Rattle.method_naf.proofs.words.tally_of.Lts as lts
+use Rattle.integers.proofs.words_of.Reads as words-of-reads
+use Rattle.method_naf.proofs.words.Tally.with_word.Reads as with-word-reads
+
+abbrev Inv-loop : tie.InvT-loop
+Inv-loop number words below₀ k₀ below k = (k ≤ numberWords) × (below .places ≡ 64 * k) × Within below × Tallied (wordsValue words) (wordsValue (drop k words)) below
+
+abbrev μ-loop : tie.MeasureT-loop
+μ-loop number words below₀ k₀ below k = numberWords - k
+
+words-of-requires : tie.Need-words-of-requires Inv-loop μ-loop
+words-of-requires c κs = search needs
+
+loop-holds : tie.Need-loop-holds Inv-loop μ-loop
+loop-holds c = (omega arith, omega arith, record { plus = omega arith; minus = omega arith; carry = omega arith }, nothing-tallied (wordsValue (c .words-of .result)))
+
+mul-with-word : tie.Need-mul-with-word Inv-loop μ-loop
+mul-with-word c = search needs
+
+array-read-with-word : tie.Need-array-read-with-word Inv-loop μ-loop
+array-read-with-word c = search needs
+
+with-word-requires : tie.Need-with-word-requires Inv-loop μ-loop
+with-word-requires c κs = search needs
+
+add-k : tie.Need-add-k Inv-loop μ-loop
+add-k c = search needs
+
+loop-less : tie.Need-loop-less Inv-loop μ-loop
+loop-less c = search needs
+
+loop-again : tie.Need-loop-again Inv-loop μ-loop
+loop-again c =
+    let words = c .before .before .before .words-of .result in
+    let loop = c .before .before .loop in
+    let more = c .with-word .ensures in
+    let left = wordsValue (drop (loop .k + 1) words) in
+    let e : wordsValue (drop (loop .k) words) ≡ left * 2 ^ 64 + getD words (loop .k) 0 = rw add-one (omega (arith, positional-drop (2 ^ 64) words (loop .k))) in
+    (search needs, omega (arith, more .0), more .1, more .3 (wordsValue words) left (rw (← e) (loop .inv .3)))
+
+with-word-requires-2 : tie.Need-with-word-requires-2 Inv-loop μ-loop
+with-word-requires-2 c κs = search needs
+
+returns : tie.Need-returns Inv-loop μ-loop
+unfolding positional
+returns c =
+    let number = c .before .before .before .before .before .args .number .now in
+    let words = c .before .before .before .words-of in
+    let loop = c .before .before .loop in
+    let last = c .with-word2 .ensures in
+    let whole : wordsValue (words .result) ≡ bytesValue number = words .ensures ∙ ap bytesValue (take-all numberBytes number (search needs)) in
+    let none = drop-of-length-le (words .result) {i = loop .k} (search needs) in
+    rw (← whole) (all-tallied (wordsValue (words .result)) (c .with-word2 .result) (omega (arith, last .2, loop .inv .2)) (last .3 (wordsValue (words .result)) 0 (rw none at (loop .inv .3))))
+
+pub tally-of-spec : {M : Type 1} → statement M
+tally-of-spec =
+    tie.close
+    (tie.spec
+    Inv-loop
+    μ-loop
+    words-of-requires
+    loop-holds
+    mul-with-word
+    array-read-with-word
+    with-word-requires
+    add-k
+    loop-less
+    loop-again
+    with-word-requires-2
+    returns)

@@ -1,0 +1,101 @@
+// The canonical digits of a number e, counted word by word and not written. The digit at place i is
+// the binary digit of 3 e at i + 1, less that of e: 1 where 3 e alone has a 1, -1 where e alone has
+// one.
+use integers::words_of;
+use rules::NUMBER_WORDS;
+ghost use mathlib.Core.Path.{_≡_};
+ghost use Prim.Native.Nat.{ℕ, _+_, _*_, _/_, _^_, _≤_};
+ghost use lib.ListN.{length};
+ghost use Rattle.rules.specs.Limits.{numberBytes};
+ghost use Rattle.integers.specs.Bits.{bitLength};
+ghost use Rattle.integers.specs.Positional.{bytesValue};
+ghost use Rattle.method_naf.specs.Tally.{onlyIn, lengthAbove, Within, Tallied};
+
+const HALF: u64 = 0x1_0000_0000;
+
+// A word of 3 e, and what it carries into the next.
+struct TripleWord {
+    word: u64,
+    carry: u64,
+}
+
+// Half a word at a time, so that nothing is lost.
+fn tripled(word: u64, carry: u64) -> TripleWord
+    requires { ⌜ carry ≤ 2 ⌝ }
+    ensures { λ r. ⌜ r .word + 2 ^ 64 * r .carry ≡ 3 * word + carry ⌝ }
+{
+    let low = 3 * (word % HALF) + carry;
+    let high = 3 * (word / HALF) + low / HALF;
+    TripleWord {
+        word: high % HALF * HALF + low % HALF,
+        carry: high / HALF,
+    }
+}
+
+// How many places hold 1 in a and 0 in b.
+fn only_in(a: u64, b: u64) -> usize
+    ensures { λ r. ⌜ (r ≡ onlyIn a b) × (r ≤ 64) ⌝ }
+{
+    u64::count_ones(a - (a & b)) as usize
+}
+
+// The bit length of a number, by its word above so many places and the bit length of what is below.
+fn length_with(below: usize, places: usize, word: u64) -> usize
+    requires { ⌜ places ≤ 8 * numberBytes ⌝ }
+    ensures { λ r. ⌜ r ≡ lengthAbove below places word ⌝ }
+{
+    if word == 0 {
+        return below;
+    }
+    places + (64 - u64::leading_zeros(word) as usize)
+}
+
+// What the words of e below so many places give: how many of these places hold a 1 of 3 e alone, and
+// of e alone; the bit length of 3 e there; and what 3 e carries into the next word.
+pub struct Tally {
+    pub places: usize,
+    pub plus: usize,
+    pub minus: usize,
+    pub length: usize,
+    pub carry: u64,
+}
+
+impl Tally {
+    // With the next word of e.
+    fn with_word(self, word: u64) -> Tally
+        requires { ⌜ self .places ≤ 8 * numberBytes ⌝ }
+        requires { ⌜ Within self ⌝ }
+        ensures { λ r. ⌜ (r .places ≡ self .places + 64) × Within r × (r .carry ≡ (3 * word + self .carry) / 2 ^ 64) × ((e rest : ℕ) → Tallied e (rest * 2 ^ 64 + word) self → Tallied e rest r) ⌝ }
+    {
+        let triple = tripled(word, self.carry);
+        Tally {
+            places: self.places + 64,
+            plus: self.plus + only_in(triple.word, word),
+            minus: self.minus + only_in(word, triple.word),
+            length: length_with(self.length, self.places, triple.word),
+            carry: triple.carry,
+        }
+    }
+}
+
+// The tally of all of a number. A word of zeros above its own takes the last carry. The words are
+// loaded first: a loop over them with no loads of bytes is unrolled.
+pub fn tally_of(number: &[u8]) -> Tally
+    requires { ⌜ length (now number) ≤ numberBytes ⌝ }
+    ensures { λ r. ⌜ (r .plus ≡ onlyIn (3 * bytesValue (now (number .entry))) (bytesValue (now (number .entry)))) × (r .minus ≡ onlyIn (bytesValue (now (number .entry))) (3 * bytesValue (now (number .entry)))) × (r .length ≡ bitLength (3 * bytesValue (now (number .entry)))) ⌝ }
+{
+    let words = words_of(number);
+    let mut below = Tally {
+        places: 0,
+        plus: 0,
+        minus: 0,
+        length: 0,
+        carry: 0,
+    };
+    let mut k = 0;
+    while k < NUMBER_WORDS {
+        below = below.with_word(words[k]);
+        k += 1;
+    }
+    below.with_word(0)
+}

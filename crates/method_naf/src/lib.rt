@@ -14,6 +14,7 @@ ghost use lib.IntN.{ℤ};
 ghost use lib.ListN.{length, drop};
 ghost use Rattle.rules.specs.Limits.{numberBytes, stepBytes};
 ghost use Rattle.integers.specs.Positional.{bytesValue};
+ghost use Rattle.integers.specs.Signed.{signOf};
 ghost use Rattle.chains.specs.Steps.{planBytesOf};
 ghost use Rattle.chains.specs.Counts.{countsOf};
 ghost use Rattle.methods.specs.Building.{Building};
@@ -57,6 +58,13 @@ pub fn counts(number: &[u8]) -> Counts
     }
 }
 
+// 1 for -1, and 0 for the others: so also the operation that a digit takes. No branch waits for it.
+fn sign(digit: u8) -> u8
+    ensures { λ r. ⌜ ((d : ℤ) → Digit digit d → r ≡ signOf d) ⌝ }
+{
+    digit / 128
+}
+
 // The steps of one digit below the top.
 fn at_digit(c: Cursor, out: &mut [u8], digit: u8) -> Cursor
     requires { ⌜ stepBytes * (c .steps + 1) ≤ length (now out) ⌝ }
@@ -66,10 +74,8 @@ fn at_digit(c: Cursor, out: &mut [u8], digit: u8) -> Cursor
     let doubled = c.double(out);
     if digit == 0 {
         doubled
-    } else if digit == 1 {
-        doubled.add_at(out, 0)
     } else {
-        doubled.subtract_at(out, 0)
+        doubled.step_at(out, sign(digit), 0)
     }
 }
 

@@ -6,7 +6,7 @@ ghost use Prim.Native.Nat.{ℕ, _+_, _*_, _≤_, _<_};
 ghost use lib.ListN.{length, take, drop};
 ghost use Rattle.rules.specs.Limits.{stepBytes};
 ghost use Rattle.chains.specs.Steps.{Step, stepBytesOf, add, subtract};
-ghost use Rattle.methods.specs.Building.{Building, double, doubled, addAt, subtractAt, followed};
+ghost use Rattle.methods.specs.Building.{Building, double, doubled, addAt, followed};
 ghost use Rattle.plan_writing.specs.Writing.{Writing, stepOf};
 
 // How many steps stand, and the position called latest.
@@ -84,12 +84,12 @@ impl Cursor {
         self.follow(out, 0, latest, p)
     }
 
-    // subtract(latest, p)
-    pub fn subtract_at(self, out: &mut [u8], p: usize) -> Cursor
+    // The operation of latest and p.
+    pub fn step_at(self, out: &mut [u8], operation: u8, p: usize) -> Cursor
         requires { ⌜ stepBytes * self .steps + stepBytes ≤ length (now out) ⌝ }
-        ensures { λ r. ⌜ (r .steps ≡ self .steps + 1) × ((lent : List ℕ) (b : Building) → Writing lent (now (out .entry)) self b → Writing lent (now (out .exit)) r (subtractAt p b)) ⌝ }
+        ensures { λ r. ⌜ (r .steps ≡ self .steps + 1) × ((lent : List ℕ) (b : Building) → Writing lent (now (out .entry)) self b → Writing lent (now (out .exit)) r (followed b (stepOf operation (b .latest) p))) ⌝ }
     {
         let latest = self.latest;
-        self.follow(out, 1, latest, p)
+        self.follow(out, operation, latest, p)
     }
 }

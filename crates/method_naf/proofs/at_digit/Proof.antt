@@ -3,45 +3,41 @@ use mathlib.Core.Path.{_≡_, refl}
 use mathlib.Core.Logic.{_≢_}
 use Prim.Native.Nat.{ℕ}
 use native.Mathlib.Omega.{arith}
-use lib.IntN.{ℤ, pos, negsuc}
-use Rattle.methods.specs.Building.{double}
+use lib.IntN.{ℤ, pos}
+use Rattle.integers.specs.Signed.{signOf}
+use Rattle.methods.specs.Building.{Building, double, followed}
+use Rattle.methods.specs.NonAdjacentForm.{atDigit}
+use Rattle.plan_writing.specs.Writing.{stepOf}
 use Rattle.method_naf.specs.Digits.{Digit, nought, plus, minus}
 use borrow.Author.Needs.{needs}
 use Rattle.method_naf.proofs.at_digit.Statement.{statement}
 use Rattle.method_naf.proofs.at_digit.Tie as tie
 use Rattle.method_naf.proofs.at_digit.Reads as reads
 use Rattle.method_naf.proofs.at_digit.Lts as lts
-use Rattle.plan_writing.proofs.Cursor.add_at.Reads as add-at-reads
+use Rattle.method_naf.proofs.sign.Reads as sign-reads
 use Rattle.plan_writing.proofs.Cursor.double.Reads as double-reads
-use Rattle.plan_writing.proofs.Cursor.subtract_at.Reads as subtract-at-reads
+use Rattle.plan_writing.proofs.Cursor.step_at.Reads as step-at-reads
 
--- which digit it is, by the tests
-is-nought : {b : ℕ} {d : ℤ} → Digit b d → b ≡ 0 → d ≡ pos 0
+is-nought : {byte : ℕ} {d : ℤ} → Digit byte d → byte ≡ 0 → d ≡ pos 0
 is-nought nought e = refl
 is-nought plus e = absurd (omega arith)
 is-nought minus e = absurd (omega arith)
 
-is-plus : {b : ℕ} {d : ℤ} → Digit b d → b ≡ 1 → d ≡ pos 1
-is-plus nought e = absurd (omega arith)
-is-plus plus e = refl
-is-plus minus e = absurd (omega arith)
-
-is-minus : {b : ℕ} {d : ℤ} → Digit b d → b ≢ 0 → b ≢ 1 → d ≡ negsuc 0
-is-minus nought n m = absurd (n refl)
-is-minus plus n m = absurd (m refl)
-is-minus minus n m = refl
+-- the step beside the doubling
+is-signed : {byte : ℕ} {d : ℤ} (b : Building) → Digit byte d → byte ≢ 0 → followed (double b) (stepOf (signOf d) (double b .latest) 0) ≡ atDigit d b
+is-signed b nought n = absurd (n refl)
+is-signed b plus n = refl
+is-signed b minus n = refl
 
 double-requires : tie.Need-double-requires
 double-requires c κs = search needs
 
-add-at-requires : tie.Need-add-at-requires
-add-at-requires c κs =
-    let room = c .before .before .before .before .before .before .before .before .pre .1 (c .before .before .if1 .left) in
-    search needs
+sign-requires : tie.Need-sign-requires
+sign-requires c κs = search needs
 
-subtract-at-requires : tie.Need-subtract-at-requires
-subtract-at-requires c κs =
-    let room = c .before .before .before .before .before .before .before .before .pre .1 (c .before .before .if1 .left) in
+step-at-requires : tie.Need-step-at-requires
+step-at-requires c κs =
+    let room = c .before .before .before .before .before .before .before .before .pre .1 (search needs) in
     search needs
 
 same-length : tie.Need-same-length
@@ -56,26 +52,9 @@ same-length-2 c = search needs
 returns-2 : tie.Need-returns-2
 returns-2 c =
     let doubled = c .before .before .before .before .before .before .before .before .double in
-    λ lent b d v w. rw (is-plus v (search needs)) (c .before .before .add-at .ensures .1 lent (double b) (doubled .ensures .1 lent b w))
-
-same-length-3 : tie.Need-same-length-3
-same-length-3 c = search needs
-
-returns-3 : tie.Need-returns-3
-returns-3 c =
-    let doubled = c .before .before .before .before .before .before .before .before .double in
-    λ lent b d v w. rw (is-minus v (search needs) (search needs)) (c .before .before .subtract-at .ensures .1 lent (double b) (doubled .ensures .1 lent b w))
+    λ lent b d v w. rw (← is-signed b v (search needs)) (rw (c .before .before .before .sign .ensures d v) at (c .before .before .step-at .ensures .1 lent (double b) (doubled .ensures .1 lent b w)))
 
 pub at-digit-spec : {M : Type 1} → statement M
 at-digit-spec =
     tie.close
-    (tie.spec
-    double-requires
-    add-at-requires
-    subtract-at-requires
-    same-length
-    returns
-    same-length-2
-    returns-2
-    same-length-3
-    returns-3)
+    (tie.spec double-requires sign-requires step-at-requires same-length returns same-length-2 returns-2)

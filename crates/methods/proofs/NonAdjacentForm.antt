@@ -1,13 +1,12 @@
 -- Method 4: its steps are sound and end at the number, how many there are, and their counts. Assumes nothing.
 use mathlib.Core.Path.{_≡_, refl, sym, ap, _∙_}
-use mathlib.Core.List.{List, [], _∷_}
+use mathlib.Core.List.{_∷_}
 use Prim.Native.Nat.{ℕ, zero, suc, _+_, _*_, _-_, _^_, _<_, _≤_}
 use native.Mathlib.Nat.{zero-add, sub-self, sub-zero, pow-suc}
 use native.Mathlib.Numerals.{add-one}
 use native.Mathlib.Omega.{arith}
 use lib.IntN.{ℤ, pos, negsuc}
-use lib.ListN.{length, drop}
-use lib.Seq.{drop-cons}
+use lib.ListN.{length}
 use Rattle.signed_digits.specs.Strings.{digitAt}
 use Rattle.signed_digits.specs.Naf.{residue, lowDigit, rest, digitsOf, naf, canonical}
 use Rattle.signed_digits.proofs.Steps.{naf-zero, naf-step, low-digit-2, rests, length-rests, Low, even, plus, minus, low, rest-zero, rest-less}
@@ -28,15 +27,6 @@ pub length-at-digit : (d : ℤ) (b : Building) → length (atDigit d b .steps) �
 length-at-digit (pos zero) b = omega (arith, length-followed b (add (b .latest) (b .latest)))
 length-at-digit (pos (suc n)) b = omega (arith, length-followed b (add (b .latest) (b .latest)), length-followed (double b) (add (double b .latest) 0))
 length-at-digit (negsuc n) b = omega (arith, length-followed b (add (b .latest) (b .latest)), length-followed (double b) (subtract (double b .latest) 0))
-
--- the digits from a place on: the digit there, and those above
-pub plus-from : (ds : List ℤ) (i : ℕ) → i < length ds → plusDigits (drop i ds) ≡ isPlus (digitAt ds i) + plusDigits (drop (i + 1) ds)
-unfolding plusDigits
-plus-from ds i h = rw (add-one, drop-cons ds i (pos 0) h)
-
-pub minus-from : (ds : List ℤ) (i : ℕ) → i < length ds → minusDigits (drop i ds) ≡ isMinus (digitAt ds i) + minusDigits (drop (i + 1) ds)
-unfolding minusDigits
-minus-from ds i h = rw (add-one, drop-cons ds i (pos 0) h)
 
 -- what is left is no larger
 rests-le : (i n : ℕ) → rests 2 i n ≤ n

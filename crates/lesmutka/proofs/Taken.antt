@@ -33,8 +33,8 @@ taken-digit before after r t d e k h n =
       answer = sym (ap takenNumber a);
       next = n ∙ k .next ∙ ap takeLeaves e;
       done = λ z.
-        let f : _≡_ {A = ℕ} 1 0 = ap told (sym (ap takeAnswer z) ∙ a) in
-        absurd (omega (arith, f))
+          let f : _≡_ {A = ℕ} 1 0 = ap told (sym (ap takeAnswer z) ∙ a) in
+          absurd (omega (arith, f));
     }
 
 pub taken-done : (words : List ℕ) (r : Recoder) (t : Taken) → standsFor r ≡ keptNumber words → IsTake r t → t .answer ≡ Done → IsKeptTake words words (takenNumber Done)

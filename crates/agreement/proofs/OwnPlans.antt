@@ -1,13 +1,13 @@
 -- Our own plans are all accepted, with the forecast's counts (demand 2). Assumes nothing.
-use mathlib.Core.Path.{_≡_, refl, sym, ap, _∙_}
+use mathlib.Core.Path.{_≡_, sym, ap}
 use mathlib.Core.Logic.{_≢_}
 use mathlib.Core.Bool.{true}
 use mathlib.Core.List.{List}
-use Prim.Native.Nat.{ℕ, suc, _+_, _*_, _/_, _%_, _<_, _≤_}
+use Prim.Native.Nat.{ℕ, _≤_}
 use borrow.Author.Tests.{le-ltb, ne-eqb}
 use native.Mathlib.Omega.{arith}
 use lib.ListN.{length}
-use Rattle.rules.specs.Limits.{numberBytes, stepBytes, planSteps, recordBytes}
+use Rattle.rules.specs.Limits.{numberBytes, planSteps}
 use Rattle.rules.specs.declared.Counted.the-variants.{Steps}
 use Rattle.rules.specs.declared.Verdict.the-variants.{Fine}
 use Rattle.rules.proofs.Fitted.{fits}
@@ -16,7 +16,7 @@ use Rattle.integers.proofs.Positional.{Below}
 use Rattle.chains.specs.Steps.{Step, stepsOf, planBytesOf}
 use Rattle.chains.specs.Counts.{countsOf}
 use Rattle.chains.proofs.Bytes.{length-plan, steps-of-plan}
-use Rattle.methods.specs.Method.{isAllowed, stepsBy}
+use Rattle.methods.specs.Method.{isAllowed}
 use Rattle.methods.proofs.Every.{Fit, allowed, every-fit}
 use Rattle.planning.specs.Plan.{request, stepsFor, forecastAnswer, planAnswer}
 use Rattle.checking.specs.Check.{checkAnswer, roomFor}

@@ -1,13 +1,12 @@
 -- Check (document 01, "The calls"): a plan for a number, with a lent work space. Refusals in the order 1, 2, 7, 8, then the steps from the first, each
 -- tested for 9 before 10 or 11, then 12.
-use Prim.Native.Nat.{ℕ, suc, _+_, _*_, _/_, _%_}
-use mathlib.Core.Bool.{Bool, true, false, cond}
+use Prim.Native.Nat.{ℕ, _+_, _*_, _/_, _%_}
+use mathlib.Core.Bool.{Bool, false, cond}
 use mathlib.Core.List.{List, [], _∷_, _++_}
 use lib.Dec.{ltb, eqb, leb}
 use lib.IntN.{ℤ, pos, negsuc, natAbs}
 use lib.ListN.{length, drop}
 use Rattle.rules.specs.Limits.{numberBytes, stepBytes, planSteps, valueBound, recordBytes}
-use Rattle.rules.specs.declared.Refusal.{Refusal}
 use Rattle.rules.specs.declared.Refusal.the-variants.{NumberTooLong, NumberIsZero, PlanLength, WorkSpaceTooShort, StepUnsound, ValueIsZero, ValueTooLarge, WrongEnd}
 use Rattle.rules.specs.declared.Counted.{Counted}
 use Rattle.rules.specs.declared.Counted.the-variants.{Steps, Refused}

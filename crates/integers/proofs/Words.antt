@@ -10,7 +10,7 @@ use native.Mathlib.Omega.{arith}
 use lib.Dec.{eqb}
 use lib.ListN.{length, getD, set, take, drop, length-take, length-drop, length-set, drop-of-length-le, List·getD-eq-default}
 use lib.Pow.{pow-add}
-use lib.Seq.{getD-drop, getD-take, drop-length, drop-drop, length-take-le, take-take, take-all, take-length, take-nil, drop-nil, getD-set-same, take-set-le}
+use lib.Seq.{getD-drop, getD-take, drop-length, drop-drop, length-take-le, take-take, take-all, take-nil, drop-nil, getD-set-same, take-set-le}
 use Rattle.integers.specs.Positional.{positional, bytesValue, wordsValue, lowBytes}
 use Rattle.integers.specs.Tabulate.{tabulate}
 use Rattle.integers.proofs.Positional.{Below, below-take, below-drop, positional-drop, positional-take, positional-lt, positional-split, positional-append, positional-div}

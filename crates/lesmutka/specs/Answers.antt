@@ -1,6 +1,5 @@
 -- The answers as C takes them. Where a call is not refused, the refusal and its place are 0; where it is, they are document 01's number and place, and
 -- every other field is 0: a refusal answers its number and place and nothing else.
-use Prim.Native.Nat.{ℕ}
 use Rattle.rules.specs.Refusals.{refusalNumber, refusalPlace}
 use Rattle.rules.specs.declared.Written.{Written}
 use Rattle.rules.specs.declared.Written.the-variants.{Length as Fitted, Refused as NotWritten}

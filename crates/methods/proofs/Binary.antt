@@ -1,6 +1,5 @@
 -- Method 1: its steps are sound and end at the number, how many there are, and their counts. Assumes nothing.
-use mathlib.Core.Path.{_≡_, refl, sym, ap, _∙_}
-use mathlib.Core.List.{List, []}
+use mathlib.Core.Path.{_≡_, refl, _∙_}
 use Prim.Native.Nat.{ℕ, zero, suc, _+_, _*_, _-_, _/_, _%_, _^_, _<_, _≤_}
 use native.Mathlib.Decide.{decLt}
 use native.Mathlib.Nat.{sub-self, sub-zero}
@@ -8,15 +7,14 @@ use native.Mathlib.Numerals.{add-one}
 use native.Mathlib.Omega.{arith}
 use lib.Arith.{bin-ind}
 use lib.ListN.{length}
-use Rattle.rules.specs.Limits.{valueBound}
 use lib.Count.{ones, onesIn, ones-step}
 use lib.Pow.{shr-shr}
 use Rattle.chains.specs.Steps.{add}
 use Rattle.chains.specs.Counts.{counts, countsOf}
-use Rattle.methods.specs.Building.{Building, none, double, addAt, downFrom}
+use Rattle.methods.specs.Building.{Building, none, double, downFrom}
 use Rattle.integers.specs.Bits.{bit, bitLength}
 use Rattle.methods.specs.Binary.{atBit, binarySteps}
-use Rattle.integers.proofs.Bits.{some-bits, top-bit, above-top, place-down, bit-small, quotient-none}
+use Rattle.integers.proofs.Bits.{top-bit, above-top, place-down, bit-small, quotient-none}
 use Rattle.methods.proofs.Counted.{countsIn, counts-double, counts-add, not-before}
 use Rattle.methods.proofs.Laws.{Small, quotient-small, Holds, Made, none-holds, one-stands, double-holds, double-add, latest-followed, length-followed, down-from, made}
 

@@ -1,10 +1,10 @@
 -- Every method and width allowed: sound steps that end at the number, and no more than a plan may have. Assumes nothing.
-use mathlib.Core.Path.{_≡_, refl, sym, ap, _∙_}
+use mathlib.Core.Path.{_≡_, refl}
 use mathlib.Core.Logic.{_≢_}
 use mathlib.Core.Bool.{Bool, true, false, cond}
 use mathlib.Core.List.{List}
-use Prim.Native.Nat.{ℕ, zero, suc, _+_, _*_, _-_, _^_, _<_, _≤_}
-use borrow.Author.Tests.{eqb-true, leb-true, leb-false}
+use Prim.Native.Nat.{ℕ, _+_, _*_, _-_, _^_, _<_, _≤_}
+use borrow.Author.Tests.{eqb-true, leb-true}
 use native.Mathlib.Nat.{lt-of-le-of-lt}
 use native.Mathlib.Omega.{arith}
 use lib.Dec.{eqb, leb, lit<}
@@ -14,12 +14,8 @@ use Rattle.rules.specs.Limits.{numberBytes, planSteps}
 use Rattle.integers.specs.Positional.{bytesValue}
 use Rattle.integers.specs.Bits.{bitLength}
 use Rattle.integers.proofs.Positional.{Below, positional-lt}
-use Rattle.integers.proofs.Bits.{bit-length-iff, power-of-bytes}
+use Rattle.integers.proofs.Bits.{bit-length-iff}
 use Rattle.chains.specs.Steps.{Step}
-use Rattle.methods.specs.Binary.{binarySteps}
-use Rattle.methods.specs.FixedWindows.{fixedWindowSteps}
-use Rattle.methods.specs.SlidingWindows.{slidingWindowSteps}
-use Rattle.methods.specs.NonAdjacentForm.{nafSteps}
 use Rattle.methods.specs.Method.{isWindow, isAllowed, stepsBy}
 use Rattle.methods.proofs.Laws.{Small, small-below, number-small, Made}
 use Rattle.methods.proofs.Binary.{binary-made, binary-short}

@@ -1,8 +1,8 @@
 -- Document 01's plans for 43 and 3, and ends of longer plans, by computation from the definitions. Assumes nothing.
 use mathlib.Core.Path.{_≡_, refl}
-use mathlib.Core.List.{List, [], _∷_, map}
-use Prim.Native.Nat.{ℕ, _^_, _-_}
-use lib.IntN.{ℤ, pos}
+use mathlib.Core.List.{[], _∷_, map}
+use Prim.Native.Nat.{_^_, _-_}
+use lib.IntN.{pos}
 use lib.ListN.{length}
 use Rattle.signed_digits.specs.Naf.{residue, lowDigit, rest, digitsOf, naf}
 use Rattle.chains.specs.Steps.{planBytesOf, stepBytesOf}

@@ -1,16 +1,14 @@
 -- What the methods share: a plan in the making whose latest position holds a known value, doublings of it, and adding or subtracting what stands at a
 -- known position. Assumes nothing.
 use mathlib.Core.Path.{_≡_, refl, sym, ap, _∙_}
-use mathlib.Core.Logic.{_≢_}
-use mathlib.Core.Bool.{true, false}
 use mathlib.Core.List.{List, [], _∷_, _++_}
 use Prim.Native.Nat.{ℕ, zero, suc, _+_, _*_, _-_, _/_, _^_, _<_, _≤_}
 use native.Mathlib.Decide.{decLt}
 use native.Mathlib.Nat.{pow-succ', mul-assoc, mul-comm, mul-le-mul-left, mul-pos, lt-of-le-of-lt}
 use native.Mathlib.Numerals.{add-one}
 use native.Mathlib.Omega.{arith}
-use lib.IntN.{ℤ, pos, natAbs, pos-+ℤ-pos, _+ℤ_, _-ℤ_}
-use lib.ListN.{length, getD, length-append, List·getD-append}
+use lib.IntN.{ℤ, pos}
+use lib.ListN.{length, length-append, List·getD-append}
 use lib.Dec.{lit<}
 use lib.Pow.{pow-pos, shr-le}
 use lib.Seq.{getD-at}

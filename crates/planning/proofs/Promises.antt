@@ -1,7 +1,7 @@
 -- What document 01 promises of plan and forecast, as theorems about the definitions that their statements cite. Assumes nothing.
-use mathlib.Core.Path.{_≡_, refl, sym, ap, _∙_}
+use mathlib.Core.Path.{_≡_, refl, _∙_}
 use mathlib.Core.Logic.{_↔_, _≢_}
-use mathlib.Core.Bool.{Bool, true, false, cond}
+use mathlib.Core.Bool.{Bool, true, false}
 use mathlib.Core.List.{List, [], _∷_, _++_}
 use Prim.Native.Nat.{ℕ, _+_, _<_, _≤_}
 use borrow.Author.Tests.{lt-ltb, le-ltb, ltb-true, ltb-false, eq-eqb, ne-eqb, eqb-true, eqb-false}
@@ -11,9 +11,7 @@ use lib.ListN.{length, drop}
 use Rattle.rules.specs.Limits.{numberBytes}
 use Rattle.rules.specs.Outcome.{Outcome, refused, answered, countedOutcome}
 use Rattle.rules.specs.declared.Refusal.the-variants.{NumberTooLong, NumberIsZero, MethodOrWidth}
-use Rattle.rules.specs.declared.Verdict.{Verdict}
 use Rattle.rules.specs.declared.Verdict.the-variants.{Fine, No}
-use Rattle.rules.specs.declared.Counts.{Counts}
 use Rattle.rules.proofs.Fitted.{too-small, fits}
 use Rattle.integers.specs.Positional.{bytesValue}
 use Rattle.chains.specs.Steps.{planBytesOf}

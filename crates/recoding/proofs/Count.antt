@@ -1,11 +1,11 @@
 -- How many digits a number's canonical string has, by its highest byte. Assumes nothing.
-use mathlib.Core.Path.{_≡_, refl, sym, ap, _∙_}
+use mathlib.Core.Path.{_≡_, refl, ap, _∙_}
 use mathlib.Core.List.{List}
 use Prim.Native.Nat.{ℕ, zero, suc, _+_, _*_, _-_, _/_, _^_, _<_, _≤_}
 use native.Mathlib.Omega.{arith}
 use lib.Count.{leadingZeros, leading-length}
 use lib.IntN.{pos}
-use lib.ListN.{length, getD, drop, length-map}
+use lib.ListN.{length, getD, length-map}
 use Rattle.integers.specs.Positional.{bytesValue, Significant}
 use Rattle.integers.proofs.Positional.{Below, positional-nonzero}
 use Rattle.integers.proofs.Bits.{top-byte, length-from}

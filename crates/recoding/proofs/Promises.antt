@@ -1,9 +1,9 @@
 -- What document 01 promises of recode, as theorems about the definitions that its statement cites. Assumes nothing.
-use mathlib.Core.Path.{_≡_, refl, sym, ap, _∙_}
+use mathlib.Core.Path.{_≡_, refl, ap, _∙_}
 use mathlib.Core.Logic.{_↔_}
 use mathlib.Core.Bool.{Bool, true, false}
 use mathlib.Core.List.{List, [], _∷_, _++_}
-use Prim.Native.Nat.{ℕ, zero, suc, _+_, _*_, _<_, _≤_, _^_}
+use Prim.Native.Nat.{ℕ, _+_, _*_, _<_, _≤_, _^_}
 use borrow.Author.Tests.{lt-ltb, le-ltb, ltb-true, ltb-false}
 use native.Mathlib.Omega.{arith}
 use lib.Dec.{ltb}
@@ -17,7 +17,7 @@ use Rattle.rules.specs.declared.Written.{Written}
 use Rattle.rules.specs.declared.Written.the-variants.{Length, Refused}
 use Rattle.rules.proofs.Fitted.{too-small, fits, Fitting, small, fine, fitting}
 use Rattle.integers.specs.Positional.{positional, bytesValue}
-use Rattle.integers.proofs.Positional.{Below, positional-append, positional-lt, positional-zeros}
+use Rattle.integers.proofs.Positional.{Below, positional-lt, positional-zeros}
 use Rattle.integers.proofs.Bits.{power-of-bytes}
 use Rattle.signed_digits.specs.Strings.{value}
 use Rattle.signed_digits.specs.Form.{Canonical}

@@ -1,31 +1,31 @@
 -- Takes one after the other give the canonical digits, lowest first, then done; shown from what a take promises alone. Assumes nothing.
 use mathlib.Core.Path.{_≡_, refl, sym, ap, _∙_}
-use mathlib.Core.List.{List, [], _∷_}
-use Prim.Native.Nat.{ℕ, zero, suc, _+_, _<_, _≤_}
+use mathlib.Core.List.{List}
+use Prim.Native.Nat.{ℕ, zero, suc, _<_, _≤_}
 use borrow.Author.Tests.{lt-ltb, le-ltb}
 use native.Mathlib.Numerals.{add-one}
 use native.Mathlib.Omega.{arith}
 use lib.IntN.{ℤ, pos}
 use lib.ListN.{length}
 use Rattle.rules.specs.Limits.{numberBytes}
-use Rattle.signed_digits.specs.Naf.{lowDigit, rest, canonical}
-use Rattle.signed_digits.specs.Bytes.{digitByte, digitBytes}
+use Rattle.signed_digits.specs.Naf.{canonical}
+use Rattle.signed_digits.specs.Bytes.{digitBytes}
 use Rattle.signed_digits.proofs.Steps.{naf-zero, naf-step}
 use Rattle.recoding.specs.declared.recoder.Recoder.{Recoder}
 use Rattle.recoding.specs.declared.recoder.Started.{Started}
 use Rattle.recoding.specs.declared.recoder.Taken.{Taken}
-use Rattle.recoding.specs.declared.recoder.Take.the-variants.{Digit, Done}
+use Rattle.recoding.specs.declared.recoder.Take.the-variants.{Done}
 use Rattle.recoding.specs.Recode.{recoding}
-use Rattle.recoding.specs.Take.{standsFor, takeAnswer, takeLeaves, IsStart, IsTake, Run, before, digitOrDone, digitsToCome}
+use Rattle.recoding.specs.Take.{standsFor, takeAnswer, takeLeaves, IsStart, Run, before, digitOrDone, digitsToCome}
 
 -- the run from the second take on
 tail : (r : Recoder) (t : ℕ → Taken) → Run r t → Run (t 0 .next) (λ k. t (suc k))
 tail r t run = record { first = rw add-one at (run .later 0); later = λ k. rw add-one (rw add-one at (run .later (suc k))) }
 
 -- the digits of n are its lowest digit and those of what is left
-digits-of : (n k : ℕ) → digitOrDone (digitBytes (canonical (pos n))) 0 ≡ takeAnswer n
-digits-of zero k = rw (naf-zero 2)
-digits-of (suc n) k = rw (naf-step 2 (suc n) (omega arith) (omega arith))
+digits-of : (n : ℕ) → digitOrDone (digitBytes (canonical (pos n))) 0 ≡ takeAnswer n
+digits-of zero = rw (naf-zero 2)
+digits-of (suc n) = rw (naf-step 2 (suc n) (omega arith) (omega arith))
 
 digits-after : (n k : ℕ) → digitOrDone (digitBytes (canonical (pos n))) (suc k) ≡ digitOrDone (digitBytes (canonical (pos (takeLeaves n)))) k
 digits-after zero k = rw (naf-zero 2)
@@ -34,7 +34,7 @@ digits-after (suc n) k = rw (naf-step 2 (suc n) (omega arith) (omega arith))
 -- the takes of any recoder, also of one put together by hand
 pub takes : (r : Recoder) (t : ℕ → Taken) → Run r t → (k : ℕ) → t k .answer ≡ digitOrDone (digitsToCome r) k
 unfolding digitsToCome
-takes r t run zero = run .first .answer ∙ sym (digits-of (standsFor r) 0)
+takes r t run zero = run .first .answer ∙ sym (digits-of (standsFor r))
 takes r t run (suc k) =
     takes (t 0 .next) (λ k. t (suc k)) (tail r t run) k
     ∙ ap (λ (n : ℕ). digitOrDone (digitBytes (canonical (pos n))) k) (run .first .next)

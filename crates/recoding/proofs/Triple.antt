@@ -1,14 +1,13 @@
 -- Three times a number, a byte at a time. Assumes nothing.
-use mathlib.Core.Path.{_≡_, refl, sym, ap, _∙_}
-use mathlib.Core.Logic.{_↔_}
+use mathlib.Core.Path.{_≡_, refl, sym, _∙_}
 use Prim.Native.Nat.{ℕ, zero, suc, _+_, _*_, _-_, _/_, _%_, _^_, _<_, _≤_}
-use native.Mathlib.Nat.{pow-zero, pow-suc, mul-add, mul-assoc, mul-left-comm, mul-comm, mod-lt, div-add-mod, add-mul-div-left, add-mul-mod-self-left, div-div-eq-div-mul, add-suc, div-lt-iff-lt-mul}
+use native.Mathlib.Nat.{pow-suc, mul-left-comm, mul-comm, mod-lt, div-add-mod, add-mul-div-left, add-mul-mod-self-left, div-div-eq-div-mul, div-lt-iff-lt-mul}
 use native.Mathlib.Numerals.{add-one}
 use native.Mathlib.Omega.{arith}
 use lib.Arith.{mod-mul}
 use lib.IntN.{pos}
-use lib.ListN.{getD, length}
-use lib.Pow.{pow-add, shr-shr}
+use lib.ListN.{length}
+use lib.Pow.{shr-shr}
 use Rattle.integers.specs.Bits.{bit, bitLength}
 use Rattle.integers.proofs.Bits.{power-of-bytes, low-bits, bit-length-iff}
 use Rattle.signed_digits.specs.Naf.{canonical}

@@ -1,6 +1,6 @@
 -- A value of a chain as the checker holds it: the words of its size, and whether it is below zero.
-use Prim.Native.Nat.{ℕ, _<_}
-use lib.IntN.{ℤ, natAbs}
+use Prim.Native.Nat.{_<_}
+use lib.IntN.{ℤ}
 use Rattle.rules.specs.Limits.{valueBound}
 use Rattle.integers.specs.Positional.{wordsValue}
 use Rattle.integers.specs.Signed.{signed}

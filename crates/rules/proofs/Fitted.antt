@@ -8,7 +8,7 @@ use lib.Dec.{ltb}
 use lib.ListN.{length}
 use Rattle.rules.specs.declared.Refusal.the-variants.{RoomTooSmall}
 use Rattle.rules.specs.declared.Written.the-variants.{Length, Refused}
-use Rattle.rules.specs.Outcome.{Outcome, refused, answered, writtenOutcome}
+use Rattle.rules.specs.Outcome.{refused, answered, writtenOutcome}
 use Rattle.rules.specs.Memory.{fitted}
 
 module _ (bytes : List ℕ) (room : ℕ) where

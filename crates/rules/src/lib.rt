@@ -9,7 +9,7 @@ ghost use Rattle.rules.specs.Refusals.{refusalNumber, refusalPlace};
 // The most bytes of a number.
 pub const NUMBER_BYTES: usize = 32;
 
-// The words of eight bytes that hold such a number.
+// The words of eight bytes that hold such a number, whose limit is a multiple of eight.
 pub const NUMBER_WORDS: usize = NUMBER_BYTES / 8;
 
 // The most digits of a digit string that is handed in.

@@ -1,7 +1,7 @@
 -- `digit_strings::are_digits` meets its contract: the first j bytes are digits, if all so far were. Assumes nothing.
 use mathlib.Core.Path.{_≡_, sym, _∙_}
 use mathlib.Core.Bool.{true}
-use Prim.Native.Nat.{_+_, _-_, _≤_}
+use Prim.Native.Nat.{_-_, _≤_}
 use native.Mathlib.Omega.{arith}
 use Rattle.digit_strings.specs.Internal.{DigitsFor}
 use Rattle.digit_strings.proofs.Scan.{none-yet, one-more, both-true}

@@ -4,7 +4,7 @@ use Prim.Native.Nat.{ℕ, _≤_, _-_, _+_}
 use native.Mathlib.Nat.{zero-add}
 use native.Mathlib.Omega.{arith}
 use lib.ListN.{length, drop}
-use Rattle.digit_strings.specs.Checked.{isDigit, firstBad}
+use Rattle.digit_strings.specs.Checked.{firstBad}
 use Rattle.digit_strings.proofs.Scan.{here, later, never}
 use borrow.Author.Needs.{needs}
 use Rattle.digit_strings.proofs.first_bad.Statement.{statement}

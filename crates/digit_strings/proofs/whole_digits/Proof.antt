@@ -1,6 +1,5 @@
 -- `digit_strings::whole_digits` meets its contract: the bytes below i are digits. Assumes nothing.
 use Prim.Native.Nat.{_-_, _≤_}
-use native.Mathlib.Omega.{arith}
 use lib.ListN.{length}
 use Rattle.digit_strings.specs.Internal.{DigitsFor}
 use Rattle.digit_strings.proofs.Scan.{none-yet, more}

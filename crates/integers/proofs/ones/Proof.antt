@@ -1,9 +1,9 @@
 -- `integers::ones` meets its contract: the ones of the words below k are counted. Assumes nothing.
 use mathlib.Core.Path.{_≡_}
-use Prim.Native.Nat.{ℕ, _≤_, _+_, _*_, _-_}
+use Prim.Native.Nat.{_≤_, _+_, _*_, _-_}
 use native.Mathlib.Omega.{arith}
 use lib.Count.{ones, onesIn, ones-le}
-use lib.ListN.{length, drop, drop-of-length-le}
+use lib.ListN.{drop, drop-of-length-le}
 use Rattle.rules.specs.Limits.{numberWords}
 use Rattle.integers.specs.Positional.{positional, bytesValue}
 use Rattle.integers.proofs.Counting.{ones-word}

@@ -1,14 +1,13 @@
 -- `method_naf::counts` meets its contract. Assumes nothing.
-use mathlib.Core.Path.{_≡_, sym, _∙_}
+use mathlib.Core.Path.{_≡_, sym}
 use mathlib.Core.List.{List}
-use Prim.Native.Nat.{ℕ, _+_, _-_, _<_, _≤_}
+use Prim.Native.Nat.{ℕ, _+_, _-_}
 use native.Mathlib.Omega.{arith}
 use lib.IntN.{ℤ, pos}
 use lib.ListN.{length}
 use Rattle.integers.specs.Positional.{bytesValue}
 use Rattle.signed_digits.specs.Naf.{canonical}
 use Rattle.recoding.proofs.Triple.{digit-count}
-use Rattle.methods.specs.Forecast.{plusDigits, minusDigits}
 use Rattle.methods.proofs.Laws.{Small, number-small}
 use Rattle.methods.proofs.NonAdjacentForm.{some-digits, top-digit, naf-counts}
 use Rattle.method_naf.proofs.Tally.{plus-digits, minus-digits, some-plus}

@@ -1,5 +1,4 @@
 -- `method_naf::recoded` meets its contract. Assumes nothing.
-use mathlib.Core.Path.{_∙_}
 use Rattle.method_naf.proofs.Digits.{recoded-there}
 use borrow.Author.Needs.{needs}
 use Rattle.method_naf.proofs.recoded.Statement.{statement}

@@ -1,5 +1,5 @@
 -- `planning::forecast` meets its contract. Assumes nothing.
-use mathlib.Core.Path.{_≡_, refl, sym, ap, _∙_}
+use mathlib.Core.Path.{sym, _∙_}
 use borrow.Author.Needs.{needs}
 use Rattle.planning.proofs.forecast.Statement.{statement}
 use Rattle.planning.proofs.forecast.Tie as tie

@@ -1,6 +1,5 @@
 -- `planning::is_window` meets its contract. Assumes nothing.
 use borrow.Author.Tests.{le-leb, lt-leb}
-use borrow.Author.Needs.{needs}
 use Rattle.planning.proofs.is_window.Statement.{statement}
 use Rattle.planning.proofs.is_window.Tie as tie
 use Rattle.planning.proofs.is_window.Reads as reads

@@ -1,11 +1,5 @@
 -- `planning::write` meets its contract: each method writes its own steps. Assumes nothing.
-use mathlib.Core.Path.{_≡_, sym, ap, _∙_}
-use mathlib.Core.List.{List, _++_}
-use Prim.Native.Nat.{_*_, _≤_}
-use lib.ListN.{length, drop}
-use Rattle.rules.specs.Limits.{stepBytes}
 use Rattle.integers.specs.Positional.{bytesValue}
-use Rattle.chains.specs.Steps.{Step, planBytesOf}
 use Rattle.planning.proofs.Granted.{granted, is-binary, is-fixed, is-sliding, is-naf, fixed-widths, sliding-widths, last-method}
 use borrow.Author.Needs.{needs}
 use Rattle.planning.proofs.write.Statement.{statement}

@@ -5,7 +5,6 @@ use native.Mathlib.Omega.{arith}
 use lib.Bits.{bitAnd, and-le-l}
 use lib.Count.{ones, ones-le}
 use Rattle.method_naf.specs.Tally.{onlyIn}
-use borrow.Author.Needs.{needs}
 use Rattle.method_naf.proofs.words.only_in.Statement.{statement}
 use Rattle.method_naf.proofs.words.only_in.Tie as tie
 use Rattle.method_naf.proofs.words.only_in.Reads as reads

@@ -1,9 +1,9 @@
 -- `method_naf::words::tally_of` meets its contract: the words below k are in the tally. Assumes nothing.
 use mathlib.Core.Path.{_≡_, _∙_, ap}
-use Prim.Native.Nat.{ℕ, _+_, _*_, _-_, _^_, _≤_}
+use Prim.Native.Nat.{_+_, _*_, _-_, _^_, _≤_}
 use native.Mathlib.Numerals.{add-one}
 use native.Mathlib.Omega.{arith}
-use lib.ListN.{length, getD, drop, drop-of-length-le}
+use lib.ListN.{getD, drop, drop-of-length-le}
 use lib.Seq.{take-all}
 use Rattle.rules.specs.Limits.{numberBytes, numberWords}
 use Rattle.integers.specs.Positional.{positional, bytesValue, wordsValue}

@@ -1,12 +1,11 @@
 -- `recoding::digits::carry_into` meets its contract. Assumes nothing.
 use mathlib.Core.Path.{_≡_, sym, _∙_}
-use Prim.Native.Nat.{_≤_, _-_, _+_, _*_, _/_, _%_, _^_}
+use Prim.Native.Nat.{_≤_, _-_, _/_, _%_, _^_}
 use native.Mathlib.Omega.{arith}
-use lib.ListN.{getD}
 use Rattle.integers.specs.Positional.{bytesValue}
 use Rattle.integers.proofs.Positional.{positional-at}
 use Rattle.recoding.specs.Internal.{tripleCarry}
-use Rattle.recoding.proofs.Triple.{carry-none, carry-small, carry-step}
+use Rattle.recoding.proofs.Triple.{carry-none, carry-step}
 use borrow.Author.Needs.{needs}
 use Rattle.recoding.proofs.digits.carry_into.Statement.{statement}
 use Rattle.recoding.proofs.digits.carry_into.Tie as tie

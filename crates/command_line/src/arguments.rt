@@ -28,3 +28,23 @@ fn add(i: usize, request: &mut [u8], used: usize) -> usize {
     }
     TOO_LONG
 }
+
+// Whether an argument has no bytes, as where a shell's variable was not set.
+pub fn has_empty() -> bool {
+    let count = os::arg_count();
+    let mut i = 1;
+    while i < count {
+        if is_empty(i) {
+            return true;
+        }
+        i += 1;
+    }
+    false
+}
+
+// An argument that does not fit has bytes, and sets errno.
+fn is_empty(i: usize) -> bool {
+    let mut first = [0u8; 1];
+    let n = os::arg(i, &mut first);
+    (os::errno() == 0) & (n == 0)
+}

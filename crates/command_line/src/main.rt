@@ -24,17 +24,31 @@ fn main() {
     } else if words::is_only(front(&request, length), b"-") {
         input::answer_all(&mut out);
     } else {
-        split_digits(&mut request, length);
-        answer_one(front(&request, length), &mut out);
+        answer_arguments(&mut request, length, &mut out);
     }
 }
 
-// Splits the arguments at blanks where they are digits. A file name may hold blanks.
-fn split_digits(request: &mut [u8], length: usize) {
-    if !requests::is_of_digits(front(request, length)) {
-        return;
+// In a request without digits an argument of no bytes is wrong, since the words behind it would be
+// taken for it.
+fn answer_arguments(request: &mut [u8], length: usize, out: &mut [u8]) {
+    if requests::is_of_digits(front(request, length)) {
+        answer_digits(request, length, out);
+    } else if arguments::has_empty() {
+        put_usage(out);
+    } else {
+        answer_one(front(request, length), out);
     }
+}
+
+// Digits are split at blanks; a file name may hold some.
+fn answer_digits(request: &mut [u8], length: usize, out: &mut [u8]) {
     words::split(request);
+    answer_one(front(request, length), out);
+}
+
+fn put_usage(out: &mut [u8]) {
+    let end = usage::put_all(out);
+    answer_lines::write_line(out, end);
 }
 
 fn answer_one(request: &[u8], out: &mut [u8]) {
@@ -43,9 +57,6 @@ fn answer_one(request: &[u8], out: &mut [u8]) {
         Outcome::Line(end) => {
             answer_lines::write_line(out, end);
         }
-        Outcome::WrongWords => {
-            let end = usage::put_all(out);
-            answer_lines::write_line(out, end);
-        }
+        Outcome::WrongWords => put_usage(out),
     }
 }

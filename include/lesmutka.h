@@ -3,10 +3,11 @@
  *
  * Recoding of a number into its non-adjacent form (NAF), cleaning and reading back of signed digit
  * strings, planning of addition-subtraction chains by four methods, and the check of such a plan.
- * Every function here is proved: for any bytes it returns, it touches nothing but what it was lent,
- * and its answer and every byte it leaves equal a written definition.
+ * Every function of the library is proved: for any bytes it returns, it touches nothing but what it
+ * was lent, and its answer and every byte it leaves equal a written definition.
  *
- * Link with liblesmutka.a (x86-64), which `rt staticlib lesmutka` writes to target/staticlib/.
+ * Link with liblesmutka.a (x86-64), which `rt staticlib lesmutka` writes to target/staticlib/. It
+ * needs memcpy and memset, and nothing else of its surroundings. The header is C99 and C++98.
  *
  * Conventions
  *
@@ -23,16 +24,18 @@
  *              and k are below i. The plan ends at the position filled last.
  *   Memory     Inputs never change. A refusal changes nothing, unless its function says so. On
  *              success only the answer's bytes change; those above stay.
- *   Pointers   A pointer may be NULL if and only if its length is 0. Buffers that are written must
- *              not overlap any other argument. Nothing is kept after a function has returned, and
- *              no function allocates or uses memory of its own beyond the stack, so all may be
- *              called from any number of threads.
+ *   Pointers   A pointer to bytes may be NULL if its length is 0; it needs no alignment. A pointer
+ *              to a recoder is not NULL, and aligned as uint64_t. Buffers that are written must not
+ *              overlap any other argument. They need not be cleared before.
+ *   State      Nothing is kept after a function has returned. No function allocates, and none uses
+ *              memory of its own but below 2 KiB of stack, so all may be called from any number of
+ *              threads.
  *   Time       All numbers here are public. Nothing is promised about time.
  *
  * Refusals
  *
- *   Each answer begins with `refusal` and `place`. Where the call was not refused, both are 0. Where
- *   it was, they are these, and every other field of the answer is 0.
+ *   The answer of every call that may be refused begins with `refusal` and `place`. Where it was not
+ *   refused, both are 0. Where it was, they are these, and every other field of the answer is 0.
  *
  *    refusal                                 given when                                place
  *    1  LESMUTKA_NUMBER_TOO_LONG             number longer than 32 bytes               0
@@ -68,7 +71,8 @@ extern "C" {
 #define LESMUTKA_STRING_DIGITS 512
 #define LESMUTKA_STEP_BYTES 5
 #define LESMUTKA_PLAN_STEPS 640
-#define LESMUTKA_RECORD_BYTES 34
+#define LESMUTKA_VALUE_BYTES 33
+#define LESMUTKA_RECORD_BYTES (1 + LESMUTKA_VALUE_BYTES)
 
 /* Room that is enough for every answer. */
 #define LESMUTKA_RECODE_ROOM (8 * LESMUTKA_NUMBER_BYTES + 1)

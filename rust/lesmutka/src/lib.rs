@@ -59,6 +59,7 @@ pub const fn work_space(steps: usize) -> usize {
 
 /// How to plan.
 #[derive(Clone, Copy, Debug, PartialEq, Eq, Hash)]
+#[non_exhaustive]
 pub enum Method {
     /// 1: double for each bit below the top, add for each 1.
     Binary,

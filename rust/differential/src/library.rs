@@ -13,7 +13,7 @@ fn refused(refusal: usize, place: usize, rest: &[usize]) -> Result<(), Refusal> 
         "a refusal that answers more than number and place"
     );
     Err(Refusal {
-        number: refusal as u8,
+        number: u8::try_from(refusal).expect("a refusal's number"),
         place,
     })
 }
@@ -40,7 +40,8 @@ pub fn clean(digits: &[u8], out: &mut [u8]) -> Result<usize, Refusal> {
 
 pub fn read_back(digits: &[u8], out: &mut [u8]) -> Result<(u8, usize), Refusal> {
     let answer = unsafe { sys::lesmutka_read_back(digits.as_ptr(), digits.len(), out.as_mut_ptr(), out.len()) };
-    refused(answer.refusal, answer.place, &[answer.sign, answer.length]).map(|_| (answer.sign as u8, answer.length))
+    refused(answer.refusal, answer.place, &[answer.sign, answer.length])
+        .map(|_| (u8::try_from(answer.sign).expect("a sign"), answer.length))
 }
 
 pub fn plan(number: &[u8], method: u32, width: u32, out: &mut [u8]) -> Result<Counts, Refusal> {

@@ -218,10 +218,12 @@ fn check(cases: &mut Generator, rng: &mut Rng) -> Tally {
             |space| reference::check(number.part(), plan.part(), space),
         );
     }
+    damaged_steps(rng, &mut tally);
     tally
 }
 
-/// A recoder between words of noise.
+/// A recoder between words of noise, in this order.
+#[repr(C)]
 struct Guarded {
     below: [u64; 8],
     recoder: sys::Recoder,
@@ -295,7 +297,7 @@ fn by_hand(rng: &mut Rng) -> usize {
                 _ => {}
             }
         }
-        let mut number = [0; 33];
+        let mut number = [0; 32];
         let mut carry = u64::from(recoder.words[4] != 0);
         for (word, bytes) in recoder.words[..4].iter().zip(number.chunks_mut(8)) {
             let (sum, wrapped) = word.overflowing_add(carry);
@@ -303,11 +305,55 @@ fn by_hand(rng: &mut Rng) -> usize {
             carry = u64::from(wrapped);
         }
         if carry == 0 {
-            let (theirs, _) = reference::Recoder::start(&number[..32]);
+            let (theirs, _) = reference::Recoder::start(&number);
             takes(&number, &mut recoder, theirs);
+        } else {
+            above_all_numbers(&mut recoder);
         }
     }
     CASES
+}
+
+/// The one recoder that stands for more than any number has: 2^256, a 1 above 256 zeros.
+fn above_all_numbers(recoder: &mut sys::Recoder) {
+    let words = recoder.words;
+    let mut digits = Vec::new();
+    while let Some(digit) = library::take(recoder) {
+        digits.push(digit);
+    }
+    let mut expected = vec![0; 256];
+    expected.push(1);
+    if digits != expected || library::take(recoder).is_some() {
+        differ("take", "digits of 2^256", &words);
+    }
+}
+
+/// A damaged step at each place of the longest plan, in a space that just fits.
+fn damaged_steps(rng: &mut Rng, tally: &mut Tally) {
+    let steps = 640;
+    for i in 1..=steps {
+        let own = (i as u16).to_le_bytes();
+        for step in [
+            [2, 0, 0, 0, 0],
+            [0, own[0], own[1], 0, 0],
+            [0, 0, 0, own[0], own[1]],
+            [1, 0, 0, 255, 255],
+            [1, 0, 0, 0, 0],
+        ] {
+            let mut bytes = vec![0; 5 * steps];
+            bytes[5 * (i - 1)..5 * i].copy_from_slice(&step);
+            let number = Lent::holding(rng, &[2]);
+            let plan = Lent::holding(rng, &bytes);
+            let lent = Lent::noise(rng, 34 * (steps + 1));
+            compare(
+                tally,
+                &[&number, &plan],
+                &lent,
+                |space| library::check(number.part(), plan.part(), space),
+                |space| reference::check(number.part(), plan.part(), space),
+            );
+        }
+    }
 }
 
 fn main() {

@@ -1,2 +1,3 @@
 pub mod Copied
 pub mod Taken
+pub mod Takes

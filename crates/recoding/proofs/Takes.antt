@@ -23,11 +23,11 @@ tail : (r : Recoder) (t : ℕ → Taken) → Run r t → Run (t 0 .next) (λ k. 
 tail r t run = record { first = rw add-one at (run .later 0); later = λ k. rw add-one (rw add-one at (run .later (suc k))) }
 
 -- the digits of n are its lowest digit and those of what is left
-digits-of : (n : ℕ) → digitOrDone (digitBytes (canonical (pos n))) 0 ≡ takeAnswer n
+pub digits-of : (n : ℕ) → digitOrDone (digitBytes (canonical (pos n))) 0 ≡ takeAnswer n
 digits-of zero = rw (naf-zero 2)
 digits-of (suc n) = rw (naf-step 2 (suc n) (omega arith) (omega arith))
 
-digits-after : (n k : ℕ) → digitOrDone (digitBytes (canonical (pos n))) (suc k) ≡ digitOrDone (digitBytes (canonical (pos (takeLeaves n)))) k
+pub digits-after : (n k : ℕ) → digitOrDone (digitBytes (canonical (pos n))) (suc k) ≡ digitOrDone (digitBytes (canonical (pos (takeLeaves n)))) k
 digits-after zero k = rw (naf-zero 2)
 digits-after (suc n) k = rw (naf-step 2 (suc n) (omega arith) (omega arith))
 

@@ -12,6 +12,14 @@ use std::time::Instant;
 const INPUTS: usize = 64;
 const ROUNDS: usize = 400;
 
+/// The methods, each with a width that it allows.
+const METHODS: [(&str, u32, u32); 4] = [
+    ("binary", 1, 0),
+    ("fixed windows 4", 2, 4),
+    ("sliding windows 4", 3, 4),
+    ("NAF", 4, 0),
+];
+
 /// One job on both sides: each runs the i-th input.
 struct Job<'a> {
     name: String,
@@ -194,6 +202,39 @@ fn proved_check(number: &[u8], plan: &[u8], space: &mut [u8]) -> sys::Steps {
     }
 }
 
+/// What is timed is done: both sides answer, and answer the same.
+fn agree(number: &[u8], string: &[u8], canonical: &[u8], longest: &[u8]) {
+    let mut a = vec![0; lesmutka::work_space(lesmutka::PLAN_STEPS)];
+    let mut b = a.clone();
+    let length = proved_recode(number, &mut a);
+    assert_eq!(Ok(length.length), reference::recode(number, &mut b));
+    assert_eq!(proved_takes(number), plain_takes(number));
+    let length = proved_clean(string, &mut a);
+    assert_eq!(Ok(length.length), reference::clean(string, &mut b));
+    let value = proved_read_back(canonical, &mut a);
+    assert_eq!(
+        Ok((value.sign as u8, value.length)),
+        reference::read_back(canonical, &mut b)
+    );
+    for (_, method, width) in METHODS {
+        let forecast = proved_forecast(number, method, width);
+        assert_eq!(proved_plan(number, method, width, &mut a), forecast);
+        assert_eq!(Ok(counts(forecast)), reference::plan(number, method, width, &mut b));
+        assert_eq!(Ok(counts(forecast)), reference::forecast(number, method, width));
+    }
+    let checked = proved_check(number, longest, &mut a);
+    assert_eq!(Ok(counts(checked)), reference::check(number, longest, &mut b));
+    assert_eq!(a, b);
+}
+
+fn counts(steps: sys::Steps) -> reference::Counts {
+    reference::Counts {
+        doublings: steps.doublings,
+        additions: steps.additions,
+        subtractions: steps.subtractions,
+    }
+}
+
 fn main() {
     let rng = &mut Rng::new(1);
     let numbers = &numbers(rng);
@@ -203,11 +244,8 @@ fn main() {
     const ROOM: usize = 4096;
     const SPACE: usize = lesmutka::work_space(lesmutka::PLAN_STEPS);
 
-    // What is timed is done: both sides accept the longest plans.
-    let mut space = vec![0; SPACE];
-    for (number, plan) in numbers.iter().zip(longest) {
-        assert_eq!(proved_check(number, plan, &mut space).refusal, 0);
-        assert!(reference::check(number, plan, &mut space).is_ok());
+    for i in 0..INPUTS {
+        agree(&numbers[i], &strings[i], &canonicals[i], &longest[i]);
     }
 
     let mut jobs = Vec::new();
@@ -234,12 +272,7 @@ fn main() {
         move |i| keep(proved_read_back(&canonicals[i], &mut a)),
         move |i| keep(reference::read_back(&canonicals[i], &mut b)),
     ));
-    for (name, method, width) in [
-        ("binary", 1, 0),
-        ("fixed windows 4", 2, 4),
-        ("sliding windows 4", 3, 4),
-        ("NAF", 4, 0),
-    ] {
+    for (name, method, width) in METHODS {
         let (mut a, mut b) = (vec![0; ROOM], vec![0; ROOM]);
         jobs.push(Job::new(
             &format!("plan, {}", name),

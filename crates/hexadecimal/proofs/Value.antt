@@ -1,5 +1,5 @@
 -- The bytes of a hexadecimal number have its value. Assumes nothing.
-use mathlib.Core.Path.{_≡_, refl, _∙_}
+use mathlib.Core.Path.{_≡_, refl, ap, _∙_}
 use mathlib.Core.List.{List, [], _∷_, _++_}
 use Prim.Native.Nat.{ℕ, zero, suc, _+_, _-_, _*_, _%_, _^_, _<_, _≤_}
 use native.Mathlib.Nat.{pow-suc, mul-add, mul-assoc, mul-comm, mul-zero, add-zero, add-suc}
@@ -9,12 +9,27 @@ use lib.ListN.{length, getD, take, drop}
 use lib.Seq.{drop-cons, take-append-seam}
 use lib.ListN.{drop-of-length-le}
 use native.Mathlib.Numerals.{add-one}
-use mathlib.Core.Bool.{true, false}
+use mathlib.Core.Bool.{Bool, true, false, cond}
+use lib.Dec.{eqb, ltb}
 use Rattle.integers.specs.Positional.{positional, bytesValue}
 use Rattle.integers.specs.Tabulate.{tabulate}
 use Rattle.integers.proofs.Positional.{positional-append}
 use Rattle.integers.proofs.Tabulate.{length-tabulate, tabulate-same}
-use Rattle.hexadecimal.specs.Hex.{digitValue, placeValue, byteAt, hexValue, isHex, byteCount}
+use Rattle.hexadecimal.specs.Hex.{digitValue, placeValue, byteAt, hexValue, isHex, byteCount, parsed, parsedBuffer}
+use Rattle.hexadecimal.specs.declared.Parsed.{Parsed}
+use Rattle.hexadecimal.specs.declared.Parsed.the-variants.{Bytes, NotHex}
+
+-- how many bytes a number has
+abbrev bytesIn : Parsed → ℕ
+bytesIn (Bytes n) = n
+bytesIn NotHex = 0
+
+abbrev isNumber : Parsed → ℕ
+isNumber (Bytes n) = 1
+isNumber NotHex = 0
+
+no-number : {A : Type 0} {n : ℕ} → NotHex ≡ Bytes n → A
+no-number e = let z : _≡_ {A = ℕ} 0 1 = ap isNumber e in absurd (omega (arith, z))
 
 -- one place more
 place-more : (b : ℕ) (f : ℕ → ℕ) (n : ℕ) → positional b (tabulate f (suc n)) ≡ positional b (tabulate f n) + b ^ n * f n
@@ -72,12 +87,29 @@ has-value text n h =
     bytes-are-digits text n .0 ∙ rw e (digits-above text (2 * n - length text))
 
 -- as many bytes as the digits need, at the start of a buffer
-pub front-value : (text rest : List ℕ) → bytesValue (take (byteCount text) (tabulate (byteAt text) (byteCount text) ++ rest)) ≡ hexValue text
+front-value : (text rest : List ℕ) → bytesValue (take (byteCount text) (tabulate (byteAt text) (byteCount text) ++ rest)) ≡ hexValue text
 front-value text rest =
     let n : ℕ = byteCount text in
     let t : List ℕ = tabulate (byteAt text) n in
     let seam : take n (t ++ rest) ≡ t = rw (length-tabulate (byteAt text) n) at (take-append-seam t rest) in
     rw seam (has-value text n (omega arith))
+
+-- a number takes as many bytes as its digits need
+parsed-count : (text : List ℕ) (room n : ℕ) → parsed text room ≡ Bytes n → byteCount text ≡ n
+unfolding parsed
+parsed-count text room n = go (eqb (length text) 0) (ltb room (byteCount text)) (isHex text)
+  where
+    go : (none short hex : Bool) → cond none NotHex (cond short NotHex (cond hex (Bytes (byteCount text)) NotHex)) ≡ Bytes n → byteCount text ≡ n
+    go true short hex e = no-number e
+    go false true hex e = no-number e
+    go false false true e = ap bytesIn e
+    go false false false e = no-number e
+
+-- where the answer is a number of so many bytes, these bytes have its value
+pub parsed-value : (text bytes : List ℕ) (n : ℕ) → parsed text (length bytes) ≡ Bytes n → bytesValue (take n (parsedBuffer text bytes)) ≡ hexValue text
+parsed-value text bytes n e =
+    let m = parsed-count text (length bytes) n e in
+    rw (e, ← m) (front-value text (drop (byteCount text) bytes))
 
 -- one digit more, or a byte that is none
 pub digit-passed : (text : List ℕ) (i : ℕ) → i < length text → digitValue (getD text i 0) ≤ 15 → isHex (drop i text) ≡ isHex (drop (i + 1) text)

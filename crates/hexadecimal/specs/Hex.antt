@@ -1,11 +1,10 @@
 -- Numbers in hexadecimal, as people write them: most significant digit first, in ASCII.
-use mathlib.Core.Path.{_≡_}
 use Prim.Native.Nat.{ℕ, _+_, _-_, _*_, _/_, _%_, _^_}
 use mathlib.Core.Bool.{Bool, true, false, cond}
-use mathlib.Core.List.{List, [], _∷_}
+use mathlib.Core.List.{List, [], _∷_, _++_}
 use lib.Dec.{ltb, leb, eqb}
-use lib.ListN.{length, getD, take, drop}
-use Rattle.integers.specs.Positional.{bytesValue}
+use lib.ListN.{length, getD, drop}
+use Rattle.integers.specs.Tabulate.{tabulate}
 use Rattle.hexadecimal.specs.declared.Parsed.{Parsed}
 use Rattle.hexadecimal.specs.declared.Parsed.the-variants.{Bytes, NotHex}
 
@@ -48,9 +47,13 @@ parsed text room =
     (cond (ltb room (byteCount text)) NotHex
     (cond (isHex text) (Bytes (byteCount text)) NotHex))
 
--- the answer, and, where it is a number, bytes of that value
-abbrev pub IsParse : List ℕ → ℕ → List ℕ → Parsed → Type 0
-IsParse text room bytes r = (r ≡ parsed text room) × ((n : ℕ) → r ≡ Bytes n → bytesValue (take n bytes) ≡ hexValue text)
+-- the buffer afterwards: the number's bytes at its start, and those above stay; where there is no number, as it was
+abbrev pub leaves : Parsed → List ℕ → List ℕ → List ℕ
+leaves (Bytes n) text bytes = tabulate (byteAt text) n ++ drop n bytes
+leaves NotHex text bytes = bytes
+
+abbrev pub parsedBuffer : List ℕ → List ℕ → List ℕ
+parsedBuffer text bytes = leaves (parsed text (length bytes)) text bytes
 
 -- x or X
 unfoldable pub isMark : ℕ → Bool

@@ -4,7 +4,7 @@ ghost use mathlib.Core.List.{_++_};
 ghost use Prim.Native.Nat.{_*_, _≤_, _<_, _^_};
 ghost use lib.ListN.{length, drop};
 ghost use Rattle.integers.specs.Tabulate.{tabulate};
-ghost use Rattle.hexadecimal.specs.Hex.{digitValue, placeValue, byteAt, isHex, isMark, unmarked, IsParse};
+ghost use Rattle.hexadecimal.specs.Hex.{digitValue, placeValue, byteAt, isHex, isMark, parsed, parsedBuffer, unmarked};
 
 // What a word holds: a number in so many bytes, or something else.
 pub enum Parsed {
@@ -78,7 +78,8 @@ fn write(text: &[u8], bytes: &mut [u8], n: usize)
 
 // Puts the number of a text into bytes, least significant first.
 fn parse_digits(text: &[u8], bytes: &mut [u8]) -> Parsed
-    ensures { λ r. ⌜ IsParse (now (text .entry)) (length (now (bytes .entry))) (now (bytes .exit)) r ⌝ }
+    ensures answer { λ r. ⌜ r ≡ parsed (now (text .entry)) (length (now (bytes .entry))) ⌝ }
+    ensures buffer { λ r. ⌜ now (bytes .exit) ≡ parsedBuffer (now (text .entry)) (now (bytes .entry)) ⌝ }
 {
     let n = text.len() / 2 + text.len() % 2;
     if text.len() == 0 {
@@ -122,7 +123,8 @@ fn without_mark(word: &[u8]) -> &[u8]
 
 // Puts the number of a word into bytes, least significant first.
 pub fn parse(word: &[u8], bytes: &mut [u8]) -> Parsed
-    ensures { λ r. ⌜ IsParse (unmarked (now (word .entry))) (length (now (bytes .entry))) (now (bytes .exit)) r ⌝ }
+    ensures answer { λ r. ⌜ r ≡ parsed (unmarked (now (word .entry))) (length (now (bytes .entry))) ⌝ }
+    ensures buffer { λ r. ⌜ now (bytes .exit) ≡ parsedBuffer (unmarked (now (word .entry))) (now (bytes .entry)) ⌝ }
 {
     parse_digits(without_mark(word), bytes)
 }

@@ -13,7 +13,10 @@ same-length : tie.Need-same-length
 same-length c = search needs
 
 returns : tie.Need-returns
-returns c = rw (c .before .before .before .before .without-mark .ensures) at (c .before .before .parse-digits .ensures)
+returns c =
+    let e = c .before .before .before .before .without-mark .ensures in
+    let f = c .before .before .parse-digits .ensures in
+    (rw e at (f .0), rw e at (f .1))
 
 pub parse-spec : {M : Type 1} → statement M
 parse-spec = tie.close (tie.spec without-mark-requires parse-digits-requires same-length returns)

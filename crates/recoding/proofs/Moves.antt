@@ -2,7 +2,7 @@
 use mathlib.Core.Path.{_≡_, refl, sym, ap, _∙_}
 use mathlib.Core.Logic.{_≢_}
 use mathlib.Core.Bool.{Bool, true, false, not, _&&_}
-use mathlib.Core.List.{List}
+use mathlib.Core.List.{List, [], _∷_}
 use Prim.Native.Nat.{ℕ, zero, suc, _+_, _*_, _/_, _%_, _^_, _<_, _≤_}
 use borrow.Author.Tests.{lt-ltb, le-ltb, ne-eqb}
 use native.Mathlib.Nat.{add-mul-mod-self-left}
@@ -24,7 +24,7 @@ use Rattle.recoding.specs.declared.recoder.Take.the-variants.{Digit, Don
 use Rattle.recoding.specs.Take.{carried, standsFor, takeAnswer, takeLeaves, IsStart, IsTake}
 
 -- ---- the byte of the lowest digit, by the remainder modulo 4
-pub byte-at : (n : ℕ) → (255 * 256 ^ 3 + 256) / 2 ^ (8 * (n % 4)) % 256 ≡ digitByte (lowDigit 2 n)
+pub byte-at : (n : ℕ) → getD (0 ∷ 1 ∷ 0 ∷ 255 ∷ []) (n % 4) 0 ≡ digitByte (lowDigit 2 n)
 byte-at = by-four _ (λ q. (
   let e : (4 * q) % 4 ≡ 0 = omega arith in rw (e, low-digit-2 q .0),
   let e : (4 * q + 1) % 4 ≡ 1 = omega arith in rw (e, low-digit-2 q .1),
@@ -65,8 +65,8 @@ one-small true = omega arith
 one-small false = omega arith
 
 -- the low word has the two low binary digits
-low-word : (words : List ℕ) → (getD words 0 0 % 2 ≡ wordsValue words % 2) × (getD words 0 0 / 2 % 2 ≡ wordsValue words / 2 % 2)
-low-word words = (omega (arith, positional-drop (2 ^ 64) words 0), omega (arith, positional-drop (2 ^ 64) words 0))
+low-word : (words : List ℕ) → getD words 0 0 % 4 ≡ wordsValue words % 4
+low-word words = omega (arith, positional-drop (2 ^ 64) words 0)
 
 -- ---- the definitions of a take, where something is left
 pub answer-some : (n : ℕ) → n ≢ 0 → takeAnswer n ≡ Digit (digitByte (lowDigit 2 n))
@@ -98,35 +98,30 @@ module _ (r : Recoder) (none : Bool) (is-none : none ≡ eqb (wordsValue (r .wor
       let z : v + carried (r .carry) ≡ 0 = ended v (r .carry) (sym (ap (λ (t : Bool). t && not (r .carry)) is-none) ∙ h) in
       record { answer = rw z; next = rw z; done = λ h. refl }
 
-  pub move-is : (low above digit : ℕ) (half : List ℕ) → (none && not (r .carry)) ≡ false
-      → low ≡ getD (r .words) 0 0 % 2 → above ≡ getD (r .words) 0 0 / 2 % 2 → wordsValue half ≡ wordsValue (r .words) / 2
-      → digit ≡ digitByte (lowDigit 2 (low + above + boolByte (r .carry) + above))
-      → IsTake r (record { next = record { words = half; carry = leb 2 (low + above + boolByte (r .carry)) }; answer = Digit digit })
+  pub move-is : (digit : ℕ) (half : List ℕ) → let word = getD (r .words) 0 0 in let ones = word % 2 + word / 2 % 2 + boolByte (r .carry) in
+      (none && not (r .carry)) ≡ false → wordsValue half ≡ wordsValue (r .words) / 2
+      → digit ≡ digitByte (lowDigit 2 (word % 4 + boolByte (r .carry)))
+      → IsTake r (record { next = record { words = half; carry = leb 2 ones }; answer = Digit digit })
   unfolding standsFor
-  move-is low above digit half left lows aboves halves byte =
+  move-is digit half left halves byte =
       let v : ℕ = wordsValue (r .words) in
       let c : ℕ = carried (r .carry) in
+      let word : ℕ = getD (r .words) 0 0 in
+      let ones : ℕ = word % 2 + word / 2 % 2 + c in
       let e : boolByte (r .carry) ≡ c = carried-byte (r .carry) in
       let small : c ≤ 1 = omega (arith, one-small (r .carry)) in
       let some : v + c ≢ 0 = going v (r .carry) (sym (ap (λ (t : Bool). t && not (r .carry)) is-none) ∙ left) in
-      let l : low ≡ v % 2 = lows ∙ low-word (r .words) .0 in
-      let a : above ≡ v / 2 % 2 = aboves ∙ low-word (r .words) .1 in
-      let d : lowDigit 2 (low + above + c + above) ≡ lowDigit 2 (v + c) = same-digit (low + above + c + above) (v + c) (residue v c low above l a) in
-      let m : rest 2 (v + c) ≡ v / 2 + (low + above + c) / 2 = moved v c small ∙ ap (λ (k : ℕ). v / 2 + k / 2) (sum v c low above l a) in
+      let w : word % 4 ≡ v % 4 = low-word (r .words) in
+      let d : lowDigit 2 (word % 4 + c) ≡ lowDigit 2 (v + c) = same-digit (word % 4 + c) (v + c) (omega arith) in
+      let m : rest 2 (v + c) ≡ v / 2 + ones / 2 = moved v c small ∙ ap (λ (k : ℕ). v / 2 + k / 2) (sum v c word w) in
       record {
         answer = rw (byte, e, d) (sym (answer-some (v + c) some));
-        next = rw (e, halves, carried-half (low + above + c) (omega arith), leaves-some (v + c) some) (sym m);
+        next = rw (e, halves, carried-half ones (omega arith), leaves-some (v + c) some) (sym m);
         done = λ z. absurd (some z);
       }
     where
-      sum : (v c low above : ℕ) → low ≡ v % 2 → above ≡ v / 2 % 2 → v % 4 % 2 + v % 4 / 2 + c ≡ low + above + c
-      sum v c low above l a = omega arith
-
-      residue : (v c low above : ℕ) → low ≡ v % 2 → above ≡ v / 2 % 2 → (low + above + c + above) % 4 ≡ (v + c) % 4
-      residue v c low above l a =
-          let q : ℕ = v / 4 in
-          let s : v + c ≡ low + above + c + above + 4 * q = omega arith in
-          sym (rw (s, add-mul-mod-self-left))
+      sum : (v c word : ℕ) → word % 4 ≡ v % 4 → v % 4 % 2 + v % 4 / 2 + c ≡ word % 2 + word / 2 % 2 + c
+      sum v c word w = omega arith
 
 -- ---- the two returns of the start
 pub refused-is : (number : List ℕ) (words : List ℕ) → numberBytes < length number → wordsValue words ≡ 0

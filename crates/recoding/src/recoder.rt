@@ -73,10 +73,10 @@ impl Recoder {
                 answer: Take::Done,
             };
         }
-        let low = words[0] % 2;
-        let above = words[0] / 2 % 2;
-        let ones = low + above + carry as u64;
-        let residue = ones + above;
+        let word = words[0];
+        let one = carry as u64;
+        let ones = word % 2 + word / 2 % 2 + one;
+        let residue = word % 4 + one;
         Taken {
             next: Recoder {
                 words: halved(words),
@@ -91,5 +91,6 @@ impl Recoder {
 pub fn digit_byte(number: u64) -> u8
     ensures { λ r. ⌜ r ≡ digitByte (lowDigit 2 number) ⌝ }
 {
-    ((0xFF00_0100u64 >> (8 * (number % 4))) % 256) as u8
+    let bytes = [0, 1, 0, 255];
+    bytes[(number % 4) as usize]
 }

@@ -6,17 +6,11 @@ use Rattle.recoding.proofs.recoder.digit_byte.Tie as tie
 use Rattle.recoding.proofs.recoder.digit_byte.Reads as reads
 use Rattle.recoding.proofs.recoder.digit_byte.Lts as lts
 
-mul-result : tie.Need-mul-result
-mul-result c = search needs
-
-shr-result : tie.Need-shr-result
-shr-result c = search needs
-
-cast-result : tie.Need-cast-result
-cast-result c = search needs
+array-read-result : tie.Need-array-read-result
+array-read-result c = search needs
 
 returns : tie.Need-returns
 returns c = byte-at (c .args .number)
 
 pub digit-byte-spec : {M : Type 1} → statement M
-digit-byte-spec = tie.close (tie.spec mul-result shr-result cast-result returns)
+digit-byte-spec = tie.close (tie.spec array-read-result returns)

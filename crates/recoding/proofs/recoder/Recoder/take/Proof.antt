@@ -1,8 +1,5 @@
 -- `recoding::recoder::Recoder::take` meets its contract. Assumes nothing.
-use mathlib.Core.Path.{refl}
-use Prim.Native.Nat.{_/_, _%_}
 use native.Mathlib.Omega.{arith}
-use lib.ListN.{getD}
 use Rattle.recoding.proofs.Moves.{done-is, move-is, one-small}
 use borrow.Author.Needs.{needs}
 use Rattle.recoding.proofs.recoder.Recoder.take.Statement.{statement}
@@ -22,17 +19,14 @@ is-zero-requires c κs = search needs
 returns : tie.Need-returns
 returns c = done-is (c .before .before .before .before .args .self) (c .before .is-zero .result) (c .before .is-zero .ensures) (c .if1 .taken)
 
-array-read-low : tie.Need-array-read-low
-array-read-low c = search needs
+array-read-word : tie.Need-array-read-word
+array-read-word c = search needs
 
-array-read-above : tie.Need-array-read-above
-array-read-above c = search needs
+cast-one : tie.Need-cast-one
+cast-one c = search needs
 
 add-ones : tie.Need-add-ones
 add-ones c = search needs
-
-cast-ones : tie.Need-cast-ones
-cast-ones c = search needs
 
 add-ones-2 : tie.Need-add-ones-2
 add-ones-2 c = omega (arith, one-small (c .before .before .before .before .args .self .carry))
@@ -50,9 +44,8 @@ returns-2 : tie.Need-returns-2
 returns-2 c =
     let tested = c .before .before .before in
     let self = tested .before .before .before .args .self in
-    let word = getD (self .words) 0 0 in
-    move-is self (tested .is-zero .result) (tested .is-zero .ensures) (word % 2) (word / 2 % 2) (c .digit-byte .result) (c .before .halved .result)
-    (c .before .before .if1 .left) refl refl (c .before .halved .ensures) (c .digit-byte .ensures)
+    move-is self (tested .is-zero .result) (tested .is-zero .ensures) (c .digit-byte .result) (c .before .halved .result)
+    (c .before .before .if1 .left) (c .before .halved .ensures) (c .digit-byte .ensures)
 
 pub take-spec : {M : Type 1} → statement M
 take-spec =
@@ -61,10 +54,9 @@ take-spec =
     slice-aggregate-is-zero
     is-zero-requires
     returns
-    array-read-low
-    array-read-above
+    array-read-word
+    cast-one
     add-ones
-    cast-ones
     add-ones-2
     add-residue
     halved-requires

@@ -157,8 +157,7 @@ fn proved_takes(number: &[u8]) -> u32 {
 fn plain_takes(number: &[u8]) -> u32 {
     let (mut recoder, _) = reference::Recoder::start(number);
     let mut sum = 0;
-    while let (next, Some(digit)) = recoder.take() {
-        recoder = next;
+    while let Some(digit) = recoder.take() {
         sum += u32::from(digit);
     }
     sum

@@ -249,7 +249,7 @@ fn takes(number: &[u8], recoder: &mut sys::Recoder, mut theirs: reference::Recod
     while more > 0 {
         let before = *recoder;
         let answer = library::take(recoder);
-        let (next, expected) = theirs.take();
+        let expected = theirs.take();
         if answer != expected {
             differ("take", "digits", &(number, before.words, answer, expected));
         }
@@ -259,7 +259,6 @@ fn takes(number: &[u8], recoder: &mut sys::Recoder, mut theirs: reference::Recod
             }
             more -= 1;
         }
-        theirs = next;
     }
 }
 

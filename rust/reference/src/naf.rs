@@ -120,11 +120,11 @@ impl Recoder {
         }
     }
 
-    /// The digit at the present place and the recoder one place further on.
-    /// `None` after the last digit, the recoder unchanged.
-    pub fn take(self) -> (Recoder, Option<u8>) {
-        if self == Recoder::ZERO {
-            return (self, None);
+    /// The digit at the present place, and the recoder goes one place on. `None`
+    /// after the last digit, the recoder unchanged.
+    pub fn take(&mut self) -> Option<u8> {
+        if *self == Recoder::ZERO {
+            return None;
         }
         // Bosma's rule modulo 4: an odd rest gives 1 or minus 1, whichever
         // makes the next digit 0.
@@ -135,7 +135,8 @@ impl Recoder {
             (true, true) => (0xFF, true),
             (false, _) => (0x00, self.carry),
         };
-        let rest = words::halve(&self.rest);
-        (Recoder { rest, carry }, Some(digit))
+        self.rest = words::halve(&self.rest);
+        self.carry = carry;
+        Some(digit)
     }
 }

@@ -60,4 +60,15 @@ impl Number {
         }
         value as usize & ((1 << width) - 1)
     }
+
+    /// The 64 bits from a place below 256 down, the bit at the place on top;
+    /// bits past the end are zero.
+    pub(crate) fn bits_down(&self, place: usize) -> u64 {
+        let (index, shift) = (place / 64, 63 - place % 64);
+        let mut bits = self.words[index] << shift;
+        if shift > 0 && index > 0 {
+            bits |= self.words[index - 1] >> (64 - shift);
+        }
+        bits
+    }
 }

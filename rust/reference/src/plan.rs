@@ -202,14 +202,33 @@ fn sliding_table_steps(number: &Number, width: usize) -> usize {
     }
 }
 
-/// The lowest place of the longest window of at most `width` bits that begins
-/// at the 1 at place `top` and ends in 1.
-fn window_end(number: &Number, top: usize, width: usize) -> usize {
-    let mut low = (top + 1).saturating_sub(width);
-    while !number.bit(low) {
-        low += 1;
+/// The longest window of at most `width` bits that begins at the highest 1 below a
+/// place and ends in 1, the zeros above it, and its value.
+struct Window {
+    zeros: usize,
+    bits: usize,
+    value: usize,
+}
+
+/// The next window below a place above 0, or `None` if nothing but zeros is left.
+fn next_window(number: &Number, below: usize, width: usize) -> Option<Window> {
+    let mut zeros = 0;
+    while zeros < below {
+        let bits = number.bits_down(below - zeros - 1);
+        if bits != 0 {
+            let more = bits.leading_zeros() as usize;
+            // Windows are read whole from the place of their top bit.
+            let bits = number.bits_down(below - zeros - more - 1) >> (64 - width);
+            let trailing = bits.trailing_zeros() as usize;
+            return Some(Window {
+                zeros: zeros + more,
+                bits: width - trailing,
+                value: (bits >> trailing) as usize,
+            });
+        }
+        zeros += 64;
     }
-    low
+    None
 }
 
 fn sliding_windows(number: &Number, width: usize, chain: &mut Chain) {
@@ -224,21 +243,20 @@ fn sliding_windows(number: &Number, width: usize, chain: &mut Chain) {
         return;
     }
 
-    let top = number.bit_length() - 1;
-    let mut low = window_end(number, top, width);
-    chain.latest = odd_position(number.window(low, top - low + 1));
-    while low > 0 {
-        let top = low - 1;
-        if number.bit(top) {
-            low = window_end(number, top, width);
-            for _ in low..=top {
-                chain.double();
-            }
-            chain.add(odd_position(number.window(low, top - low + 1)));
-        } else {
-            low = top;
+    let mut below = number.bit_length();
+    if let Some(first) = next_window(number, below, width) {
+        chain.latest = odd_position(first.value);
+        below -= first.bits;
+    }
+    while let Some(window) = next_window(number, below, width) {
+        for _ in 0..window.zeros + window.bits {
             chain.double();
         }
+        chain.add(odd_position(window.value));
+        below -= window.zeros + window.bits;
+    }
+    for _ in 0..below {
+        chain.double();
     }
 }
 
@@ -250,16 +268,14 @@ fn count_sliding_windows(number: &Number, width: usize) -> Counts {
 
     // One doubling for each bit below the first window, one addition for each
     // later window.
-    let mut low = window_end(number, number.bit_length() - 1, width);
-    counts.doublings += low;
-    while low > 0 {
-        let top = low - 1;
-        if number.bit(top) {
-            low = window_end(number, top, width);
-            counts.additions += 1;
-        } else {
-            low = top;
-        }
+    let mut below = number.bit_length();
+    if let Some(first) = next_window(number, below, width) {
+        below -= first.bits;
+    }
+    counts.doublings += below;
+    while let Some(window) = next_window(number, below, width) {
+        below -= window.zeros + window.bits;
+        counts.additions += 1;
     }
     counts
 }

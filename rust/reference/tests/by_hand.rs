@@ -75,11 +75,10 @@ fn recoding() {
         let (mut recoder, result) = Recoder::start(&[number, 0]);
         assert_eq!(result, Ok(()));
         for digit in bytes(digits) {
-            let (next, taken) = recoder.take();
-            assert_eq!(taken, Some(digit));
-            recoder = next;
+            assert_eq!(recoder.take(), Some(digit));
         }
-        assert_eq!(recoder.take(), (recoder, None));
+        let end = recoder;
+        assert_eq!((recoder.take(), recoder), (None, end));
     }
     assert_eq!(recoded(&[]), Vec::<u8>::new());
 }
@@ -147,10 +146,10 @@ fn number_too_long() {
         assert_eq!(plan(&number, 9, 9, &mut []), Err(refusal(1, 0)));
         assert_eq!(forecast(&number, 9, 9), Err(refusal(1, 0)));
         assert_eq!(check(&number, &[1], &mut []), Err(refusal(1, 0)));
-        let (recoder, result) = Recoder::start(&number);
+        let (mut recoder, result) = Recoder::start(&number);
         assert_eq!(result, Err(refusal(1, 0)));
         assert_eq!(recoder, Recoder::start(&[]).0);
-        assert_eq!(recoder.take(), (recoder, None));
+        assert_eq!((recoder.take(), recoder), (None, Recoder::start(&[]).0));
     }
 }
 

@@ -78,13 +78,13 @@ fn take_cases() {
             assert_eq!(recoder, Recoder::start(&[]).0);
         }
         for place in 0..case.takes {
-            let (next, digit) = recoder.take();
+            let before = recoder;
+            let digit = recoder.take();
             assert_eq!(digit, digits.get(place).copied());
             if digit.is_none() {
-                assert_eq!(next, recoder);
+                assert_eq!(recoder, before);
                 dones += 1;
             }
-            recoder = next;
         }
     }
     tally.assert_all(&[0, 1]);

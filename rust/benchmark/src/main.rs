@@ -3,7 +3,10 @@
 //! Both are release builds and are called as functions of another crate, through slices. Each round
 //! runs every job once on both sides, one after the other, so that a busy machine strikes both. The
 //! plain side is `reference`, written from the papers: no allocation, words of 64 bits, ordinary
-//! safe Rust.
+//! safe Rust. For take, whose work is as small as its call, there is a plain side that was made as
+//! fast as its author could, called and inlined (`tuned`).
+mod tuned;
+
 use lesmutka::sys;
 use reference::generate::Rng;
 use std::time::Instant;
@@ -163,6 +166,15 @@ fn plain_takes(number: &[u8]) -> u32 {
     sum
 }
 
+fn tuned_takes(number: &[u8], take: impl Fn(&mut tuned::Recoder) -> Option<u8>) -> u32 {
+    let mut recoder = tuned::Recoder::start(number);
+    let mut sum = 0;
+    while let Some(digit) = take(&mut recoder) {
+        sum += u32::from(digit);
+    }
+    sum
+}
+
 fn proved_clean(digits: &[u8], out: &mut [u8]) -> sys::Length {
     unsafe { sys::lesmutka_clean(digits.as_ptr(), digits.len(), out.as_mut_ptr(), out.len()) }
 }
@@ -208,6 +220,7 @@ fn agree(number: &[u8], string: &[u8], canonical: &[u8], longest: &[u8]) {
     let length = proved_recode(number, &mut a);
     assert_eq!(Ok(length.length), reference::recode(number, &mut b));
     assert_eq!(proved_takes(number), plain_takes(number));
+    assert_eq!(proved_takes(number), tuned_takes(number, tuned::Recoder::take));
     let length = proved_clean(string, &mut a);
     assert_eq!(Ok(length.length), reference::clean(string, &mut b));
     let value = proved_read_back(canonical, &mut a);
@@ -258,6 +271,16 @@ fn main() {
         "take, all digits",
         move |i| keep(proved_takes(&numbers[i])),
         move |i| keep(plain_takes(&numbers[i])),
+    ));
+    jobs.push(Job::new(
+        "same, plain one tuned",
+        move |i| keep(proved_takes(&numbers[i])),
+        move |i| keep(tuned_takes(&numbers[i], tuned::called)),
+    ));
+    jobs.push(Job::new(
+        "same, and inlined",
+        move |i| keep(proved_takes(&numbers[i])),
+        move |i| keep(tuned_takes(&numbers[i], tuned::Recoder::take)),
     ));
     let (mut a, mut b) = (vec![0; ROOM], vec![0; ROOM]);
     jobs.push(Job::new(

@@ -66,7 +66,7 @@ fn put_rest(out: &mut [u8], at: usize) -> usize {
     let at = put(
         out,
         at,
-        b"\nDIGITS: 0, 1 or -1 each, most significant first",
+        b"\nDIGITS: 0, 1 or -1 each, most significant first; the last has place 0",
     );
     let at = put(
         out,

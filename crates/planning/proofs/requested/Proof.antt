@@ -1,9 +1,12 @@
 -- `planning::requested` meets its contract. Assumes nothing.
+use mathlib.Core.Path.{_≡_, sym, _∙_}
+use mathlib.Core.Bool.{true, false}
 use borrow.Author.Tests.{lt-ltb, le-ltb, eq-eqb, ne-eqb}
 use lib.ListN.{length}
 use Rattle.rules.specs.Limits.{numberBytes}
 use Rattle.integers.specs.Positional.{bytesValue}
 use Rattle.integers.proofs.Positional.{significant-none, significant-some}
+use Rattle.methods.specs.Method.{isAllowed}
 use Rattle.planning.specs.Plan.{request}
 use borrow.Author.Needs.{needs}
 use Rattle.planning.proofs.requested.Statement.{statement}
@@ -33,16 +36,20 @@ is-allowed-requires c κs = search needs
 returns-3 : tie.Need-returns-3
 unfolding request
 returns-3 c =
-    let number = c .before .before .before .before .before .before .args .number .now in
+    let args = c .before .before .before .before .before .before .args in
+    let number = args .number .now in
     let n = c .before .before .before .significant in
-    rw (le-ltb numberBytes (length number) (c .before .before .before .before .if1 .left), ne-eqb (bytesValue number) 0 (significant-some number (n .result) (n .ensures) (c .before .before .if2 .left)), ← c .before .is-allowed .ensures, c .if3 .taken)
+    let allowed : isAllowed (args .method) (args .width) ≡ true = sym (c .before .is-allowed .ensures) ∙ c .if3 .taken in
+    rw (le-ltb numberBytes (length number) (c .before .before .before .before .if1 .left), ne-eqb (bytesValue number) 0 (significant-some number (n .result) (n .ensures) (c .before .before .if2 .left)), allowed)
 
 returns-4 : tie.Need-returns-4
 unfolding request
 returns-4 c =
-    let number = c .before .before .before .before .before .before .args .number .now in
+    let args = c .before .before .before .before .before .before .args in
+    let number = args .number .now in
     let n = c .before .before .before .significant in
-    rw (le-ltb numberBytes (length number) (c .before .before .before .before .if1 .left), ne-eqb (bytesValue number) 0 (significant-some number (n .result) (n .ensures) (c .before .before .if2 .left)), ← c .before .is-allowed .ensures, c .if3 .left)
+    let allowed : isAllowed (args .method) (args .width) ≡ false = sym (c .before .is-allowed .ensures) ∙ c .if3 .left in
+    rw (le-ltb numberBytes (length number) (c .before .before .before .before .if1 .left), ne-eqb (bytesValue number) 0 (significant-some number (n .result) (n .ensures) (c .before .before .if2 .left)), allowed)
 
 pub requested-spec : {M : Type 1} → statement M
 requested-spec =

@@ -1,6 +1,9 @@
 -- `lesmutka::kept::recoder_of` meets its contract. Assumes nothing.
-use lib.ListN.{getD}
+use mathlib.Core.Path.{ap}
+use Prim.Native.Nat.{ℕ, _+_}
+use lib.ListN.{take, getD}
 use Rattle.rules.specs.Limits.{numberWords}
+use Rattle.integers.specs.Positional.{wordsValue}
 use Rattle.recoding.specs.Take.{standsFor}
 use Rattle.lesmutka.specs.Kept.{keptNumber}
 use Rattle.lesmutka.proofs.Copied.{carried-from}
@@ -19,7 +22,9 @@ array-read-t7 c = search needs
 
 returns : tie.Need-returns
 unfolding standsFor keptNumber
-returns c = rw (c .words-in .ensures, carried-from (getD (c .before .args .t1) numberWords 0))
+returns c =
+    let kept = c .before .args .t1 in
+    rw (c .words-in .ensures) (ap (λ (carry : ℕ). wordsValue (take numberWords kept) + carry) (carried-from (getD kept numberWords 0)))
 
 pub recoder-of-spec : {M : Type 1} → statement M
 recoder-of-spec = tie.close (tie.spec words-in-requires array-read-t7 returns)

@@ -141,20 +141,14 @@ fn longest(number: &[u8]) -> Vec<u8> {
     plan
 }
 
-fn proved_recode(number: &[u8], out: &mut [u8]) -> sys::Length {
-    unsafe { sys::lesmutka_recode(number.as_ptr(), number.len(), out.as_mut_ptr(), out.len()) }
-}
-
 fn proved_takes(number: &[u8]) -> u32 {
     let mut recoder = sys::Recoder { words: [0; 5] };
-    unsafe { sys::lesmutka_start(number.as_ptr(), number.len(), &mut recoder) };
+    sys::start(number, &mut recoder);
     let mut sum = 0;
-    loop {
-        match unsafe { sys::lesmutka_take(&mut recoder) } {
-            sys::DONE => return sum,
-            digit => sum += digit,
-        }
+    while let Some(digit) = sys::take(&mut recoder) {
+        sum += u32::from(digit);
     }
+    sum
 }
 
 fn plain_takes(number: &[u8]) -> u32 {
@@ -175,66 +169,28 @@ fn tuned_takes(number: &[u8], take: impl Fn(&mut tuned::Recoder) -> Option<u8>) 
     sum
 }
 
-fn proved_clean(digits: &[u8], out: &mut [u8]) -> sys::Length {
-    unsafe { sys::lesmutka_clean(digits.as_ptr(), digits.len(), out.as_mut_ptr(), out.len()) }
-}
-
-fn proved_read_back(digits: &[u8], out: &mut [u8]) -> sys::Value {
-    unsafe { sys::lesmutka_read_back(digits.as_ptr(), digits.len(), out.as_mut_ptr(), out.len()) }
-}
-
-fn proved_plan(number: &[u8], method: u32, width: u32, out: &mut [u8]) -> sys::Steps {
-    unsafe {
-        sys::lesmutka_plan(
-            number.as_ptr(),
-            number.len(),
-            method,
-            width,
-            out.as_mut_ptr(),
-            out.len(),
-        )
-    }
-}
-
-fn proved_forecast(number: &[u8], method: u32, width: u32) -> sys::Steps {
-    unsafe { sys::lesmutka_forecast(number.as_ptr(), number.len(), method, width) }
-}
-
-fn proved_check(number: &[u8], plan: &[u8], space: &mut [u8]) -> sys::Steps {
-    unsafe {
-        sys::lesmutka_check(
-            number.as_ptr(),
-            number.len(),
-            plan.as_ptr(),
-            plan.len(),
-            space.as_mut_ptr(),
-            space.len(),
-        )
-    }
-}
-
 /// What is timed is done: both sides answer, and answer the same.
 fn agree(number: &[u8], string: &[u8], canonical: &[u8], longest: &[u8]) {
     let mut a = vec![0; lesmutka::work_space(lesmutka::PLAN_STEPS)];
     let mut b = a.clone();
-    let length = proved_recode(number, &mut a);
+    let length = sys::recode(number, &mut a);
     assert_eq!(Ok(length.length), reference::recode(number, &mut b));
     assert_eq!(proved_takes(number), plain_takes(number));
     assert_eq!(proved_takes(number), tuned_takes(number, tuned::Recoder::take));
-    let length = proved_clean(string, &mut a);
+    let length = sys::clean(string, &mut a);
     assert_eq!(Ok(length.length), reference::clean(string, &mut b));
-    let value = proved_read_back(canonical, &mut a);
+    let value = sys::read_back(canonical, &mut a);
     assert_eq!(
         Ok((value.sign as u8, value.length)),
         reference::read_back(canonical, &mut b)
     );
     for (_, method, width) in METHODS {
-        let forecast = proved_forecast(number, method, width);
-        assert_eq!(proved_plan(number, method, width, &mut a), forecast);
+        let forecast = sys::forecast(number, method, width);
+        assert_eq!(sys::plan(number, method, width, &mut a), forecast);
         assert_eq!(Ok(counts(forecast)), reference::plan(number, method, width, &mut b));
         assert_eq!(Ok(counts(forecast)), reference::forecast(number, method, width));
     }
-    let checked = proved_check(number, longest, &mut a);
+    let checked = sys::check(number, longest, &mut a);
     assert_eq!(Ok(counts(checked)), reference::check(number, longest, &mut b));
     assert_eq!(a, b);
 }
@@ -264,7 +220,7 @@ fn main() {
     let (mut a, mut b) = (vec![0; ROOM], vec![0; ROOM]);
     jobs.push(Job::new(
         "recode",
-        move |i| keep(proved_recode(&numbers[i], &mut a)),
+        move |i| keep(sys::recode(&numbers[i], &mut a)),
         move |i| keep(reference::recode(&numbers[i], &mut b)),
     ));
     jobs.push(Job::new(
@@ -285,32 +241,32 @@ fn main() {
     let (mut a, mut b) = (vec![0; ROOM], vec![0; ROOM]);
     jobs.push(Job::new(
         "clean, 256 digits",
-        move |i| keep(proved_clean(&strings[i], &mut a)),
+        move |i| keep(sys::clean(&strings[i], &mut a)),
         move |i| keep(reference::clean(&strings[i], &mut b)),
     ));
     let (mut a, mut b) = (vec![0; ROOM], vec![0; ROOM]);
     jobs.push(Job::new(
         "read back, the NAF",
-        move |i| keep(proved_read_back(&canonicals[i], &mut a)),
+        move |i| keep(sys::read_back(&canonicals[i], &mut a)),
         move |i| keep(reference::read_back(&canonicals[i], &mut b)),
     ));
     for (name, method, width) in METHODS {
         let (mut a, mut b) = (vec![0; ROOM], vec![0; ROOM]);
         jobs.push(Job::new(
             &format!("plan, {}", name),
-            move |i| keep(proved_plan(&numbers[i], method, width, &mut a)),
+            move |i| keep(sys::plan(&numbers[i], method, width, &mut a)),
             move |i| keep(reference::plan(&numbers[i], method, width, &mut b)),
         ));
         jobs.push(Job::new(
             &format!("forecast, {}", name),
-            move |i| keep(proved_forecast(&numbers[i], method, width)),
+            move |i| keep(sys::forecast(&numbers[i], method, width)),
             move |i| keep(reference::forecast(&numbers[i], method, width)),
         ));
     }
     let (mut a, mut b) = (vec![0; SPACE], vec![0; SPACE]);
     jobs.push(Job::new(
         "check, 640 steps",
-        move |i| keep(proved_check(&numbers[i], &longest[i], &mut a)),
+        move |i| keep(sys::check(&numbers[i], &longest[i], &mut a)),
         move |i| keep(reference::check(&numbers[i], &longest[i], &mut b)),
     ));
 

@@ -1,5 +1,5 @@
-//! The linked functions with the reference's signatures. Straight through the C boundary: nothing
-//! of the safe wrapper stands between.
+//! The linked functions with the reference's signatures, their answers taken apart field by field. Nothing of the safe
+//! wrapper stands between but the pointers and lengths of slices.
 use lesmutka::sys;
 use reference::{Counts, Refusal};
 
@@ -29,54 +29,36 @@ fn counts(steps: sys::Steps) -> Result<Counts, Refusal> {
 }
 
 pub fn recode(number: &[u8], out: &mut [u8]) -> Result<usize, Refusal> {
-    let answer = unsafe { sys::lesmutka_recode(number.as_ptr(), number.len(), out.as_mut_ptr(), out.len()) };
+    let answer = sys::recode(number, out);
     refused(answer.refusal, answer.place, &[answer.length]).map(|_| answer.length)
 }
 
 pub fn clean(digits: &[u8], out: &mut [u8]) -> Result<usize, Refusal> {
-    let answer = unsafe { sys::lesmutka_clean(digits.as_ptr(), digits.len(), out.as_mut_ptr(), out.len()) };
+    let answer = sys::clean(digits, out);
     refused(answer.refusal, answer.place, &[answer.length]).map(|_| answer.length)
 }
 
 pub fn read_back(digits: &[u8], out: &mut [u8]) -> Result<(u8, usize), Refusal> {
-    let answer = unsafe { sys::lesmutka_read_back(digits.as_ptr(), digits.len(), out.as_mut_ptr(), out.len()) };
+    let answer = sys::read_back(digits, out);
     refused(answer.refusal, answer.place, &[answer.sign, answer.length])
         .map(|_| (u8::try_from(answer.sign).expect("a sign"), answer.length))
 }
 
 pub fn plan(number: &[u8], method: u32, width: u32, out: &mut [u8]) -> Result<Counts, Refusal> {
-    counts(unsafe {
-        sys::lesmutka_plan(
-            number.as_ptr(),
-            number.len(),
-            method,
-            width,
-            out.as_mut_ptr(),
-            out.len(),
-        )
-    })
+    counts(sys::plan(number, method, width, out))
 }
 
 pub fn forecast(number: &[u8], method: u32, width: u32) -> Result<Counts, Refusal> {
-    counts(unsafe { sys::lesmutka_forecast(number.as_ptr(), number.len(), method, width) })
+    counts(sys::forecast(number, method, width))
 }
 
 pub fn check(number: &[u8], plan: &[u8], space: &mut [u8]) -> Result<Counts, Refusal> {
-    counts(unsafe {
-        sys::lesmutka_check(
-            number.as_ptr(),
-            number.len(),
-            plan.as_ptr(),
-            plan.len(),
-            space.as_mut_ptr(),
-            space.len(),
-        )
-    })
+    counts(sys::check(number, plan, space))
 }
 
 /// A recoder in memory that is lent, at the alignment of a word.
 pub fn start(number: &[u8], recoder: &mut sys::Recoder) -> Result<(), Refusal> {
-    let answer = unsafe { sys::lesmutka_start(number.as_ptr(), number.len(), recoder) };
+    let answer = sys::start(number, recoder);
     refused(answer.refusal, answer.place, &[])
 }
 

@@ -102,55 +102,55 @@ fn compare<T: PartialEq + Debug>(
     left
 }
 
-fn recode(cases: &mut Generator, rng: &mut Rng) -> Tally {
-    let mut tally = Tally::new("recode");
+/// A call that reads one slice and writes another, with the same signature on both sides.
+type Call<T> = fn(&[u8], &mut [u8]) -> Result<T, Refusal>;
+
+/// One such call on all its cases: what it reads, and how much room it has to write.
+fn calls<T: PartialEq + Debug>(
+    call: &'static str,
+    rng: &mut Rng,
+    mut next: impl FnMut() -> (Vec<u8>, usize),
+    ours: Call<T>,
+    theirs: Call<T>,
+) -> Tally {
+    let mut tally = Tally::new(call);
     for _ in 0..CASES {
-        let case = cases.recode_case();
-        let number = Lent::holding(rng, &case.number);
-        let lent = Lent::noise(rng, case.room);
+        let (input, room) = next();
+        let input = Lent::holding(rng, &input);
+        let lent = Lent::noise(rng, room);
         compare(
             &mut tally,
-            &[&number],
+            &[&input],
             &lent,
-            |out| library::recode(number.part(), out),
-            |out| reference::recode(number.part(), out),
+            |out| ours(input.part(), out),
+            |out| theirs(input.part(), out),
         );
     }
     tally
+}
+
+fn recode(cases: &mut Generator, rng: &mut Rng) -> Tally {
+    let next = || {
+        let case = cases.recode_case();
+        (case.number, case.room)
+    };
+    calls("recode", rng, next, library::recode, reference::recode)
 }
 
 fn clean(cases: &mut Generator, rng: &mut Rng) -> Tally {
-    let mut tally = Tally::new("clean");
-    for _ in 0..CASES {
+    let next = || {
         let case = cases.clean_case();
-        let digits = Lent::holding(rng, &case.digits);
-        let lent = Lent::noise(rng, case.room);
-        compare(
-            &mut tally,
-            &[&digits],
-            &lent,
-            |out| library::clean(digits.part(), out),
-            |out| reference::clean(digits.part(), out),
-        );
-    }
-    tally
+        (case.digits, case.room)
+    };
+    calls("clean", rng, next, library::clean, reference::clean)
 }
 
 fn read_back(cases: &mut Generator, rng: &mut Rng) -> Tally {
-    let mut tally = Tally::new("read back");
-    for _ in 0..CASES {
+    let next = || {
         let case = cases.read_back_case();
-        let digits = Lent::holding(rng, &case.digits);
-        let lent = Lent::noise(rng, case.room);
-        compare(
-            &mut tally,
-            &[&digits],
-            &lent,
-            |out| library::read_back(digits.part(), out),
-            |out| reference::read_back(digits.part(), out),
-        );
-    }
-    tally
+        (case.digits, case.room)
+    };
+    calls("read back", rng, next, library::read_back, reference::read_back)
 }
 
 /// Plans; each that is written goes through the library's own check, which accepts it with the

@@ -140,6 +140,12 @@ fn bytes_of(digits: &[i8]) -> &[u8] {
     unsafe { slice::from_raw_parts(digits.as_ptr().cast(), digits.len()) }
 }
 
+/// Digits as the library writes them.
+fn bytes_of_mut(digits: &mut [i8]) -> &mut [u8] {
+    // SAFETY: as in `bytes_of`, and every byte is a valid i8.
+    unsafe { slice::from_raw_parts_mut(digits.as_mut_ptr().cast(), digits.len()) }
+}
+
 fn written(answer: sys::Length) -> Result<usize, Refusal> {
     Refusal::of(answer.refusal, answer.place)?;
     Ok(answer.length)
@@ -149,28 +155,23 @@ fn written(answer: sys::Length) -> Result<usize, Refusal> {
 ///
 /// Refusals: 1, 6. [`RECODE_ROOM`] is always enough.
 pub fn recode<'a>(number: &[u8], out: &'a mut [i8]) -> Result<&'a [i8], Refusal> {
-    // SAFETY: each pointer stands for as many bytes as its length says; out is lent alone.
-    let answer = unsafe { sys::lesmutka_recode(number.as_ptr(), number.len(), out.as_mut_ptr().cast(), out.len()) };
-    Ok(&out[..written(answer)?])
+    let length = written(sys::recode(number, bytes_of_mut(out)))?;
+    Ok(&out[..length])
 }
 
 /// Writes the canonical string of a digit string's value and hands it back.
 ///
 /// Refusals: 5, 4, 6. [`CLEAN_ROOM`] is always enough.
 pub fn clean<'a>(digits: &[i8], out: &'a mut [i8]) -> Result<&'a [i8], Refusal> {
-    let digits = bytes_of(digits);
-    // SAFETY: as in `recode`.
-    let answer = unsafe { sys::lesmutka_clean(digits.as_ptr(), digits.len(), out.as_mut_ptr().cast(), out.len()) };
-    Ok(&out[..written(answer)?])
+    let length = written(sys::clean(bytes_of(digits), bytes_of_mut(out)))?;
+    Ok(&out[..length])
 }
 
 /// Reads a digit string back: writes the size of its value, and hands it back with the sign.
 ///
 /// Refusals: 5, 4, 6. [`READ_BACK_ROOM`] is always enough.
 pub fn read_back<'a>(digits: &[i8], out: &'a mut [u8]) -> Result<Value<'a>, Refusal> {
-    let digits = bytes_of(digits);
-    // SAFETY: as in `recode`.
-    let answer = unsafe { sys::lesmutka_read_back(digits.as_ptr(), digits.len(), out.as_mut_ptr(), out.len()) };
+    let answer = sys::read_back(bytes_of(digits), out);
     Refusal::of(answer.refusal, answer.place)?;
     Ok(Value {
         is_negative: answer.sign != 0,
@@ -182,18 +183,7 @@ pub fn read_back<'a>(digits: &[i8], out: &'a mut [u8]) -> Result<Value<'a>, Refu
 ///
 /// Refusals: 1, 2, 3, 6. [`PLAN_ROOM`] is always enough.
 pub fn plan<'a>(number: &[u8], method: Method, out: &'a mut [u8]) -> Result<Plan<'a>, Refusal> {
-    // SAFETY: as in `recode`.
-    let answer = unsafe {
-        sys::lesmutka_plan(
-            number.as_ptr(),
-            number.len(),
-            method.number(),
-            method.width(),
-            out.as_mut_ptr(),
-            out.len(),
-        )
-    };
-    let counts = Counts::of(answer)?;
+    let counts = Counts::of(sys::plan(number, method.number(), method.width(), out))?;
     Ok(Plan {
         bytes: &out[..STEP_BYTES * counts.total()],
         counts,
@@ -204,8 +194,7 @@ pub fn plan<'a>(number: &[u8], method: Method, out: &'a mut [u8]) -> Result<Plan
 ///
 /// Refusals: 1, 2, 3.
 pub fn forecast(number: &[u8], method: Method) -> Result<Counts, Refusal> {
-    // SAFETY: as in `recode`.
-    Counts::of(unsafe { sys::lesmutka_forecast(number.as_ptr(), number.len(), method.number(), method.width()) })
+    Counts::of(sys::forecast(number, method.number(), method.width()))
 }
 
 /// Checks a plan for a number: each step is sound, and the last value is the number. Answers the
@@ -214,17 +203,7 @@ pub fn forecast(number: &[u8], method: Method) -> Result<Counts, Refusal> {
 /// Refusals: 1, 2, 7, 8, then 9, 10 or 11 at the first step that is not sound, then 12. At 9 to 11
 /// the records below that step are filled, at 12 all.
 pub fn check(number: &[u8], plan: &[u8], space: &mut [u8]) -> Result<Counts, Refusal> {
-    // SAFETY: as in `recode`.
-    Counts::of(unsafe {
-        sys::lesmutka_check(
-            number.as_ptr(),
-            number.len(),
-            plan.as_ptr(),
-            plan.len(),
-            space.as_mut_ptr(),
-            space.len(),
-        )
-    })
+    Counts::of(sys::check(number, plan, space))
 }
 
 /// The canonical digits of a number one by one, lowest first.
@@ -240,8 +219,7 @@ pub fn digits(number: &[u8]) -> Result<Digits, Refusal> {
     let mut recoder = sys::Recoder {
         words: [0; NUMBER_BYTES / 8 + 1],
     };
-    // SAFETY: as in `recode`; the recoder is lent alone.
-    let answer = unsafe { sys::lesmutka_start(number.as_ptr(), number.len(), &mut recoder) };
+    let answer = sys::start(number, &mut recoder);
     Refusal::of(answer.refusal, answer.place)?;
     Ok(Digits { recoder })
 }
@@ -257,11 +235,7 @@ impl Iterator for Digits {
     type Item = i8;
 
     fn next(&mut self) -> Option<i8> {
-        // SAFETY: the recoder is lent alone.
-        match unsafe { sys::lesmutka_take(&mut self.recoder) } {
-            sys::DONE => None,
-            byte => Some(byte as u8 as i8),
-        }
+        sys::take(&mut self.recoder).map(|byte| byte as i8)
     }
 
     fn size_hint(&self) -> (usize, Option<usize>) {
@@ -273,6 +247,5 @@ impl FusedIterator for Digits {}
 
 /// The limits that the linked library keeps; they equal the constants of this crate.
 pub fn limits() -> sys::Limits {
-    // SAFETY: it takes nothing.
-    unsafe { sys::lesmutka_limits() }
+    sys::limits()
 }

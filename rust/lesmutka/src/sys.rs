@@ -1,7 +1,7 @@
-//! The functions of include/lesmutka.h as they are linked.
+//! The functions of include/lesmutka.h as they are linked, and each over slices and references,
+//! which keep the header's rule for pointers.
 //!
-//! [`crate`] has safe calls over all of them. Here each slice is a pointer and a length, and the
-//! caller keeps the header's rule for pointers.
+//! [`crate`] has calls over all of them with answers in Rust's own habits.
 
 /// What the start of taking answers.
 #[repr(C)]
@@ -88,4 +88,57 @@ extern "C" {
         space_length: usize,
     ) -> Steps;
     pub fn lesmutka_limits() -> Limits;
+}
+
+// SAFETY of each call below: a slice's pointer stands for as many bytes as its length says, and
+// what is written to is lent alone.
+
+/// [`lesmutka_recode`] over slices.
+pub fn recode(number: &[u8], out: &mut [u8]) -> Length {
+    unsafe { lesmutka_recode(number.as_ptr(), number.len(), out.as_mut_ptr(), out.len()) }
+}
+
+/// [`lesmutka_start`] over a slice and a reference.
+pub fn start(number: &[u8], recoder: &mut Recoder) -> Started {
+    unsafe { lesmutka_start(number.as_ptr(), number.len(), recoder) }
+}
+
+/// [`lesmutka_take`] over a reference: the byte of a digit, or none where no digit is left.
+pub fn take(recoder: &mut Recoder) -> Option<u8> {
+    match unsafe { lesmutka_take(recoder) } {
+        DONE => None,
+        byte => Some(byte as u8),
+    }
+}
+
+/// [`lesmutka_clean`] over slices.
+pub fn clean(digits: &[u8], out: &mut [u8]) -> Length {
+    unsafe { lesmutka_clean(digits.as_ptr(), digits.len(), out.as_mut_ptr(), out.len()) }
+}
+
+/// [`lesmutka_read_back`] over slices.
+pub fn read_back(digits: &[u8], out: &mut [u8]) -> Value {
+    unsafe { lesmutka_read_back(digits.as_ptr(), digits.len(), out.as_mut_ptr(), out.len()) }
+}
+
+/// [`lesmutka_plan`] over slices.
+pub fn plan(number: &[u8], method: u32, width: u32, out: &mut [u8]) -> Steps {
+    let (bytes, room) = (number.len(), out.len());
+    unsafe { lesmutka_plan(number.as_ptr(), bytes, method, width, out.as_mut_ptr(), room) }
+}
+
+/// [`lesmutka_forecast`] over a slice.
+pub fn forecast(number: &[u8], method: u32, width: u32) -> Steps {
+    unsafe { lesmutka_forecast(number.as_ptr(), number.len(), method, width) }
+}
+
+/// [`lesmutka_check`] over slices.
+pub fn check(number: &[u8], plan: &[u8], space: &mut [u8]) -> Steps {
+    let (bytes, steps, room) = (number.len(), plan.len(), space.len());
+    unsafe { lesmutka_check(number.as_ptr(), bytes, plan.as_ptr(), steps, space.as_mut_ptr(), room) }
+}
+
+/// [`lesmutka_limits`].
+pub fn limits() -> Limits {
+    unsafe { lesmutka_limits() }
 }

@@ -94,16 +94,19 @@ extern "C" {
 // what is written to is lent alone.
 
 /// [`lesmutka_recode`] over slices.
+#[inline]
 pub fn recode(number: &[u8], out: &mut [u8]) -> Length {
     unsafe { lesmutka_recode(number.as_ptr(), number.len(), out.as_mut_ptr(), out.len()) }
 }
 
 /// [`lesmutka_start`] over a slice and a reference.
+#[inline]
 pub fn start(number: &[u8], recoder: &mut Recoder) -> Started {
     unsafe { lesmutka_start(number.as_ptr(), number.len(), recoder) }
 }
 
 /// [`lesmutka_take`] over a reference: the byte of a digit, or none where no digit is left.
+#[inline]
 pub fn take(recoder: &mut Recoder) -> Option<u8> {
     match unsafe { lesmutka_take(recoder) } {
         DONE => None,
@@ -112,33 +115,39 @@ pub fn take(recoder: &mut Recoder) -> Option<u8> {
 }
 
 /// [`lesmutka_clean`] over slices.
+#[inline]
 pub fn clean(digits: &[u8], out: &mut [u8]) -> Length {
     unsafe { lesmutka_clean(digits.as_ptr(), digits.len(), out.as_mut_ptr(), out.len()) }
 }
 
 /// [`lesmutka_read_back`] over slices.
+#[inline]
 pub fn read_back(digits: &[u8], out: &mut [u8]) -> Value {
     unsafe { lesmutka_read_back(digits.as_ptr(), digits.len(), out.as_mut_ptr(), out.len()) }
 }
 
 /// [`lesmutka_plan`] over slices.
+#[inline]
 pub fn plan(number: &[u8], method: u32, width: u32, out: &mut [u8]) -> Steps {
     let (bytes, room) = (number.len(), out.len());
     unsafe { lesmutka_plan(number.as_ptr(), bytes, method, width, out.as_mut_ptr(), room) }
 }
 
 /// [`lesmutka_forecast`] over a slice.
+#[inline]
 pub fn forecast(number: &[u8], method: u32, width: u32) -> Steps {
     unsafe { lesmutka_forecast(number.as_ptr(), number.len(), method, width) }
 }
 
 /// [`lesmutka_check`] over slices.
+#[inline]
 pub fn check(number: &[u8], plan: &[u8], space: &mut [u8]) -> Steps {
     let (bytes, steps, room) = (number.len(), plan.len(), space.len());
     unsafe { lesmutka_check(number.as_ptr(), bytes, plan.as_ptr(), steps, space.as_mut_ptr(), room) }
 }
 
 /// [`lesmutka_limits`].
+#[inline]
 pub fn limits() -> Limits {
     unsafe { lesmutka_limits() }
 }

@@ -4,7 +4,9 @@
  * Recoding of a number into its non-adjacent form (NAF), cleaning and reading back of signed digit
  * strings, planning of addition-subtraction chains by four methods, and the check of such a plan.
  * Every function of the library is proved: for any bytes it returns, it touches nothing but what it
- * was lent, and its answer and every byte it leaves equal a written definition.
+ * was lent, and its answer and every byte it leaves equal a written definition. Of a recoder the
+ * definition fixes the number that it stands for, not its words: two recoders that stand for the
+ * same number may differ.
  *
  * Link with liblesmutka.a (x86-64), which `rt staticlib lesmutka` writes to target/staticlib/. It
  * needs memcpy and memset, and nothing else of its surroundings. The header is C99 and C++98.
@@ -29,7 +31,7 @@
  *              overlap any other argument. They need not be cleared before.
  *   State      Nothing is kept after a function has returned. No function allocates, and none uses
  *              memory of its own but below 2 KiB of stack, so all may be called from any number of
- *              threads.
+ *              threads, each with recoders and buffers to write of its own.
  *   Time       All numbers here are public. Nothing is promised about time.
  *
  * Refusals
@@ -99,7 +101,25 @@ enum {
     LESMUTKA_WRONG_END = 12
 };
 
-/* Methods. Width is 0 for binary and NAF, and 1 to 6 for the windows. */
+/* Methods, for a number e above zero. "Latest" is the position filled last, at first 0; "double" is
+ * add(latest, latest). The width d is 0 for binary and NAF, and 1 to 6 for the windows.
+ *
+ *   Binary            From the bit below the top bit down: double; if the bit is 1, add(latest, 0).
+ *   Fixed windows     of d bits, cut from the low end. If e is below 2^d: add(i - 1, 0) for i = 1 to
+ *                     e - 1, and no more. Otherwise the table first: add(i - 1, 0) for i = 1 to
+ *                     2^d - 2, so that value v stands at position v - 1. Latest becomes the position
+ *                     of the value of the top window. For each lower window: double d times; if its
+ *                     value v is not 0, add(latest, v - 1).
+ *   Sliding windows   of at most d bits. The table for d of 2 or more: add(0, 0), add(1, 0), then
+ *                     add(i - 1, 1) for i = 3 to 2^(d - 1). Odd v above 1 stands at position
+ *                     (v + 1) / 2, and 1 at position 0. For d = 1 there is no table. If e is odd and
+ *                     below 2^d, the table stops at e, and that is the plan. Otherwise from the top
+ *                     bit down: at a 1, the longest window of at most d bits that begins there and
+ *                     ends in 1. The first sets latest to its value's position; each later one:
+ *                     double once per bit of it, then add(latest, its position). At a 0: double.
+ *   NAF               From the canonical digit below the top down: double; for 1 add(latest, 0); for
+ *                     minus 1 subtract(latest, 0).
+ */
 enum {
     LESMUTKA_BINARY = 1,
     LESMUTKA_FIXED_WINDOWS = 2,

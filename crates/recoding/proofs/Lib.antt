@@ -1,4 +1,5 @@
 pub mod Triple
+pub mod Spread
 pub mod Count
 pub mod Outcomes
 pub mod Moves

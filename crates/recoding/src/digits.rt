@@ -8,6 +8,7 @@ ghost use mathlib.Core.List.{_++_};
 ghost use Prim.Native.Nat.{_+_, _*_, _≤_};
 ghost use lib.ListN.{length, take, drop};
 ghost use Rattle.rules.specs.Limits.{numberBytes};
+ghost use Rattle.integers.specs.Bits.{bit};
 ghost use Rattle.integers.specs.Positional.{bytesValue};
 ghost use Rattle.integers.specs.Tabulate.{tabulate};
 ghost use Rattle.recoding.specs.Recode.{recoding};
@@ -40,15 +41,33 @@ pub fn count(number: &[u8]) -> usize
     8 * (n - 1) + (63 - u64::leading_zeros(top) as usize)
 }
 
+// The eight lowest binary digits, one to a byte, four in each half of the word. Copies of four
+// digits, each seven places above the one before, do not meet, and have digit j at place 8 j.
+fn spread(word: u64) -> u64
+    ensures { λ r. ⌜ r ≡ bytesValue (tabulate (bit word) 8) ⌝ }
+{
+    let halves = word % 16 + 0x1_0000_0000 * (word / 16 % 16);
+    (0x20_4081 * halves) & 0x0101_0101_0101_0101
+}
+
+// The bytes of the differences of the eight lowest binary digits of two words. With 128 in each
+// byte none borrows from the next.
+fn differences(more: u64, less: u64) -> u64
+    ensures { λ r. ⌜ r ≡ bytesValue (tabulate (difference more less) 8) ⌝ }
+{
+    (spread(more) + 0x8080_8080_8080_8080 - spread(less)) ^ 0x8080_8080_8080_8080
+}
+
 // Writes at `at` the differences of the low `count` binary digits of two words.
 fn write_differences(out: &mut [u8], at: usize, count: usize, more: u64, less: u64)
     requires { ⌜ count ≤ 8 ⌝ }
     requires { ⌜ at + count ≤ length (now out) ⌝ }
     ensures { λ _. ⌜ now (out .exit) ≡ take at (now (out .entry)) ++ (tabulate (difference more less) count ++ drop (at + count) (now (out .entry))) ⌝ }
 {
+    let bytes = differences(more, less);
     let mut j = 0;
     while j < count {
-        out[at + j] = (((more >> j) % 2 + 255 * ((less >> j) % 2)) % 256) as u8;
+        out[at + j] = ((bytes >> (8 * j)) % 256) as u8;
         j += 1;
     }
 }

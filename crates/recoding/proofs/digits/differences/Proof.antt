@@ -1,0 +1,30 @@
+-- `recoding::digits::differences` meets its contract. Assumes nothing.
+use native.Mathlib.Omega.{arith}
+use Rattle.recoding.proofs.Spread.{fits, below, differences-are}
+use borrow.Author.Needs.{needs}
+use Rattle.recoding.proofs.digits.differences.Statement.{statement}
+use Rattle.recoding.proofs.digits.differences.Tie as tie
+use Rattle.recoding.proofs.digits.differences.Reads as reads
+use Rattle.recoding.proofs.digits.differences.Lts as lts
+use Rattle.recoding.proofs.digits.spread.Reads as spread-reads
+
+spread-requires : tie.Need-spread-requires
+spread-requires c κs = search needs
+
+add-result : tie.Need-add-result
+add-result c = omega (arith, fits (c .before .args .more) (c .before .args .less))
+
+spread-requires-2 : tie.Need-spread-requires-2
+spread-requires-2 c κs = search needs
+
+sub-result : tie.Need-sub-result
+sub-result c = omega (arith, below (c .before .before .args .more) (c .before .before .args .less))
+
+returns : tie.Need-returns
+returns c =
+    let args = c .before .before .args in
+    rw (c .before .spread .ensures, c .spread2 .ensures) (differences-are (args .more) (args .less))
+
+pub differences-spec : {M : Type 1} → statement M
+differences-spec =
+    tie.close (tie.spec spread-requires add-result spread-requires-2 sub-result returns)

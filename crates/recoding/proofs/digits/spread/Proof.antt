@@ -1,0 +1,22 @@
+-- `recoding::digits::spread` meets its contract. Assumes nothing.
+use Rattle.recoding.proofs.Spread.{spread-is}
+use borrow.Author.Needs.{needs}
+use Rattle.recoding.proofs.digits.spread.Statement.{statement}
+use Rattle.recoding.proofs.digits.spread.Tie as tie
+use Rattle.recoding.proofs.digits.spread.Reads as reads
+use Rattle.recoding.proofs.digits.spread.Lts as lts
+
+mul-halves : tie.Need-mul-halves
+mul-halves c = search needs
+
+add-halves : tie.Need-add-halves
+add-halves c = search needs
+
+mul-result : tie.Need-mul-result
+mul-result c = search needs
+
+returns : tie.Need-returns
+returns c = spread-is (c .args .word)
+
+pub spread-spec : {M : Type 1} → statement M
+spread-spec = tie.close (tie.spec mul-halves add-halves mul-result returns)

@@ -11,7 +11,7 @@ use lib.Seq.{take-suc, take-suc-set, take-set-le, take-all, getD-set-same}
 use mir.Val.{boolByte}
 use Rattle.rules.specs.Limits.{numberWords}
 use Rattle.integers.specs.Positional.{wordsValue}
-use Rattle.recoding.specs.Take.{carried}
+use Rattle.taking.specs.Take.{carried}
 use Rattle.lesmutka.specs.Kept.{carriedBy, keptNumber}
 
 -- one word more

@@ -3,11 +3,11 @@ use mathlib.Core.Path.{_≡_, refl, sym, ap, _∙_}
 use mathlib.Core.List.{List}
 use Prim.Native.Nat.{ℕ, zero, suc}
 use native.Mathlib.Omega.{arith}
-use Rattle.recoding.specs.declared.recoder.Recoder.{Recoder}
-use Rattle.recoding.specs.declared.recoder.Take.{Take}
-use Rattle.recoding.specs.declared.recoder.Take.the-variants.{Digit, Done}
-use Rattle.recoding.specs.declared.recoder.Taken.{Taken}
-use Rattle.recoding.specs.Take.{standsFor, takeAnswer, takeLeaves, IsTake}
+use Rattle.taking.specs.declared.Recoder.{Recoder}
+use Rattle.taking.specs.declared.Take.{Take}
+use Rattle.taking.specs.declared.Take.the-variants.{Digit, Done}
+use Rattle.taking.specs.declared.Taken.{Taken}
+use Rattle.taking.specs.Take.{standsFor, takeAnswer, takeLeaves, IsTake}
 use Rattle.lesmutka.specs.Kept.{keptNumber, takenNumber, IsKeptTake}
 
 -- tells done from a digit

@@ -10,8 +10,8 @@ use Rattle.signed_digits.specs.Naf.{canonical}
 use Rattle.signed_digits.specs.Bytes.{digitBytes}
 use Rattle.signed_digits.proofs.Steps.{naf-zero}
 use Rattle.recoding.specs.Recode.{recoding}
-use Rattle.recoding.specs.Take.{startNumber, digitOrDone}
-use Rattle.recoding.proofs.Takes.{digits-of, digits-after}
+use Rattle.taking.specs.Take.{startNumber, digitOrDone}
+use Rattle.taking.proofs.Takes.{digits-of, digits-after}
 use Rattle.lesmutka.specs.Kept.{keptNumber, takenNumber, doneNumber, IsKeptTake}
 
 -- the k-th answer by the canonical digits of a number

@@ -7,8 +7,8 @@ use Rattle.rules.specs.declared.Counted.{Counted}
 use Rattle.rules.specs.declared.Counted.the-variants.{Steps as Counts, Refused as NotCounted}
 use Rattle.reading.specs.declared.ReadBack.{ReadBack}
 use Rattle.reading.specs.declared.ReadBack.the-variants.{Value as Reads, Refused as NotRead}
-use Rattle.recoding.specs.declared.recoder.Start.{Start}
-use Rattle.recoding.specs.declared.recoder.Start.the-variants.{Ready, Refused as NotStarted}
+use Rattle.taking.specs.declared.Start.{Start}
+use Rattle.taking.specs.declared.Start.the-variants.{Ready, Refused as NotStarted}
 use Rattle.rules.specs.declared.Limits.{Limits as Documented}
 use Rattle.lesmutka.specs.declared.answers.Limits.{Limits}
 use Rattle.lesmutka.specs.declared.answers.Started.{Started}

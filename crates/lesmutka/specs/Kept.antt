@@ -5,9 +5,9 @@ use mathlib.Core.List.{List}
 use lib.ListN.{take, getD}
 use Rattle.rules.specs.Limits.{numberWords}
 use Rattle.integers.specs.Positional.{wordsValue}
-use Rattle.recoding.specs.declared.recoder.Take.{Take}
-use Rattle.recoding.specs.declared.recoder.Take.the-variants.{Digit, Done}
-use Rattle.recoding.specs.Take.{takeAnswer, takeLeaves}
+use Rattle.taking.specs.declared.Take.{Take}
+use Rattle.taking.specs.declared.Take.the-variants.{Digit, Done}
+use Rattle.taking.specs.Take.{takeAnswer, takeLeaves}
 
 -- the last word says whether it carries: one, unless it is 0
 abbrev pub carriedBy : ℕ → ℕ

@@ -1,9 +1,9 @@
 // The answers as C takes them: structs of numbers. A refusal is its number and place, and all else
 // is 0; where a call is not refused, both are 0.
 use reading::ReadBack;
-use recoding::recoder::Start;
 use rules::Counted;
 use rules::Written;
+use taking::Start;
 ghost use mathlib.Core.Path.{_≡_};
 ghost use Rattle.lesmutka.specs.Answers.{startedFields, writtenFields, readFields, countedFields, limitFields};
 

@@ -1,10 +1,10 @@
 // A recoder as C keeps it: the words of a `Recoder`, then one that is not 0 where it carries.
-use recoding::recoder::Recoder;
 use rules::NUMBER_WORDS;
+use taking::Recoder;
 ghost use mathlib.Core.Path.{_≡_};
 ghost use lib.ListN.{take};
 ghost use Rattle.rules.specs.Limits.{numberWords};
-ghost use Rattle.recoding.specs.Take.{standsFor};
+ghost use Rattle.taking.specs.Take.{standsFor};
 ghost use Rattle.lesmutka.specs.Kept.{keptNumber};
 
 pub const KEPT_WORDS: usize = NUMBER_WORDS + 1;

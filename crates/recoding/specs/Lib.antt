@@ -1,3 +1,2 @@
 pub mod Recode
-pub mod Take
 pub mod Internal

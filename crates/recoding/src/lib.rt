@@ -1,6 +1,5 @@
-// Recoding a number into its canonical string, the non-adjacent form: whole, or a digit at a time.
+// Recoding a number into its canonical string, the non-adjacent form.
 mod digits;
-pub mod recoder;
 
 use rules::NUMBER_BYTES;
 use rules::Refusal;

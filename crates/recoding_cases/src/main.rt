@@ -1,6 +1,6 @@
 // Runs recode and take on document 01's numbers to try by hand, and on the table of source document
 // 004. Each number is recoded whole and taken digit by digit, and the two are compared.
-mod taking;
+mod takes;
 
 use case_printing::noise;
 use case_printing::show;
@@ -24,7 +24,7 @@ fn main() {
     exact_buffer();
     long_buffer();
     print(b"3, taken five times, lowest first:");
-    taking::take_line(&[3], 5);
+    takes::take_line(&[3], 5);
     print(b"Source document 004, table, column NAF\n");
     table();
 }
@@ -77,7 +77,7 @@ fn too_long() {
     recode_line(&zero, &mut out);
     print_count(NUMBER_BYTES + 1);
     print(b" bytes 00, start of taking:");
-    taking::start_line(&zero);
+    takes::start_line(&zero);
     let large = [255u8; NUMBER_BYTES + 1];
     print_count(NUMBER_BYTES + 1);
     print(b" bytes FF into no bytes");
@@ -130,7 +130,7 @@ fn recode_case(number: &[u8], out: &mut [u8]) -> usize {
     match recode(number, out) {
         Written::Length(length) => {
             show::print_string(front(out, length));
-            taking::print_compared(number, front(out, length));
+            takes::print_compared(number, front(out, length));
             length
         }
         Written::Refused(refusal) => {

@@ -8,7 +8,7 @@ use Rattle.lesmutka.proofs.lesmutka_start.Reads as reads
 use Rattle.lesmutka.proofs.lesmutka_start.Lts as lts
 use Rattle.lesmutka.proofs.answers.of_start.Reads as of-start-reads
 use Rattle.lesmutka.proofs.kept.kept_of.Reads as kept-of-reads
-use Rattle.recoding.proofs.recoder.Recoder.start.Reads as start-reads
+use Rattle.taking.proofs.Recoder.start.Reads as start-reads
 
 start-requires : tie.Need-start-requires
 start-requires c κs = search needs

@@ -7,7 +7,7 @@ use Rattle.lesmutka.proofs.lesmutka_take.Reads as reads
 use Rattle.lesmutka.proofs.lesmutka_take.Lts as lts
 use Rattle.lesmutka.proofs.kept.kept_of.Reads as kept-of-reads
 use Rattle.lesmutka.proofs.kept.recoder_of.Reads as recoder-of-reads
-use Rattle.recoding.proofs.recoder.Recoder.take.Reads as take-reads
+use Rattle.taking.proofs.Recoder.take.Reads as take-reads
 
 recoder-of-requires : tie.Need-recoder-of-requires
 recoder-of-requires c κs = search needs

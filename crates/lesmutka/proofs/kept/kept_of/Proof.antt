@@ -4,7 +4,7 @@ use Prim.Native.Nat.{_+_, _-_, _≤_}
 use native.Mathlib.Omega.{arith}
 use lib.ListN.{length, take}
 use Rattle.rules.specs.Limits.{numberWords}
-use Rattle.recoding.specs.Take.{standsFor}
+use Rattle.taking.specs.Take.{standsFor}
 use Rattle.lesmutka.proofs.Copied.{copied-more, stored}
 use borrow.Author.Needs.{needs}
 use Rattle.lesmutka.proofs.kept.kept_of.Statement.{statement}

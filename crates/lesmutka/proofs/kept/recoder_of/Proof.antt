@@ -4,7 +4,7 @@ use Prim.Native.Nat.{ℕ, _+_}
 use lib.ListN.{take, getD}
 use Rattle.rules.specs.Limits.{numberWords}
 use Rattle.integers.specs.Positional.{wordsValue}
-use Rattle.recoding.specs.Take.{standsFor}
+use Rattle.taking.specs.Take.{standsFor}
 use Rattle.lesmutka.specs.Kept.{keptNumber}
 use Rattle.lesmutka.proofs.Copied.{carried-from}
 use borrow.Author.Needs.{needs}

@@ -146,7 +146,7 @@ static void refusals(void) {
     EXPECT(steps.refusal == LESMUTKA_WORK_SPACE_TOO_SHORT && steps.place == 0);
     plan[0] = 2;
     steps = lesmutka_check(one, 1, plan, LESMUTKA_STEP_BYTES, space, LESMUTKA_WORK_SPACE(1));
-    EXPECT(steps.refusal == LESMUTKA_STEP_UNSOUND && steps.place == 1);
+    EXPECT(steps.refusal == LESMUTKA_MALFORMED_STEP && steps.place == 1);
     plan[0] = 1;
     steps = lesmutka_check(one, 1, plan, LESMUTKA_STEP_BYTES, space, LESMUTKA_WORK_SPACE(1));
     EXPECT(steps.refusal == LESMUTKA_VALUE_IS_ZERO && steps.place == 1);

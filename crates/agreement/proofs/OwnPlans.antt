@@ -9,7 +9,7 @@ use native.Mathlib.Omega.{arith}
 use lib.ListN.{length}
 use Rattle.rules.specs.Limits.{numberBytes, planSteps}
 use Rattle.rules.specs.declared.Counted.the-variants.{Steps}
-use Rattle.rules.specs.declared.Verdict.the-variants.{Fine}
+use Rattle.rules.specs.declared.Verdict.the-variants.{Passed}
 use Rattle.rules.proofs.Fitted.{fits}
 use Rattle.integers.specs.Positional.{bytesValue}
 use Rattle.integers.proofs.Positional.{Below}
@@ -38,7 +38,7 @@ module _ (number : List ℕ) (bytes : Below 256 number) (short : length number �
   pub few-steps : length steps ≤ planSteps
   few-steps = fit .few
 
-  fine : request number method width ≡ Fine
+  fine : request number method width ≡ Passed
   unfolding request
   fine = rw (le-ltb numberBytes (length number) short, ne-eqb (bytesValue number) 0 nonzero, may)
 
@@ -51,7 +51,7 @@ module _ (number : List ℕ) (bytes : Below 256 number) (short : length number �
 
   -- the plan read back is those steps
   pub read-steps : stepsOf plan ≡ steps
-  read-steps = steps-of-plan steps (λ n h. let s = fit .made .sound .named n h in record { first = omega (arith, s .first, few-steps); second = omega (arith, s .second, few-steps) })
+  read-steps = steps-of-plan steps (λ n h. let s = fit .made .sound .formed n h in record { first = omega (arith, s .first, few-steps); second = omega (arith, s .second, few-steps) })
 
   -- given work space enough, check accepts it with the same counts
   pub accepted : (room : ℕ) → roomFor (length plan) ≤ room → checkAnswer number plan room ≡ Steps (countsOf steps)

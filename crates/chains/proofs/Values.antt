@@ -9,7 +9,7 @@ use lib.ListN.{length, take, drop, length-append, List·getD-append, take-append
 use lib.Seq.{length-take-le, take-all, take-length, take-take, take-append-seam, take-suc, getD-take, getD-at}
 use Rattle.chains.specs.Steps.{Step, add}
 use Rattle.chains.specs.Values.{at, stepValue, extend, start, valuesOf}
-use Rattle.chains.specs.Sound.{stepAt, Named}
+use Rattle.chains.specs.Sound.{stepAt, WellFormed}
 
 -- ---- from any values on
 
@@ -36,7 +36,7 @@ pub extend-keeps : (values : List ℤ) (steps : List Step) (i : ℕ) → i < len
 extend-keeps values steps i h = sym (getD-take (length values) (extend values steps) i (pos 0) h) ∙ ap (λ (l : List ℤ). at l i) (extend-prefix values steps)
 
 -- a step that names positions below its own reads nothing above them
-pub step-value-more : (values more : List ℤ) (s : Step) → Named (length values) s → stepValue values s ≡ stepValue (values ++ more) s
+pub step-value-more : (values more : List ℤ) (s : Step) → WellFormed (length values) s → stepValue values s ≡ stepValue (values ++ more) s
 unfolding stepValue
 step-value-more values more s n = rw (List·getD-append values more (pos 0) (s .first) (n .first), List·getD-append values more (pos 0) (s .second) (n .second))
 

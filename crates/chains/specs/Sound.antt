@@ -13,16 +13,16 @@ abbrev pub stepAt : List Step → ℕ → Step
 stepAt steps n = getD steps n (add 0 0)
 
 -- the operation is known, and both positions are below the step's own
-pub record Named (i : ℕ) (s : Step) : Type 0 where
+pub record WellFormed (i : ℕ) (s : Step) : Type 0 where
   pub operation : s .operation ≤ subtracting
   pub first : s .first < i
   pub second : s .second < i
 
 -- a value that has a form as a point: not zero, which is the point at infinity, and of size below the bound
-pub record Held (z : ℤ) : Type 0 where
+pub record Representable (z : ℤ) : Type 0 where
   pub nonzero : z ≢ pos 0
   pub small : natAbs z < valueBound
 
 pub record Sound (steps : List Step) : Type 0 where
-  pub named : (n : ℕ) → n < length steps → Named (suc n) (stepAt steps n)
-  pub held : (n : ℕ) → n < length steps → Held (at (valuesOf steps) (suc n))
+  pub formed : (n : ℕ) → n < length steps → WellFormed (suc n) (stepAt steps n)
+  pub representable : (n : ℕ) → n < length steps → Representable (at (valuesOf steps) (suc n))

@@ -11,7 +11,7 @@ use Rattle.rules.specs.Limits.{numberBytes, stepBytes, planSteps}
 use Rattle.rules.specs.declared.Refusal.the-variants.{NumberTooLong, NumberIsZero, PlanLength, WorkSpaceTooShort}
 use Rattle.integers.specs.Positional.{bytesValue}
 use Rattle.rules.specs.declared.Verdict.{Verdict}
-use Rattle.rules.specs.declared.Verdict.the-variants.{Fine, No}
+use Rattle.rules.specs.declared.Verdict.the-variants.{Passed, Failed}
 use Rattle.checking.specs.Check.{roomFor, admission}
 
 -- none of 1, 2, 7 and 8
@@ -23,19 +23,19 @@ pub record Admitted (number plan : List ℕ) (room : ℕ) : Type 0 where
   pub fits : roomFor (length plan) ≤ room
 
 -- a plan that is both too long and no whole number of steps
-either : (t : Bool) → cond t (No PlanLength) (No PlanLength) ≡ No PlanLength
+either : (t : Bool) → cond t (Failed PlanLength) (Failed PlanLength) ≡ Failed PlanLength
 either true = refl
 either false = refl
 
 module _ (number plan : List ℕ) (room : ℕ) where
   -- what the tests before the steps come to
   pub data Admits : Verdict → Type 0 where
-    number-too-long : numberBytes < length number → Admits (No NumberTooLong)
-    number-is-zero : length number ≤ numberBytes → bytesValue number ≡ 0 → Admits (No NumberIsZero)
-    plan-length : length number ≤ numberBytes → bytesValue number ≢ 0 → (length plan % stepBytes ≢ 0) ⊎ (stepBytes * planSteps < length plan) → Admits (No PlanLength)
+    number-too-long : numberBytes < length number → Admits (Failed NumberTooLong)
+    number-is-zero : length number ≤ numberBytes → bytesValue number ≡ 0 → Admits (Failed NumberIsZero)
+    plan-length : length number ≤ numberBytes → bytesValue number ≢ 0 → (length plan % stepBytes ≢ 0) ⊎ (stepBytes * planSteps < length plan) → Admits (Failed PlanLength)
     space-too-short : length number ≤ numberBytes → bytesValue number ≢ 0 → length plan % stepBytes ≡ 0 → length plan ≤ stepBytes * planSteps → room < roomFor (length plan)
-        → Admits (No WorkSpaceTooShort)
-    admitted : Admitted number plan room → Admits Fine
+        → Admits (Failed WorkSpaceTooShort)
+    admitted : Admitted number plan room → Admits Passed
 
   pub admits : Admits (admission number (length plan) room)
   unfolding admission
@@ -62,8 +62,8 @@ module _ (number plan : List ℕ) (room : ℕ) where
   admits-only (space-too-short h n w f l) = rw (le-ltb _ _ h, ne-eqb _ _ n, eq-eqb _ _ w, le-ltb _ _ f, lt-ltb _ _ l)
   admits-only (admitted a) = rw (le-ltb _ _ (a .short), ne-eqb _ _ (a .nonzero), eq-eqb _ _ (a .whole), le-ltb _ _ (a .few), le-ltb _ _ (a .fits))
 
-  pub admitted-is : admission number (length plan) room ≡ Fine ↔ Admitted number plan room
+  pub admitted-is : admission number (length plan) room ≡ Passed ↔ Admitted number plan room
   admitted-is = (λ e. to (rw e at admits), λ a. admits-only (admitted a))
     where
-      to : Admits Fine → Admitted number plan room
+      to : Admits Passed → Admitted number plan room
       to (admitted a) = a

@@ -11,7 +11,7 @@ use Rattle.rules.specs.declared.Counts.{Counts}
 use Rattle.rules.specs.declared.Counted.{Counted}
 use Rattle.rules.specs.declared.Counted.the-variants.{Steps, Refused}
 use Rattle.rules.specs.declared.Verdict.{Verdict}
-use Rattle.rules.specs.declared.Verdict.the-variants.{Fine, No}
+use Rattle.rules.specs.declared.Verdict.the-variants.{Passed, Failed}
 use Rattle.chains.specs.Steps.{stepsOf}
 use Rattle.chains.specs.Counts.{countsOf}
 use Rattle.chains.proofs.Values.{length-values}
@@ -20,13 +20,13 @@ use Rattle.checking.specs.Check.{judged, stepsAnswer}
 use Rattle.checking.specs.WorkSpace.{Recording, EndChecked}
 use Rattle.checking.proofs.Judge.{judge-values}
 
-was-refused : (v : Verdict) (c : Counts) (x : Refusal) → Refused x ≡ unlessRefused v (Steps c) → v ≡ No x
-was-refused Fine c x e = cc
-was-refused (No y) c x e = cc
+was-refused : (v : Verdict) (c : Counts) (x : Refusal) → Refused x ≡ unlessRefused v (Steps c) → v ≡ Failed x
+was-refused Passed c x e = cc
+was-refused (Failed y) c x e = cc
 
-was-fine : (v : Verdict) (c d : Counts) → Steps d ≡ unlessRefused v (Steps c) → (v ≡ Fine) × (d ≡ c)
-was-fine Fine c d e = (refl, cc)
-was-fine (No y) c d e = (cc, cc)
+was-fine : (v : Verdict) (c d : Counts) → Steps d ≡ unlessRefused v (Steps c) → (v ≡ Passed) × (d ≡ c)
+was-fine Passed c d e = (refl, cc)
+was-fine (Failed y) c d e = (cc, cc)
 
 module _ (number plan : List ℕ) (r : Counted) (came : r ≡ unlessRefused (judged plan .verdict) (Steps (countsOf (stepsOf plan)))) where
   pub stopped : (x : Refusal) → r ≡ Refused x → Refused x ≡ stepsAnswer number plan

@@ -15,15 +15,15 @@ use Rattle.rules.specs.Outcome.{Outcome, refused, answered, countedOutcome}
 use Rattle.integers.specs.Positional.{bytesValue}
 use Rattle.chains.specs.Steps.{Step, stepsOf}
 use Rattle.chains.specs.Values.{at, start, valuesOf, endOf}
-use Rattle.chains.specs.Sound.{stepAt, Named, Sound}
+use Rattle.chains.specs.Sound.{stepAt, WellFormed, Sound}
 use Rattle.chains.specs.Counts.{countsOf}
 use Rattle.chains.proofs.Records.{length-records}
 use Rattle.rules.specs.declared.Verdict.{Verdict}
-use Rattle.rules.specs.declared.Verdict.the-variants.{No}
+use Rattle.rules.specs.declared.Verdict.the-variants.{Failed}
 use Rattle.checking.specs.Check.{roomFor, admission, Judged, judge, judged, ended, stepsAnswer, checkAnswer, checkSpace}
 use Rattle.checking.specs.WorkSpace.{recorded}
 use Rattle.checking.proofs.Admission.{Admitted, Admits, number-too-long, number-is-zero, plan-length, space-too-short, admitted, admits, admits-only}
-use Rattle.checking.proofs.Judge.{Tested, unsound, value-is-zero, value-too-large, SoundTo, Judges, sound, stops, judges, judges-only, same-true, same-false}
+use Rattle.checking.proofs.Judge.{Tested, malformed, value-is-zero, value-too-large, SoundTo, Judges, sound, stops, judges, judges-only, same-true, same-false}
 
 -- step i is the first that is not sound: the steps before it are, and this is wrong with it
 pub record FirstAt (steps : List Step) (i : ℕ) (Wrong : Step → ℤ → Type 0) : Type 0 where
@@ -39,7 +39,7 @@ first {n = n} h b w = record { before = n; place = refl; within = h; earlier = b
 
 -- judging stops there, with the values of the positions below i
 first-judged : {steps : List Step} {i : ℕ} {Wrong : Step → ℤ → Type 0} {r : Refusal} (f : FirstAt steps i Wrong)
-    → Tested i (stepAt steps (f .before)) (at (valuesOf steps) i) (No r) → judge start steps ≡ record { verdict = No r; values = take i (valuesOf steps) }
+    → Tested i (stepAt steps (f .before)) (at (valuesOf steps) i) (Failed r) → judge start steps ≡ record { verdict = Failed r; values = take i (valuesOf steps) }
 first-judged {steps} f t = rw (f .place) (judges-only steps (stops (f .within) (f .earlier) (rw (f .place) at t)))
 
 -- ---- each refusal is given exactly when the rules say, and no other
@@ -51,13 +51,13 @@ module _ (number plan : List ℕ) (room : ℕ) where
 
   -- each outcome, with what led there
   pub data Given : Outcome → Type 0 where
-    one : Admits number plan room (No NumberTooLong) → Given (refused 1 0)
-    two : Admits number plan room (No NumberIsZero) → Given (refused 2 0)
-    seven : Admits number plan room (No PlanLength) → Given (refused 7 0)
-    eight : Admits number plan room (No WorkSpaceTooShort) → Given (refused 8 0)
-    nine : {i : ℕ} → Admitted number plan room → FirstAt (stepsOf plan) i (λ s z. Named i s → ⊥) → Given (refused 9 i)
-    ten : {i : ℕ} → Admitted number plan room → FirstAt (stepsOf plan) i (λ s z. Named i s × (z ≡ pos 0)) → Given (refused 10 i)
-    eleven : {i : ℕ} → Admitted number plan room → FirstAt (stepsOf plan) i (λ s z. Named i s × (valueBound ≤ natAbs z)) → Given (refused 11 i)
+    one : Admits number plan room (Failed NumberTooLong) → Given (refused 1 0)
+    two : Admits number plan room (Failed NumberIsZero) → Given (refused 2 0)
+    seven : Admits number plan room (Failed PlanLength) → Given (refused 7 0)
+    eight : Admits number plan room (Failed WorkSpaceTooShort) → Given (refused 8 0)
+    nine : {i : ℕ} → Admitted number plan room → FirstAt (stepsOf plan) i (λ s z. WellFormed i s → ⊥) → Given (refused 9 i)
+    ten : {i : ℕ} → Admitted number plan room → FirstAt (stepsOf plan) i (λ s z. WellFormed i s × (z ≡ pos 0)) → Given (refused 10 i)
+    eleven : {i : ℕ} → Admitted number plan room → FirstAt (stepsOf plan) i (λ s z. WellFormed i s × (valueBound ≤ natAbs z)) → Given (refused 11 i)
     twelve : {i : ℕ} → Admitted number plan room → Sound (stepsOf plan) → i ≡ length (stepsOf plan) → endOf (stepsOf plan) ≢ pos (bytesValue number)
         → Given (refused 12 i)
     accepted : {vs : List ℕ} → Admitted number plan room → Sound (stepsOf plan) → endOf (stepsOf plan) ≡ pos (bytesValue number)
@@ -70,7 +70,7 @@ module _ (number plan : List ℕ) (room : ℕ) where
   answer-is a e = rw (admits-only number plan room (admitted a), e)
 
   refused-first : {i : ℕ} {Wrong : Step → ℤ → Type 0} {r : Refusal} → Admitted number plan room → (f : FirstAt (stepsOf plan) i Wrong)
-      → Tested i (stepAt (stepsOf plan) (f .before)) (at (valuesOf (stepsOf plan)) i) (No r) → outcome ≡ countedOutcome (Refused r)
+      → Tested i (stepAt (stepsOf plan) (f .before)) (at (valuesOf (stepsOf plan)) i) (Failed r) → outcome ≡ countedOutcome (Refused r)
   refused-first a f t = ap countedOutcome (answer-is a (first-judged f t))
 
   wrong-end : Admitted number plan room → Sound (stepsOf plan) → endOf (stepsOf plan) ≢ pos (bytesValue number) → outcome ≡ refused 12 (length (stepsOf plan))
@@ -85,7 +85,7 @@ module _ (number plan : List ℕ) (room : ℕ) where
   given-only (two t) = rw (admits-only number plan room t)
   given-only (seven t) = rw (admits-only number plan room t)
   given-only (eight t) = rw (admits-only number plan room t)
-  given-only (nine a f) = refused-first a f (unsound (f .wrong))
+  given-only (nine a f) = refused-first a f (malformed (f .wrong))
   given-only (ten a f) = refused-first a f (value-is-zero (f .wrong .0) (f .wrong .1))
   given-only (eleven a f) = refused-first a f (value-too-large (f .wrong .0) (f .wrong .1))
   given-only (twelve a s e d) = rw e (wrong-end a s d)
@@ -97,7 +97,7 @@ module _ (number plan : List ℕ) (room : ℕ) where
       go : Dec (endOf (stepsOf plan) ≡ pos (bytesValue number)) → Given outcome
       go (yes q) = rw (right-end a s q) (accepted a s q refl)
       go (no d) = rw (wrong-end a s d) (twelve a s refl d)
-  given-steps a (stops h b (unsound x)) e = rw (answer-is a e) (nine a (first h b x))
+  given-steps a (stops h b (malformed x)) e = rw (answer-is a e) (nine a (first h b x))
   given-steps a (stops h b (value-is-zero x z)) e = rw (answer-is a e) (ten a (first h b (x, z)))
   given-steps a (stops h b (value-too-large x l)) e = rw (answer-is a e) (eleven a (first h b (x, l)))
 
@@ -134,15 +134,15 @@ module _ (number plan : List ℕ) (room : ℕ) where
       (λ e. elim (given e) [ eight (space-too-short h n w f l) ↦ (h, n, w, f, l) ], λ h. given-only (eight (space-too-short (h .0) (h .1) (h .2) (h .3) (h .4))))
 
   -- 9, place i: unknown operation, or j or k not below i
-  pub refuses-9 : (i : ℕ) → outcome ≡ refused 9 i ↔ Admitted number plan room × FirstAt (stepsOf plan) i (λ s z. Named i s → ⊥)
+  pub refuses-9 : (i : ℕ) → outcome ≡ refused 9 i ↔ Admitted number plan room × FirstAt (stepsOf plan) i (λ s z. WellFormed i s → ⊥)
   refuses-9 i = (λ e. elim (given e) [ nine a f ↦ (a, f) ], λ h. given-only (nine (h .0) (h .1)))
 
   -- 10, place i: the value at step i is zero
-  pub refuses-10 : (i : ℕ) → outcome ≡ refused 10 i ↔ Admitted number plan room × FirstAt (stepsOf plan) i (λ s z. Named i s × (z ≡ pos 0))
+  pub refuses-10 : (i : ℕ) → outcome ≡ refused 10 i ↔ Admitted number plan room × FirstAt (stepsOf plan) i (λ s z. WellFormed i s × (z ≡ pos 0))
   refuses-10 i = (λ e. elim (given e) [ ten a f ↦ (a, f) ], λ h. given-only (ten (h .0) (h .1)))
 
   -- 11, place i: the value at step i has the size of the bound or more
-  pub refuses-11 : (i : ℕ) → outcome ≡ refused 11 i ↔ Admitted number plan room × FirstAt (stepsOf plan) i (λ s z. Named i s × (valueBound ≤ natAbs z))
+  pub refuses-11 : (i : ℕ) → outcome ≡ refused 11 i ↔ Admitted number plan room × FirstAt (stepsOf plan) i (λ s z. WellFormed i s × (valueBound ≤ natAbs z))
   refuses-11 i = (λ e. elim (given e) [ eleven a f ↦ (a, f) ], λ h. given-only (eleven (h .0) (h .1)))
 
   -- 12, place r: all steps sound, a(r) is not the number
@@ -159,7 +159,7 @@ module _ (number plan : List ℕ) (room : ℕ) where
 -- ---- memory
 
 module _ (number plan space : List ℕ) where
-  pub untouched : {r : Refusal} → admission number (length plan) (length space) ≡ No r → checkSpace number plan space ≡ space
+  pub untouched : {r : Refusal} → admission number (length plan) (length space) ≡ Failed r → checkSpace number plan space ≡ space
   untouched e = rw e
 
   pub filled : Admitted number plan (length space) → {j : Judged} → judge start (stepsOf plan) ≡ j → checkSpace number plan space ≡ recorded (j .values) space
@@ -190,7 +190,7 @@ module _ (number plan space : List ℕ) where
       to (two t) l h = absurd (omega arith)
       to (seven t) l h = absurd (omega arith)
       to (eight t) l h = absurd (omega arith)
-      to (nine a f) l h = filled a (first-judged f (unsound (f .wrong)))
+      to (nine a f) l h = filled a (first-judged f (malformed (f .wrong)))
       to (ten a f) l h = filled a (first-judged f (value-is-zero (f .wrong .0) (f .wrong .1)))
       to (eleven a f) l h = filled a (first-judged f (value-too-large (f .wrong .0) (f .wrong .1)))
       to (twelve a s q d) l h = absurd (omega arith)

@@ -11,7 +11,7 @@ use Rattle.rules.specs.declared.Refusal.{Refusal}
 use Rattle.rules.specs.declared.Counted.{Counted}
 use Rattle.rules.specs.declared.Counted.the-variants.{Refused}
 use Rattle.rules.specs.declared.Verdict.{Verdict}
-use Rattle.rules.specs.declared.Verdict.the-variants.{Fine, No}
+use Rattle.rules.specs.declared.Verdict.the-variants.{Passed, Failed}
 use Rattle.chains.specs.Steps.{Step, readStep, stepsOf}
 use Rattle.chains.specs.Values.{start, stepValue, valuesOf}
 use Rattle.chains.specs.Sound.{stepAt}
@@ -51,7 +51,7 @@ module _ (plan lent here : List ℕ) (n : ℕ) (u : Underway plan lent here n) w
         rw same at (checked lent (valuesAfter (stepsOf plan) n) (rw add-one (length-after (stepsOf plan) n (omega (arith, within)))) (u .recording))
 
     -- it is fine
-    pub underway-next : r ≡ Fine → Underway plan lent next (n + 1)
+    pub underway-next : r ≡ Passed → Underway plan lent next (n + 1)
     underway-next e =
         rw add-one
         (record {
@@ -60,12 +60,12 @@ module _ (plan lent here : List ℕ) (n : ℕ) (u : Underway plan lent here n) w
         })
 
     -- it is not
-    pub underway-stop : (x : Refusal) (all : Counted) → r ≡ No x → Comes plan lent next all (Refused x)
+    pub underway-stop : (x : Refusal) (all : Counted) → r ≡ Failed x → Comes plan lent next all (Refused x)
     underway-stop x all e =
-        comes plan lent next all (record { verdict = No x; values = valuesAfter (stepsOf plan) n }) (u .rest ∙ judge-stop (stepsOf plan) n within (sym (tested .0) ∙ e)) (rw e at (tested .1))
+        comes plan lent next all (record { verdict = Failed x; values = valuesAfter (stepsOf plan) n }) (u .rest ∙ judge-stop (stepsOf plan) n within (sym (tested .0) ∙ e)) (rw e at (tested .1))
 
   -- after the last
   pub underway-end : (all : Counted) → n ≡ length plan / stepBytes → Comes plan lent here all all
   underway-end all e =
       let f : n ≡ length (stepsOf plan) = e ∙ sym (length-steps plan) in
-      comes plan lent here all (record { verdict = Fine; values = valuesOf (stepsOf plan) }) (u .rest ∙ rw f (judge-end (stepsOf plan))) (rw (← after-all (stepsOf plan), ← f) (u .recording))
+      comes plan lent here all (record { verdict = Passed; values = valuesOf (stepsOf plan) }) (u .rest ∙ rw f (judge-end (stepsOf plan))) (rw (← after-all (stepsOf plan), ← f) (u .recording))

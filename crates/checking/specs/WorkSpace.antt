@@ -11,17 +11,17 @@ use Rattle.rules.specs.declared.Counts.{Counts}
 use Rattle.rules.specs.declared.Counted.{Counted}
 use Rattle.rules.specs.declared.Counted.the-variants.{Steps, Refused}
 use Rattle.rules.specs.declared.Verdict.{Verdict}
-use Rattle.rules.specs.declared.Verdict.the-variants.{Fine, No}
+use Rattle.rules.specs.declared.Verdict.the-variants.{Passed, Failed}
 use Rattle.integers.specs.Positional.{bytesValue}
 use Rattle.chains.specs.Steps.{Step}
 use Rattle.chains.specs.Values.{at, stepValue}
 use Rattle.chains.specs.Records.{recordsOf}
-use Rattle.checking.specs.declared.Step.{Step as HeldStep}
+use Rattle.checking.specs.declared.Step.{Step as StepFields}
 use Rattle.checking.specs.Check.{stepVerdict, isSame}
 
 -- the step that the checker holds
-abbrev pub stepOf : HeldStep → Step
-stepOf s = record { operation = s .operation; first = s .first; second = s .second }
+abbrev pub asStep : StepFields → Step
+asStep s = record { operation = s .operation; first = s .first; second = s .second }
 
 -- how many steps are counted
 abbrev pub stepsIn : Counts → ℕ
@@ -38,8 +38,8 @@ pub record Recording (lent here : List ℕ) (values : List ℤ) : Type 0 where
 
 -- a step that is fine fills the next position, and any other none
 abbrev pub grown : Verdict → List ℤ → ℤ → List ℤ
-grown Fine values z = values ++ (z ∷ [])
-grown (No r) values z = values
+grown Passed values z = values ++ (z ∷ [])
+grown (Failed r) values z = values
 
 -- the verdict on the step after n others, and the work space before and after it, whatever values are recorded by then
 abbrev pub StepChecked : Step → ℕ → List ℕ → List ℕ → Verdict → Type 0

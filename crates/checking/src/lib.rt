@@ -26,35 +26,35 @@ ghost use lib.ListN.{length, take, drop};
 ghost use Rattle.rules.specs.Limits.{numberBytes, stepBytes, recordBytes};
 ghost use Rattle.rules.specs.Outcome.{unlessRefused};
 ghost use Rattle.rules.specs.declared.Counted.the-variants.{Steps};
-ghost use Rattle.rules.specs.declared.Verdict.the-variants.{Fine};
+ghost use Rattle.rules.specs.declared.Verdict.the-variants.{Passed};
 ghost use Rattle.integers.specs.Positional.{bytesValue};
 ghost use Rattle.records.specs.Value.{integerOf};
 ghost use Rattle.chains.specs.Steps.{readStep, stepsOf};
 ghost use Rattle.chains.specs.Values.{start};
 ghost use Rattle.chains.specs.Counts.{stepCounts, plus, countsOf};
 ghost use Rattle.checking.specs.Check.{roomFor, admission, judged, isSame, stepsAnswer, checkAnswer, checkSpace};
-ghost use Rattle.checking.specs.WorkSpace.{stepOf, stepsIn, Recording, StepChecked, EndChecked};
+ghost use Rattle.checking.specs.WorkSpace.{asStep, stepsIn, Recording, StepChecked, EndChecked};
 
 // The tests before the steps: refusals 1, 2, 7 and 8.
 pub fn admit(number: &[u8], plan_length: usize, room: usize) -> Verdict
     ensures { λ r. ⌜ r ≡ admission (now (number .entry)) «plan_length» room ⌝ }
 {
     if NUMBER_BYTES < number.len() {
-        return Verdict::No(Refusal::NumberTooLong);
+        return Verdict::Failed(Refusal::NumberTooLong);
     }
     if significant(number) == 0 {
-        return Verdict::No(Refusal::NumberIsZero);
+        return Verdict::Failed(Refusal::NumberIsZero);
     }
     if plan_length % STEP_BYTES != 0 {
-        return Verdict::No(Refusal::PlanLength);
+        return Verdict::Failed(Refusal::PlanLength);
     }
     if STEP_BYTES * PLAN_STEPS < plan_length {
-        return Verdict::No(Refusal::PlanLength);
+        return Verdict::Failed(Refusal::PlanLength);
     }
     if room < RECORD_BYTES * (plan_length / STEP_BYTES + 1) {
-        return Verdict::No(Refusal::WorkSpaceTooShort);
+        return Verdict::Failed(Refusal::WorkSpaceTooShort);
     }
-    Verdict::Fine
+    Verdict::Passed
 }
 
 // A step: a(first) + a(second), or a(first) - a(second).
@@ -75,7 +75,7 @@ fn position_at(plan: &[u8], at: usize) -> usize
 // The step after n others.
 pub fn read_step(plan: &[u8], n: usize) -> Step
     requires { ⌜ stepBytes * n + stepBytes ≤ length (now plan) ⌝ }
-    ensures { λ r. ⌜ stepOf r ≡ readStep (drop (stepBytes * n) (now (plan .entry))) ⌝ }
+    ensures { λ r. ⌜ asStep r ≡ readStep (drop (stepBytes * n) (now (plan .entry))) ⌝ }
 {
     let at = STEP_BYTES * n;
     Step {
@@ -88,38 +88,38 @@ pub fn read_step(plan: &[u8], n: usize) -> Step
 // Tests the step after n others, and records its value where it is fine.
 pub fn check_step(step: Step, space: &mut [u8], n: usize) -> Verdict
     requires { ⌜ recordBytes * n + 2 * recordBytes ≤ length (now space) ⌝ }
-    ensures { λ r. ⌜ StepChecked (stepOf step) n (now (space .entry)) (now (space .exit)) r ⌝ }
+    ensures { λ r. ⌜ StepChecked (asStep step) n (now (space .entry)) (now (space .exit)) r ⌝ }
 {
     let i = n + 1;
     let j = step.first;
     let k = step.second;
     if 1 < step.operation {
-        return Verdict::No(Refusal::StepUnsound(i));
+        return Verdict::Failed(Refusal::MalformedStep(i));
     }
     if i <= j {
-        return Verdict::No(Refusal::StepUnsound(i));
+        return Verdict::Failed(Refusal::MalformedStep(i));
     }
     if i <= k {
-        return Verdict::No(Refusal::StepUnsound(i));
+        return Verdict::Failed(Refusal::MalformedStep(i));
     }
     let at = RECORD_BYTES * i;
     let first = load(space, RECORD_BYTES * j);
     let second = load(space, RECORD_BYTES * k);
     let value = combined(first, second, step.operation != 0);
     if is_zero(value) {
-        return Verdict::No(Refusal::ValueIsZero(i));
+        return Verdict::Failed(Refusal::ValueIsZero(i));
     }
     if is_small(value) {
         store(space, at, value);
-        return Verdict::Fine;
+        return Verdict::Passed;
     }
-    Verdict::No(Refusal::ValueTooLarge(i))
+    Verdict::Failed(Refusal::ValueTooLarge(i))
 }
 
 // One step more in the counts.
 pub fn count_step(counts: Counts, step: Step) -> Counts
     requires { ⌜ stepsIn counts + 1 < 2 ^ 64 ⌝ }
-    ensures { λ r. ⌜ (r ≡ plus counts (stepCounts (stepOf step))) × (stepsIn r ≡ stepsIn counts + 1) ⌝ }
+    ensures { λ r. ⌜ (r ≡ plus counts (stepCounts (asStep step))) × (stepsIn r ≡ stepsIn counts + 1) ⌝ }
 {
     let adds = step.operation == 0;
     let same = step.first == step.second;
@@ -156,7 +156,7 @@ fn check_steps(plan: &[u8], space: &mut [u8]) -> Counted
         let step = read_step(plan, n);
         counts = count_step(counts, step);
         let verdict = check_step(step, space, n);
-        if let Verdict::No(refusal) = verdict {
+        if let Verdict::Failed(refusal) = verdict {
             return Counted::Refused(refusal);
         }
         n += 1;
@@ -201,7 +201,7 @@ pub fn finish(number: &[u8], space: &[u8], steps: usize, counts: Counts) -> Coun
 
 // A check that none of 1, 2, 7 and 8 stops.
 fn check_admitted(number: &[u8], plan: &[u8], space: &mut [u8]) -> Counted
-    requires { ⌜ admission (now number) (length (now plan)) (length (now space)) ≡ Fine ⌝ }
+    requires { ⌜ admission (now number) (length (now plan)) (length (now space)) ≡ Passed ⌝ }
     ensures { λ r. ⌜ (r ≡ stepsAnswer (now (number .entry)) (now (plan .entry))) × Recording (now (space .entry)) (now (space .exit)) (judged (now (plan .entry)) .values) ⌝ }
 {
     begin(space);
@@ -219,7 +219,7 @@ pub fn check(number: &[u8], plan: &[u8], space: &mut [u8]) -> Counted
 {
     let verdict = admit(number, plan.len(), space.len());
     match verdict {
-        Verdict::No(refusal) => Counted::Refused(refusal),
-        Verdict::Fine => check_admitted(number, plan, space),
+        Verdict::Failed(refusal) => Counted::Refused(refusal),
+        Verdict::Passed => check_admitted(number, plan, space),
     }
 }

@@ -17,7 +17,7 @@ use Rattle.signed_digits.proofs.Exists.{Shape, even, odd, step}
 use Rattle.signed_digits.proofs.Steps.{low-digit-2, rest-2, by-four}
 use Rattle.signed_digits.proofs.Cons.{digits-taken}
 use Rattle.digit_strings.specs.Checked.{isDigit, DigitString, stringValue}
-use Rattle.cleaning.specs.Internal.{heldAt, sumAt, pairAt, placeByte}
+use Rattle.cleaning.specs.Internal.{raisedAt, sumAt, pairAt, placeByte}
 
 -- ---- one step of width 2
 
@@ -80,22 +80,22 @@ held (suc zero) t = record { parts = refl; small = omega arith }
 held (suc (suc b)) t = rw (eqb-true (suc (suc b)) 255 (rw (le-ltb (suc (suc b)) 2 (omega arith)) at t)) (record { parts = refl; small = omega arith })
 
 module _ (s : List ℕ) (given : DigitString s) where
-  digit-held : (i : ℕ) → Held (getD s i 0) (heldAt s i)
-  unfolding heldAt
+  digit-held : (i : ℕ) → Held (getD s i 0) (raisedAt s i)
+  unfolding raisedAt
   digit-held i = held (getD s i 0) (go (decLt i (length s)))
     where
       go : Dec (i < length s) → isDigit (getD s i 0) ≡ true
       go (yes h) = given .digits i h
       go (no h) = rw (List·getD-eq-default s 0 {n = i} (omega arith))
 
-  pub held-small : (i : ℕ) → heldAt s i ≤ 2
+  pub held-small : (i : ℕ) → raisedAt s i ≤ 2
   held-small i = digit-held i .small
 
-  digit-parts : (i : ℕ) → positivePart (digitAt (stringOf s) i) + 1 ≡ heldAt s i + negativePart (digitAt (stringOf s) i)
+  digit-parts : (i : ℕ) → positivePart (digitAt (stringOf s) i) + 1 ≡ raisedAt s i + negativePart (digitAt (stringOf s) i)
   digit-parts i = rw (List·getD-map byteDigit s i 0) (digit-held i .parts)
 
   -- the carry is from -1 to 1
-  pub sum-small : (i : ℕ) → (heldAt s i ≤ sumAt s i) × (sumAt s i ≤ heldAt s i + 2)
+  pub sum-small : (i : ℕ) → (raisedAt s i ≤ sumAt s i) × (sumAt s i ≤ raisedAt s i + 2)
   unfolding sumAt
   sum-small zero = omega (arith, held-small 0)
   sum-small (suc i) = omega (arith, sum-small i, held-small i, held-small (suc i), rest-is (pairAt s i))
@@ -149,5 +149,5 @@ module _ (s : List ℕ) (given : DigitString s) where
 
   -- two zeros stop every carry
   pub stopped : (i : ℕ) → getD s i 0 ≡ 0 → getD s (suc i) 0 ≡ 0 → sumAt s (suc i) ≡ 2
-  unfolding sumAt heldAt
+  unfolding sumAt raisedAt
   stopped i h k = rest-four (pairAt s i) (omega (arith, sum-small i)) (omega (arith, sum-small i))

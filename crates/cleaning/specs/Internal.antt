@@ -10,17 +10,17 @@ use Rattle.signed_digits.specs.Bytes.{digitByte}
 use Rattle.digit_strings.specs.Checked.{stringValue}
 
 -- the digit at a place plus 1: 0, 1 or 2; above the string the digit is 0
-unfoldable pub heldAt : List ℕ → ℕ → ℕ
-heldAt digits i = (getD digits i 0 + 1) % 256
+unfoldable pub raisedAt : List ℕ → ℕ → ℕ
+raisedAt digits i = (getD digits i 0 + 1) % 256
 
 -- the digit at a place and the carry into it, plus 2: from 0 to 4; the carry is what the canonical digits below leave
 unfoldable pub sumAt : List ℕ → ℕ → ℕ
-sumAt digits zero = heldAt digits 0 + 1
-sumAt digits (suc i) = rest 2 (sumAt digits i + 2 * heldAt digits (suc i))
+sumAt digits zero = raisedAt digits 0 + 1
+sumAt digits (suc i) = rest 2 (sumAt digits i + 2 * raisedAt digits (suc i))
 
 -- that and the digit above: enough to tell the canonical digit and the next carry
 abbrev pub pairAt : List ℕ → ℕ → ℕ
-pairAt digits i = sumAt digits i + 2 * heldAt digits (suc i)
+pairAt digits i = sumAt digits i + 2 * raisedAt digits (suc i)
 
 -- the byte of the canonical digit at a place
 unfoldable pub placeByte : List ℕ → ℕ → ℕ

@@ -14,16 +14,16 @@ ghost use Rattle.integers.specs.Tabulate.{tabulate};
 ghost use Rattle.signed_digits.specs.Naf.{rest};
 ghost use Rattle.digit_strings.specs.Checked.{DigitString};
 ghost use Rattle.cleaning.specs.Clean.{cleaning};
-ghost use Rattle.cleaning.specs.Internal.{heldAt, sumAt, placeByte, Highest};
+ghost use Rattle.cleaning.specs.Internal.{raisedAt, sumAt, placeByte, Highest};
 
 // The length is sought first from this many places below the top digit: few carries come from
 // further down.
 const NEAR: usize = 16;
 
 // The digit at a place, plus 1; above the string the digit is 0.
-fn held_at(digits: &[u8], i: usize) -> u64
+fn raised_at(digits: &[u8], i: usize) -> u64
     requires { ⌜ DigitString (now digits) ⌝ }
-    ensures { λ r. ⌜ (r ≡ heldAt (now (digits .entry)) i) × (r ≤ 2) ⌝ }
+    ensures { λ r. ⌜ (r ≡ raisedAt (now (digits .entry)) i) × (r ≤ 2) ⌝ }
 {
     (byte_at(digits, i) + 1) % 256
 }
@@ -57,7 +57,7 @@ fn highest(digits: &[u8], from: usize, n: usize, start: u64) -> usize
     while i <= n {
         i += 1;
         length = top(sum, i, length);
-        sum = rest_of(sum + 2 * held_at(digits, i));
+        sum = rest_of(sum + 2 * raised_at(digits, i));
     }
     length
 }
@@ -71,14 +71,14 @@ fn by_top(digits: &[u8], from: usize, n: usize) -> usize
     ensures { λ r. ⌜ (0 < r → r ≡ length (cleaning (now (digits .entry)))) ⌝ }
 {
     let mut i = from;
-    let mut low = held_at(digits, i);
+    let mut low = raised_at(digits, i);
     let mut high = low + 2;
     while low < high {
         if n <= i {
             return 0;
         }
         i += 1;
-        let above = 2 * held_at(digits, i);
+        let above = 2 * raised_at(digits, i);
         low = rest_of(low + above);
         high = rest_of(high + above);
     }
@@ -97,7 +97,7 @@ pub fn count(digits: &[u8]) -> usize
             return length;
         }
     }
-    highest(digits, 0, n, held_at(digits, 0) + 1)
+    highest(digits, 0, n, raised_at(digits, 0) + 1)
 }
 
 // Writes the first `count` canonical digits.
@@ -106,10 +106,10 @@ pub fn write(digits: &[u8], out: &mut [u8], count: usize)
     requires { ⌜ count ≤ length (now out) ⌝ }
     ensures { λ _. ⌜ now (out .exit) ≡ tabulate (placeByte (now (digits .entry))) count ++ drop count (now (out .entry)) ⌝ }
 {
-    let mut sum = held_at(digits, 0) + 1;
+    let mut sum = raised_at(digits, 0) + 1;
     let mut i = 0;
     while i < count {
-        let pair = sum + 2 * held_at(digits, i + 1);
+        let pair = sum + 2 * raised_at(digits, i + 1);
         sum = rest_of(pair);
         out[i] = ((256 + pair - 2 * sum) % 256) as u8;
         i += 1;

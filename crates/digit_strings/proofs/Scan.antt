@@ -23,17 +23,17 @@ both-true true b e = (refl, e)
 both-true false b e = absurd (not-both e refl)
 
 module _ (s : List ℕ) where
-  pub here : (i : ℕ) → i < length s → isDigit (getD s i 0) ≡ false → firstBad (drop i s) ≡ 0
+  pub bad-here : (i : ℕ) → i < length s → isDigit (getD s i 0) ≡ false → firstBad (drop i s) ≡ 0
   unfolding firstBad
-  here i h b = rw (drop-cons s i 0, b)
+  bad-here i h b = rw (drop-cons s i 0, b)
 
-  pub later : (i : ℕ) → i < length s → isDigit (getD s i 0) ≡ true → firstBad (drop i s) ≡ suc (firstBad (drop (i + 1) s))
+  pub digit-here : (i : ℕ) → i < length s → isDigit (getD s i 0) ≡ true → firstBad (drop i s) ≡ suc (firstBad (drop (i + 1) s))
   unfolding firstBad
-  later i h b = rw (add-one, drop-cons s i 0, b)
+  digit-here i h b = rw (add-one, drop-cons s i 0, b)
 
-  pub never : firstBad (drop (length s) s) ≡ 0
+  pub none-bad-above : firstBad (drop (length s) s) ≡ 0
   unfolding firstBad
-  never = rw drop-length
+  none-bad-above = rw drop-length
 
   pub none-yet : (from : ℕ) → DigitsFor s from 0
   none-yet from =
@@ -43,13 +43,13 @@ module _ (s : List ℕ) where
   -- a digit more
   pub one-more : (from n : ℕ) → from + n < length s → isDigit (getD s (from + n) 0) ≡ true → DigitsFor s from n → DigitsFor s from (n + 1)
   one-more from n h b e =
-      let l = later (from + n) h b in
+      let l = digit-here (from + n) h b in
       let f : from + n + 1 ≡ from + (n + 1) = omega arith in
       omega (arith, e, rw f at l)
 
   -- so many more
-  pub more : (n m : ℕ) → DigitsFor s 0 n → DigitsFor s n m → DigitsFor s 0 (n + m)
-  more n m e f =
+  pub digits-joined : (n m : ℕ) → DigitsFor s 0 n → DigitsFor s n m → DigitsFor s 0 (n + m)
+  digits-joined n m e f =
       let g : 0 + n ≡ n = omega arith in
       let k : 0 + (n + m) ≡ n + m = omega arith in
       rw k (omega (arith, rw g at e, f))

@@ -56,13 +56,13 @@ abbrev pub parsedBuffer : List ℕ → List ℕ → List ℕ
 parsedBuffer text bytes = leaves (parsed text (length bytes)) text bytes
 
 -- x or X
-unfoldable pub isMark : ℕ → Bool
-isMark c = cond (eqb c 120) true (eqb c 88)
+unfoldable pub isPrefix : ℕ → Bool
+isPrefix c = cond (eqb c 120) true (eqb c 88)
 
 -- a word without the 0x that it may have in front
 unfoldable pub unmarked : List ℕ → List ℕ
 unmarked word =
     cond (ltb (length word) 2) word
     (cond (eqb (getD word 0 0) 48)
-    (cond (isMark (getD word 1 0)) (drop 2 word) word)
+    (cond (isPrefix (getD word 1 0)) (drop 2 word) word)
     word)

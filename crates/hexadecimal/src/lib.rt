@@ -4,7 +4,7 @@ ghost use mathlib.Core.List.{_++_};
 ghost use Prim.Native.Nat.{_*_, _≤_, _<_, _^_};
 ghost use lib.ListN.{length, drop};
 ghost use Rattle.integers.specs.Tabulate.{tabulate};
-ghost use Rattle.hexadecimal.specs.Hex.{digitValue, placeValue, byteAt, isHex, isMark, parsed, parsedBuffer, unmarked};
+ghost use Rattle.hexadecimal.specs.Hex.{digitValue, placeValue, byteAt, isHex, isPrefix, parsed, parsedBuffer, unmarked};
 
 // What a word holds: a number in so many bytes, or something else.
 pub enum Parsed {
@@ -96,8 +96,8 @@ fn parse_digits(text: &[u8], bytes: &mut [u8]) -> Parsed
 }
 
 // Whether a byte is the x of 0x.
-fn is_mark(byte: u8) -> bool
-    ensures { λ r. ⌜ r ≡ isMark byte ⌝ }
+fn is_prefix(byte: u8) -> bool
+    ensures { λ r. ⌜ r ≡ isPrefix byte ⌝ }
 {
     if byte == b'x' {
         return true;
@@ -106,7 +106,7 @@ fn is_mark(byte: u8) -> bool
 }
 
 // The word behind the 0x that it may have in front.
-fn without_mark(word: &[u8]) -> &[u8]
+fn without_prefix(word: &[u8]) -> &[u8]
     ensures { λ r. ⌜ now r ≡ unmarked (now (word .entry)) ⌝ }
 {
     if word.len() < 2 {
@@ -115,7 +115,7 @@ fn without_mark(word: &[u8]) -> &[u8]
     if word[0] != b'0' {
         return word;
     }
-    if is_mark(word[1]) {
+    if is_prefix(word[1]) {
         return &word[2..];
     }
     word
@@ -126,5 +126,5 @@ pub fn parse(word: &[u8], bytes: &mut [u8]) -> Parsed
     ensures answer { λ r. ⌜ r ≡ parsed (unmarked (now (word .entry))) (length (now (bytes .entry))) ⌝ }
     ensures buffer { λ r. ⌜ now (bytes .exit) ≡ parsedBuffer (unmarked (now (word .entry))) (now (bytes .entry)) ⌝ }
 {
-    parse_digits(without_mark(word), bytes)
+    parse_digits(without_prefix(word), bytes)
 }

@@ -94,7 +94,7 @@ power-of-bytes (suc k) =
     let e : 8 * suc k ≡ 8 * k + 8 = omega arith in
     rw (e, pow-add, pow-suc 256 k, power-of-bytes k)
 
--- binary digits below place 8 depend on the low byte alone
+-- bits below place 8 depend on the low byte alone
 pub low-bits : (x y j : ℕ) → x % 256 ≡ y % 256 → j < 8 → x / 2 ^ j % 2 ≡ y / 2 ^ j % 2
 low-bits x y j h l = sym (seen x) ∙ ap (λ (v : ℕ). v / 2 ^ j % 2) h ∙ seen y
   where
@@ -128,7 +128,7 @@ power-of-power : (b q : ℕ) → (2 ^ b) ^ q ≡ 2 ^ (b * q)
 power-of-power b zero = rw (pow-zero, mul-zero)
 power-of-power b (suc q) = rw (pow-suc (2 ^ b) q, power-of-power b q, mul-suc, pow-add)
 
--- a binary digit stands in its element, at any base 2 ^ b
+-- a bit stands in its element, at any base 2 ^ b
 pub bit-of-element : (b : ℕ) (l : List ℕ) (q r : ℕ) → r < b → Below (2 ^ b) l → getD l q 0 / 2 ^ r % 2 ≡ bit (positional (2 ^ b) l) (b * q + r)
 unfolding bit
 bit-of-element b l q r h below =
@@ -144,7 +144,7 @@ bit-of-byte l place b =
     let e : 8 * (place / 8) + place % 8 ≡ place = omega arith in
     rw e at (bit-of-element 8 l (place / 8) (place % 8) (omega arith) b)
 
--- at most eight binary digits stand in two bytes
+-- at most eight bits stand in two bytes
 pub bits-of-bytes : (l : List ℕ) (place count : ℕ) → Below 256 l → count ≤ 8
     → (getD l (place / 8) 0 + 256 * getD l (place / 8 + 1) 0) / 2 ^ (place % 8) % 2 ^ count ≡ bytesValue l / 2 ^ place % 2 ^ count
 bits-of-bytes l place count b few =
@@ -165,7 +165,7 @@ pub zero-length : (l : List ℕ) → bytesValue l ≡ 0 → bitLength (bytesValu
 unfolding bitLength lengthUpTo
 zero-length l z = rw z
 
--- so many bytes have no more binary digits
+-- so many bytes have no more bits
 pub bytes-length : (l : List ℕ) (k : ℕ) → Below 256 l → length l ≤ k → bitLength (bytesValue l) ≤ 8 * k
 bytes-length l k b h = bit-length-iff (bytesValue l) (8 * k) .1 (rw (← power-of-bytes k) (positional-lt 256 k l h b))
 
@@ -185,6 +185,6 @@ length-by-top l n b s some =
     let c = length-from (bytesValue l) (n - 1) m (omega arith) (omega arith) (omega arith) in
     omega arith
 
--- a number has at most eight binary digits to a byte
+-- a number has at most eight bits to a byte
 pub length-of-bytes : (l : List ℕ) → Below 256 l → bitLength (bytesValue l) ≤ 8 * length l
 length-of-bytes l b = bit-length-iff (bytesValue l) (8 * length l) .1 (rw (power-of-bytes (length l)) at (positional-lt 256 (length l) l (omega arith) b))

@@ -1,4 +1,4 @@
--- The 64 binary digits from a place down, out of the two words that hold them. Assumes nothing.
+-- The 64 bits from a place down, out of the two words that hold them. Assumes nothing.
 use mathlib.Core.Path.{_≡_, refl, sym, ap, _∙_}
 use mathlib.Core.List.{List, _∷_}
 use Prim.Native.Nat.{ℕ, zero, suc, _+_, _*_, _-_, _/_, _%_, _^_, _<_}
@@ -32,9 +32,9 @@ module _ (l : List ℕ) (b : Below (2 ^ 64) l) where
   below-lifted zero = omega arith
   below-lifted (suc i) = b i
 
-  pub digits-down : (n : ℕ) → getD l (n / 64) 0 * 2 ^ (63 - n % 64) % 2 ^ 64 + getD (0 ∷ l) (n / 64) 0 / 2 ^ (n % 64) / 2 ≡ 2 ^ 64 * wordsValue l / 2 ^ (n + 1) % 2 ^ 64
+  pub bits-down : (n : ℕ) → getD l (n / 64) 0 * 2 ^ (63 - n % 64) % 2 ^ 64 + getD (0 ∷ l) (n / 64) 0 / 2 ^ (n % 64) / 2 ≡ 2 ^ 64 * wordsValue l / 2 ^ (n + 1) % 2 ^ 64
   unfolding positional
-  digits-down n =
+  bits-down n =
       let k : ℕ = n / 64 in
       let r : ℕ = n % 64 in
       let v : ℕ = 2 ^ 64 * wordsValue l in

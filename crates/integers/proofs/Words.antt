@@ -123,7 +123,7 @@ pub halved-none : (l half : List ℕ) → Halved 0 l half
 unfolding positional
 halved-none l half = omega arith
 
--- a word's half takes the low binary digit of the word above for its top one
+-- a word's half takes the low bit of the word above for its top one
 half-word : (l : List ℕ) (k : ℕ) → wordsValue (drop k l) / 2 ≡ getD l k 0 / 2 + getD l (suc k) 0 % 2 * 2 ^ 63 + 2 ^ 64 * (wordsValue (drop (suc k) l) / 2)
 half-word l k =
     let u : ℕ = wordsValue (drop (suc k) l) in

@@ -1,11 +1,11 @@
 -- Binary digits and their number.
 use Prim.Native.Nat.{ℕ, zero, suc, _/_, _%_, _^_}
 
--- the binary digit of v at place i
+-- the bit of v at place i
 unfoldable pub bit : ℕ → ℕ → ℕ
 bit v i = v / 2 ^ i % 2
 
--- how many binary digits n has, at most f of them; n itself is enough
+-- how many bits n has, at most f of them; n itself is enough
 unfoldable pub lengthUpTo : ℕ → ℕ → ℕ
 lengthUpTo zero n = 0
 lengthUpTo (suc f) zero = 0

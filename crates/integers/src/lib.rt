@@ -36,7 +36,7 @@ pub fn significant(number: &[u8]) -> usize
     n
 }
 
-// The binary digit at a place.
+// The bit at a place.
 pub fn bit_at(number: &[u8], place: usize) -> u64
     ensures { λ r. ⌜ r ≡ bit (bytesValue (now (number .entry))) place ⌝ }
 {
@@ -44,14 +44,14 @@ pub fn bit_at(number: &[u8], place: usize) -> u64
 }
 
 // 2 to the power of n.
-pub fn power(n: usize) -> u64
+pub fn power_of_two(n: usize) -> u64
     requires { ⌜ n < 64 ⌝ }
     ensures { λ r. ⌜ r ≡ 2 ^ n ⌝ }
 {
     1 << n
 }
 
-// The value of the `count` binary digits from a place on. They may cross from a byte into the next
+// The value of the `count` bits from a place on. They may cross from a byte into the next
 // one.
 pub fn bits_at(number: &[u8], place: usize, count: usize) -> u64
     requires { ⌜ count ≤ 8 ⌝ }
@@ -59,10 +59,10 @@ pub fn bits_at(number: &[u8], place: usize, count: usize) -> u64
 {
     let at = place / 8;
     let bytes = byte_at(number, at) + 256 * byte_at(number, at + 1);
-    (bytes >> (place % 8)) % power(count)
+    (bytes >> (place % 8)) % power_of_two(count)
 }
 
-// How many binary digits a number has.
+// How many bits a number has.
 pub fn bit_length(number: &[u8]) -> usize
     requires { ⌜ length (now number) ≤ numberBytes ⌝ }
     ensures { λ r. ⌜ r ≡ bitLength (bytesValue (now (number .entry))) ⌝ }
@@ -152,8 +152,8 @@ fn word_under(words: &[u64], k: usize) -> u64
     if k == 0 { 0 } else { word_in(words, k - 1) }
 }
 
-// The 64 binary digits from place n down, the one at n as the highest. Below place 0 stand zeros.
-pub fn digits_down(words: &[u64], n: usize) -> u64
+// The 64 bits from place n down, the one at n as the highest. Below place 0 stand zeros.
+pub fn bits_down(words: &[u64], n: usize) -> u64
     ensures { λ r. ⌜ r ≡ 2 ^ 64 * wordsValue (now (words .entry)) / 2 ^ (n + 1) % 2 ^ 64 ⌝ }
 {
     let k = n / 64;
@@ -208,7 +208,7 @@ pub struct SumWord {
 }
 
 // The sum of two words and a carry. A carry is seen because the sum has wrapped.
-pub fn added(a: u64, b: u64, carry: bool) -> SumWord
+pub fn add_with_carry(a: u64, b: u64, carry: bool) -> SumWord
     ensures { λ r. ⌜ r .word + 2 ^ 64 * boolByte (r .carry) ≡ a + b + boolByte carry ⌝ }
 {
     let half = std::num::wrapping_add_u64(a, b);
@@ -226,7 +226,7 @@ pub struct DifferenceWord {
 }
 
 // The difference of two words, less a borrow.
-pub fn subtracted(a: u64, b: u64, borrow: bool) -> DifferenceWord
+pub fn subtract_with_borrow(a: u64, b: u64, borrow: bool) -> DifferenceWord
     ensures { λ r. ⌜ r .word + b + boolByte borrow ≡ a + 2 ^ 64 * boolByte (r .borrow) ⌝ }
 {
     let less = borrow as u64;

@@ -13,7 +13,7 @@ ghost use Rattle.rules.specs.Limits.{numberBytes, stepBytes};
 ghost use Rattle.integers.specs.Positional.{bytesValue};
 ghost use Rattle.chains.specs.Steps.{planBytesOf};
 ghost use Rattle.chains.specs.Counts.{countsOf};
-ghost use Rattle.methods.specs.Building.{Building};
+ghost use Rattle.methods.specs.PartialPlan.{PartialPlan};
 ghost use Rattle.methods.specs.Binary.{atBit, binarySteps};
 ghost use Rattle.plan_writing.specs.Writing.{Writing};
 
@@ -34,7 +34,7 @@ pub fn counts(number: &[u8]) -> Counts
 fn at_bit(c: Cursor, out: &mut [u8], bit: u64) -> Cursor
     requires { ⌜ bit < 2 ⌝ }
     requires { ⌜ stepBytes * (c .steps + bit + 1) ≤ length (now out) ⌝ }
-    ensures { λ r. ⌜ (r .steps ≡ c .steps + bit + 1) × ((lent : List ℕ) (b : Building) → Writing lent (now (out .entry)) c b → Writing lent (now (out .exit)) r (atBit bit b)) ⌝ }
+    ensures { λ r. ⌜ (r .steps ≡ c .steps + bit + 1) × ((lent : List ℕ) (b : PartialPlan) → Writing lent (now (out .entry)) c b → Writing lent (now (out .exit)) r (atBit bit b)) ⌝ }
 {
     let doubled = c.double(out);
     if bit == 0 {

@@ -2,7 +2,7 @@
 use integers::bit_length;
 use integers::bits_at;
 use integers::byte_at;
-use integers::power;
+use integers::power_of_two;
 use plan_writing::Cursor;
 use rules::Counts;
 ghost use mathlib.Core.Path.{_≡_};
@@ -16,8 +16,8 @@ ghost use Rattle.rules.specs.Limits.{numberBytes, stepBytes};
 ghost use Rattle.integers.specs.Positional.{bytesValue};
 ghost use Rattle.chains.specs.Steps.{planBytesOf};
 ghost use Rattle.chains.specs.Counts.{countsOf};
-ghost use Rattle.methods.specs.Building.{Building};
-ghost use Rattle.methods.specs.FixedWindows.{ladder, window, topWindow, atWindow, windowSteps, fixedWindowSteps};
+ghost use Rattle.methods.specs.PartialPlan.{PartialPlan};
+ghost use Rattle.methods.specs.FixedWindows.{multiples, window, topWindow, atFixedWindow, windowSteps, fixedWindowSteps};
 ghost use Rattle.methods.specs.Forecast.{tableCounts, nonzeroWindows};
 ghost use Rattle.plan_writing.specs.Writing.{Writing};
 
@@ -49,11 +49,11 @@ fn small_value(number: &[u8]) -> usize
 }
 
 // How many steps the table has.
-fn table_size(width: usize) -> usize
+fn table_length(width: usize) -> usize
     requires { ⌜ (1 ≤ width) × (width < 64) ⌝ }
     ensures { λ r. ⌜ r ≡ 2 ^ width - 2 ⌝ }
 {
-    power(width) as usize - 2
+    power_of_two(width) as usize - 2
 }
 
 // The counts of the first n steps of a table.
@@ -107,7 +107,7 @@ pub fn counts(number: &[u8], width: usize) -> Counts
     if top == 0 {
         return table_counts(small_value(number) - 1);
     }
-    let table = table_counts(table_size(width));
+    let table = table_counts(table_length(width));
     Counts {
         doublings: table.doublings + width * top,
         additions: table.additions + nonzero_windows(number, width, top),
@@ -116,9 +116,9 @@ pub fn counts(number: &[u8], width: usize) -> Counts
 }
 
 // Writes the steps add(i-1, 0) for i = 1 to n.
-fn write_ladder(out: &mut [u8], n: usize)
+fn write_multiples(out: &mut [u8], n: usize)
     requires { ⌜ stepBytes * n ≤ length (now out) ⌝ }
-    ensures { λ _. ⌜ now (out .exit) ≡ planBytesOf (ladder n) ++ drop (stepBytes * n) (now (out .entry)) ⌝ }
+    ensures { λ _. ⌜ now (out .exit) ≡ planBytesOf (multiples n) ++ drop (stepBytes * n) (now (out .entry)) ⌝ }
 {
     let mut c = Cursor::first();
     let mut i = 0;
@@ -131,7 +131,7 @@ fn write_ladder(out: &mut [u8], n: usize)
 // The steps of one window below the top.
 fn at_window(c: Cursor, out: &mut [u8], width: usize, value: usize) -> Cursor
     requires { ⌜ stepBytes * (c .steps + width + cond (eqb value 0) 0 1) ≤ length (now out) ⌝ }
-    ensures { λ r. ⌜ (r .steps ≡ c .steps + width + cond (eqb value 0) 0 1) × ((lent : List ℕ) (b : Building) → Writing lent (now (out .entry)) c b → Writing lent (now (out .exit)) r (atWindow width value b)) ⌝ }
+    ensures { λ r. ⌜ (r .steps ≡ c .steps + width + cond (eqb value 0) 0 1) × ((lent : List ℕ) (b : PartialPlan) → Writing lent (now (out .entry)) c b → Writing lent (now (out .exit)) r (atFixedWindow width value b)) ⌝ }
 {
     let moved = c.double_times(out, width);
     if value == 0 {
@@ -149,8 +149,8 @@ fn write_windows(number: &[u8], width: usize, top: usize, out: &mut [u8])
     requires { ⌜ stepBytes * length (windowSteps (bytesValue (now number)) width) ≤ length (now out) ⌝ }
     ensures { λ _. ⌜ now (out .exit) ≡ planBytesOf (windowSteps (bytesValue (now (number .entry))) width) ++ drop (length (planBytesOf (windowSteps (bytesValue (now (number .entry))) width))) (now (out .entry)) ⌝ }
 {
-    let table = table_size(width);
-    write_ladder(out, table);
+    let table = table_length(width);
+    write_multiples(out, table);
     let mut c = Cursor {
         steps: table,
         latest: window_at(number, width, top) - 1,
@@ -174,6 +174,6 @@ pub fn write(number: &[u8], width: usize, out: &mut [u8])
     if 0 < top {
         write_windows(number, width, top, out);
     } else {
-        write_ladder(out, small_value(number) - 1);
+        write_multiples(out, small_value(number) - 1);
     }
 }

@@ -45,7 +45,7 @@ only-in-word a b r s hr hs =
 
 -- ---- canonical digits
 
--- where n lies between 2 a and 2 a + 2, the lowest digit of n is the lowest binary digit of n + a, less that of a
+-- where n lies between 2 a and 2 a + 2, the lowest digit of n is the lowest bit of n + a, less that of a
 low-signs : (a n : ℕ) → 2 * a ≤ n → n ≤ 2 * a + 2 → (isPlus (lowDigit 2 n) ≡ (n + a) % 2 - a % 2) × (isMinus (lowDigit 2 n) ≡ a % 2 - (n + a) % 2)
 low-signs a = by-four _ (λ q.
     let d = low-digit-2 q in (

@@ -17,7 +17,7 @@ ghost use Rattle.integers.specs.Positional.{bytesValue};
 ghost use Rattle.integers.specs.Signed.{signOf};
 ghost use Rattle.chains.specs.Steps.{planBytesOf};
 ghost use Rattle.chains.specs.Counts.{countsOf};
-ghost use Rattle.methods.specs.Building.{Building};
+ghost use Rattle.methods.specs.PartialPlan.{PartialPlan};
 ghost use Rattle.methods.specs.NonAdjacentForm.{atDigit, nafSteps};
 ghost use Rattle.plan_writing.specs.Writing.{Writing};
 ghost use Rattle.method_naf.specs.Digits.{lengthIn, Digit, Recoded};
@@ -69,7 +69,7 @@ fn sign(digit: u8) -> u8
 fn at_digit(c: Cursor, out: &mut [u8], digit: u8) -> Cursor
     requires { ⌜ stepBytes * (c .steps + 1) ≤ length (now out) ⌝ }
     requires { ⌜ (digit ≢ 0 → stepBytes * (c .steps + 2) ≤ length (now out)) ⌝ }
-    ensures { λ r. ⌜ ((lent : List ℕ) (b : Building) (d : ℤ) → Digit digit d → Writing lent (now (out .entry)) c b → Writing lent (now (out .exit)) r (atDigit d b)) ⌝ }
+    ensures { λ r. ⌜ ((lent : List ℕ) (b : PartialPlan) (d : ℤ) → Digit digit d → Writing lent (now (out .entry)) c b → Writing lent (now (out .exit)) r (atDigit d b)) ⌝ }
 {
     let doubled = c.double(out);
     if digit == 0 {

@@ -1,5 +1,5 @@
 // The canonical digits of a number e, counted word by word and not written. The digit at place i is
-// the binary digit of 3 e at i + 1, less that of e: 1 where 3 e alone has a 1, -1 where e alone has
+// the bit of 3 e at i + 1, less that of e: 1 where 3 e alone has a 1, -1 where e alone has
 // one.
 use integers::words_of;
 use rules::NUMBER_WORDS;

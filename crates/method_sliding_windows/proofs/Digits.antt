@@ -13,7 +13,7 @@ use Rattle.integers.proofs.Bits.{bit-length-iff, top-bit, place-down, bit-small
 use Rattle.methods.specs.SlidingWindows.{longest, windowValue}
 use Rattle.methods.proofs.SlidingWindows.{longest-window}
 use Rattle.method_sliding_windows.specs.declared.Window.{Window}
-use Rattle.method_sliding_windows.specs.Scan.{windowAt, digitsDown, firstIn}
+use Rattle.method_sliding_windows.specs.Scan.{windowAt, bitsDown, firstIn}
 
 -- the length by the leading zeros
 pub leading-bits : (x : ℕ) → 0 < x → x < 2 ^ 64 → leadingZeros 64 x + bitLength x ≡ 64
@@ -38,7 +38,7 @@ seven-digits x h = elim (decLe 7 (bitLength x)) [
 
 module _ (e p : ℕ) where
   abbrev x : ℕ
-  x = digitsDown e p
+  x = bitsDown e p
 
   pub digits-small : x < 2 ^ 64
   digits-small = mod-lt (2 ^ 64 * e / 2 ^ (p + 1)) (pow-pos 64)
@@ -138,7 +138,7 @@ module _ (e d : ℕ) (some : 0 < e) (wide : 1 ≤ d) (narrow : d ≤ 6) where
   n = bitLength e - 1
 
   abbrev y : ℕ
-  y = digitsDown e n
+  y = bitsDown e n
 
   high : 2 ^ 63 ≤ y
   unfolding bit

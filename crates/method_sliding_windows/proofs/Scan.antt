@@ -19,8 +19,8 @@ use Rattle.rules.specs.declared.Counts.{Counts}
 use Rattle.chains.specs.Steps.{Step, planBytesOf}
 use Rattle.chains.specs.Counts.{counts, countsOf}
 use Rattle.chains.proofs.Bytes.{length-plan}
-use Rattle.methods.specs.Building.{Building, none, double, doubled, addAt}
-use Rattle.methods.specs.SlidingWindows.{oddTable, oddPosition, tableSize, longest, windowValue, slide, scanFrom, slidingWindowSteps}
+use Rattle.methods.specs.PartialPlan.{PartialPlan, none, double, doubled, addAt}
+use Rattle.methods.specs.SlidingWindows.{oddTable, oddPosition, tableLength, longest, windowValue, slide, scanFrom, slidingWindowSteps}
 use Rattle.methods.specs.Forecast.{tableCounts, laterWindows, scanCounts, slidingWindowCounts}
 use Rattle.methods.proofs.Counted.{total, length-counted}
 use Rattle.methods.proofs.Laws.{length-followed, length-doubled}
@@ -30,19 +30,19 @@ use Rattle.plan_writing.specs.Writing.{Writing}
 use Rattle.method_sliding_windows.specs.declared.Window.{Window}
 use Rattle.method_sliding_windows.specs.declared.Start.{Start}
 use Rattle.method_sliding_windows.proofs.Digits.{digits-zero, first-in}
-use Rattle.method_sliding_windows.specs.Scan.{windowAt, digitsDown, firstIn, atWindow, Turn, startFrom, startOf}
+use Rattle.method_sliding_windows.specs.Scan.{windowAt, bitsDown, firstIn, atSlidingWindow, Turn, startFrom, startOf}
 
 -- ---- a number and its words
 
 -- the number within the limit that words hold, and the place n of its top bit
-pub record Held (number words : List ℕ) (n : ℕ) : Type 0 where
+pub record InWords (number words : List ℕ) (n : ℕ) : Type 0 where
   pub same : wordsValue words ≡ bytesValue number
   pub some : 0 < wordsValue words
   pub top : n ≡ bitLength (wordsValue words) - 1
   pub few : bitLength (wordsValue words) ≤ 8 * numberBytes
 
-pub held : (number words : List ℕ) (k : ℕ) → Below 256 number → length number ≤ numberBytes → bytesValue number ≢ 0 → wordsValue words ≡ bytesValue (take numberBytes number) → k ≡ bitLength (bytesValue number) → Held number words (k - 1)
-held number words k b short some e l =
+pub in-words : (number words : List ℕ) (k : ℕ) → Below 256 number → length number ≤ numberBytes → bytesValue number ≢ 0 → wordsValue words ≡ bytesValue (take numberBytes number) → k ≡ bitLength (bytesValue number) → InWords number words (k - 1)
+in-words number words k b short some e l =
     let same : wordsValue words ≡ bytesValue number = e ∙ ap bytesValue (take-all numberBytes number short) in
     record {
       same = same;
@@ -53,13 +53,13 @@ held number words k b short some e l =
 
 -- ---- one turn
 
-doubled-more : (z l : ℕ) (b : Building) → doubled l (doubled z b) ≡ doubled (z + l) b
+doubled-more : (z l : ℕ) (b : PartialPlan) → doubled l (doubled z b) ≡ doubled (z + l) b
 unfolding doubled
 doubled-more zero l b = rw zero-add
 doubled-more (suc z) l b = rw suc-add (doubled-more z l (double b))
 
-length-at : (w : Window) (b : Building) → length (atWindow w b .steps) ≡ length (b .steps) + w .bits + w .value % 2
-unfolding atWindow
+length-at : (w : Window) (b : PartialPlan) → length (atSlidingWindow w b .steps) ≡ length (b .steps) + w .bits + w .value % 2
+unfolding atSlidingWindow
 length-at w b =
     elim (ℕ-discrete (w .value % 2) 0) [
       | yes z ↦ rw (eq-eqb (w .value % 2) 0 z) (omega (arith, length-doubled (w .bits) b))
@@ -74,7 +74,7 @@ Zeros e m i = (j : ℕ) → m ≤ j → j < i → bit e j ≡ 0
 
 module _ (e d : ℕ) (wide : 1 ≤ d) where
   -- k zeros are k doublings
-  over-zeros : (k m : ℕ) → Zeros e m (m + k) → (b : Building) → (slide e d (m + k) (m + k) b ≡ slide e d m m (doubled k b)) × (laterWindows e d (m + k) (m + k) ≡ laterWindows e d m m)
+  over-zeros : (k m : ℕ) → Zeros e m (m + k) → (b : PartialPlan) → (slide e d (m + k) (m + k) b ≡ slide e d m m (doubled k b)) × (laterWindows e d (m + k) (m + k) ≡ laterWindows e d m m)
   unfolding slide laterWindows doubled
   over-zeros zero m z b = let s : m + 0 ≡ m = omega arith in rw s (refl, refl)
   over-zeros (suc k) m z b =
@@ -90,7 +90,7 @@ module _ (e d : ℕ) (wide : 1 ≤ d) where
     abbrev v : ℕ
     v = windowValue e n l
 
-    at-one : (b : Building) → (slide e d (suc n) (suc n) b ≡ slide e d (suc n - l) (suc n - l) (addAt (oddPosition v) (doubled l b))) × (laterWindows e d (suc n) (suc n) ≡ suc (laterWindows e d (suc n - l) (suc n - l)))
+    at-one : (b : PartialPlan) → (slide e d (suc n) (suc n) b ≡ slide e d (suc n - l) (suc n - l) (addAt (oddPosition v) (doubled l b))) × (laterWindows e d (suc n) (suc n) ≡ suc (laterWindows e d (suc n - l) (suc n - l)))
     unfolding slide laterWindows
     at-one b =
         let w = longest-window e n d one wide in
@@ -98,7 +98,7 @@ module _ (e d : ℕ) (wide : 1 ≤ d) where
         rw (eq-eqb (bit e n) 1 one) (same .1, ap suc (same .0))
 
     turn-window : (z : ℕ) → Zeros e (suc n) (suc n + z) → d ≤ 6 → Turn e d (suc n + z) (record { bits = z + l; value = v })
-    unfolding atWindow
+    unfolding atSlidingWindow
     turn-window z zeros narrow =
         let w = longest-window e n d one wide in
         let entry = window-entry w in
@@ -113,7 +113,7 @@ module _ (e d : ℕ) (wide : 1 ≤ d) where
         }
 
   turn-zeros : (i k : ℕ) → 1 ≤ k → k ≤ i → Zeros e (i - k) i → Turn e d i (record { bits = k; value = 0 })
-  unfolding atWindow
+  unfolding atSlidingWindow
   turn-zeros i k some within zeros =
       let s : i - k + k ≡ i = omega arith in
       let over = over-zeros k (i - k) (λ j h l. zeros j h (omega arith)) in
@@ -126,16 +126,16 @@ module _ (e d : ℕ) (wide : 1 ≤ d) where
       }
 
   -- the same of the 64 digits x from place i - 1 down
-  module _ (narrow : d ≤ 6) (i : ℕ) (more : 1 ≤ i) (x : ℕ) (digits : x ≡ digitsDown e (i - 1)) where
+  module _ (narrow : d ≤ 6) (i : ℕ) (more : 1 ≤ i) (x : ℕ) (digits : x ≡ bitsDown e (i - 1)) where
     pub next-zeros : (k : ℕ) → x < 64 → 1 ≤ k → k ≤ i → k ≤ 58 → Turn e d i (record { bits = k; value = 0 })
     next-zeros k low some within few =
-        turn-zeros i k some within (λ j h l. digits-zero e (i - 1) j (j + 63 - (i - 1)) (omega arith) (omega arith) (bit-length-iff (digitsDown e (i - 1)) (j + 63 - (i - 1)) .1 (lt-of-lt-of-le (rw digits at low) (pow-mono {i = 6} (omega arith)))))
+        turn-zeros i k some within (λ j h l. digits-zero e (i - 1) j (j + 63 - (i - 1)) (omega arith) (omega arith) (bit-length-iff (bitsDown e (i - 1)) (j + 63 - (i - 1)) .1 (lt-of-lt-of-le (rw digits at low) (pow-mono {i = 6} (omega arith)))))
 
     pub next-window : 64 ≤ x → Turn e d i (firstIn x d)
     next-window big =
         let f = first-in e (i - 1) d wide narrow (rw digits at big) in
         let n : ℕ = f .place in
-        let z : ℕ = 64 - bitLength (digitsDown e (i - 1)) in
+        let z : ℕ = 64 - bitLength (bitsDown e (i - 1)) in
         let s : i ≡ suc n + z = omega (arith, f .below) in
         let t = turn-window n (f .one) z (λ j h l. f .zeros j h (omega arith)) narrow in
         rw (digits, f .window) (subst (λ (k : ℕ). Turn e d k (record { bits = z + longest e n d; value = windowValue e n (longest e n d) })) (sym s) t)
@@ -143,7 +143,7 @@ module _ (e d : ℕ) (wide : 1 ≤ d) where
 -- ---- a loop that writes: what is written so far, and that the places below i will give the rest
 
 pub record Sliding (lent here : List ℕ) (c : Cursor) (e d i : ℕ) (all : List Step) : Type 0 where
-  pub building : Building
+  pub building : PartialPlan
   pub writing : Writing lent here c building
   pub rest : slide e d i i building .steps ≡ all
 
@@ -153,21 +153,21 @@ module _ (lent here : List ℕ) (c : Cursor) (e d : ℕ) (all : List Step) where
   sliding-end u = u .writing .bytes ∙ rw (u .rest, length-plan all)
 
   module _ (wide : 1 ≤ d) (i : ℕ) (u : Sliding lent here c e d i all) (w : Window) (t : Turn e d i w) where
-    turn : slide e d (i - w .bits) (i - w .bits) (atWindow w (u .building)) .steps ≡ all
+    turn : slide e d (i - w .bits) (i - w .bits) (atSlidingWindow w (u .building)) .steps ≡ all
     turn = rw (← t .steps (u .building)) (u .rest)
 
     -- the steps of the next turn are among all
     pub sliding-room : c .steps + w .bits + w .value % 2 ≤ length all
     sliding-room =
-        omega (arith, slide-grows e d wide (i - w .bits) (i - w .bits) (atWindow w (u .building)) (omega arith), ap length turn, length-at w (u .building), u .writing .steps)
+        omega (arith, slide-grows e d wide (i - w .bits) (i - w .bits) (atSlidingWindow w (u .building)) (omega arith), ap length turn, length-at w (u .building), u .writing .steps)
 
-    pub sliding-next : (next : List ℕ) (k : Cursor) → Writing lent next k (atWindow w (u .building)) → Sliding lent next k e d (i - w .bits) all
-    sliding-next next k v = record { building = atWindow w (u .building); writing = v; rest = turn }
+    pub sliding-next : (next : List ℕ) (k : Cursor) → Writing lent next k (atSlidingWindow w (u .building)) → Sliding lent next k e d (i - w .bits) all
+    sliding-next next k v = record { building = atSlidingWindow w (u .building); writing = v; rest = turn }
 
 -- ---- where the scan starts
 
 -- the plan that the scan goes on with
-abbrev pub begun : Start → Building
+abbrev pub begun : Start → PartialPlan
 begun s = record { steps = oddTable (s .table); latest = s .position }
 
 abbrev steps-from : ℕ → ℕ → Start → List Step
@@ -203,9 +203,9 @@ module _ (e d : ℕ) (some : 0 < e) (wide : 1 ≤ d) where
       more : (Entry d e → ⊥) → (scanFrom e d (top e) ≡ steps-from e d at-top) × (scanCounts e d (top e) ≡ counts-from e d at-top)
       more m =
           let some-left : left ≢ 0 = λ z. m (whole-entry e d some wide z) in
-          let b : Building = record { steps = oddTable (tableSize d); latest = oddPosition (windowValue e (top e) (longest e (top e) d)) } in
+          let b : PartialPlan = record { steps = oddTable (tableLength d); latest = oddPosition (windowValue e (top e) (longest e (top e) d)) } in
           let same = scan-fuel e d wide (top e) left left b (omega (arith, first-window e d some wide .some)) (omega arith) in
-          rw (ne-eqb left 0 some-left) (ap (λ (c : Building). c .steps) (same .1), rw (same .0))
+          rw (ne-eqb left 0 some-left) (ap (λ (c : PartialPlan). c .steps) (same .1), rw (same .0))
 
   module _ (s : Start) (start : s ≡ startOf e d) where
     steps-start : slidingWindowSteps e d ≡ steps-from e d s

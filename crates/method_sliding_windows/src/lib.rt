@@ -1,7 +1,7 @@
 // Method 3, sliding windows of at most `width` bits: its steps counted, and written.
 use integers::bit_length;
-use integers::digits_down;
-use integers::power;
+use integers::bits_down;
+use integers::power_of_two;
 use integers::words_of;
 use plan_writing::Cursor;
 use rules::Counts;
@@ -15,11 +15,11 @@ ghost use Rattle.integers.specs.Bits.{bitLength};
 ghost use Rattle.integers.specs.Positional.{bytesValue, wordsValue};
 ghost use Rattle.chains.specs.Steps.{planBytesOf};
 ghost use Rattle.chains.specs.Counts.{countsOf};
-ghost use Rattle.methods.specs.Building.{Building};
-ghost use Rattle.methods.specs.SlidingWindows.{tableStep, oddTable, oddPosition, tableSize, slidingWindowSteps};
+ghost use Rattle.methods.specs.PartialPlan.{PartialPlan};
+ghost use Rattle.methods.specs.SlidingWindows.{tableStep, oddTable, oddPosition, tableLength, slidingWindowSteps};
 ghost use Rattle.methods.specs.Forecast.{tableCounts, laterWindows};
 ghost use Rattle.plan_writing.specs.Writing.{Writing};
-ghost use Rattle.method_sliding_windows.specs.Scan.{firstIn, atWindow, Turn, tableSteps, startOf};
+ghost use Rattle.method_sliding_windows.specs.Scan.{firstIn, atSlidingWindow, Turn, tableSteps, startOf};
 
 // What the scan takes at once: the zeros from a place down and the window below them, with its
 // value; or zeros alone, and 0.
@@ -66,7 +66,7 @@ fn next_window(words: &[u64], place: usize, width: usize) -> Window
     requires { ⌜ (1 ≤ width) × (width ≤ 6) ⌝ }
     ensures { λ r. ⌜ Turn (wordsValue (now (words .entry))) width place r ⌝ }
 {
-    let digits = digits_down(words, place - 1);
+    let digits = bits_down(words, place - 1);
     if digits < 64 {
         return Window {
             bits: zeros_above(place),
@@ -89,14 +89,14 @@ fn position(value: u64) -> usize
 }
 
 // How many steps the whole table has.
-fn table_size(width: usize) -> usize
+fn table_length(width: usize) -> usize
     requires { ⌜ width ≤ 6 ⌝ }
-    ensures { λ r. ⌜ r ≡ tableSize width ⌝ }
+    ensures { λ r. ⌜ r ≡ tableLength width ⌝ }
 {
     if width < 2 {
         0
     } else {
-        power(width - 1) as usize
+        power_of_two(width - 1) as usize
     }
 }
 
@@ -106,7 +106,7 @@ fn table_steps(below: usize, at: usize, width: usize) -> usize
     requires { ⌜ width ≤ 6 ⌝ }
     ensures { λ r. ⌜ r ≡ tableSteps below at width ⌝ }
 {
-    if below == 0 { at } else { table_size(width) }
+    if below == 0 { at } else { table_length(width) }
 }
 
 // Where the scan of a number above zero starts, whose top bit stands at place n.
@@ -117,7 +117,7 @@ fn start_of(words: &[u64], n: usize, width: usize) -> Start
     requires { ⌜ (1 ≤ width) × (width ≤ 6) ⌝ }
     ensures { λ r. ⌜ r ≡ startOf (wordsValue (now (words .entry))) width ⌝ }
 {
-    let window = window_in(digits_down(words, n), width);
+    let window = window_in(bits_down(words, n), width);
     let below = n + 1 - window.bits;
     let at = position(window.value);
     Start {
@@ -205,7 +205,7 @@ fn write_table(out: &mut [u8], size: usize) -> Cursor
 fn at_window(c: Cursor, out: &mut [u8], w: Window) -> Cursor
     requires { ⌜ w .value < 64 ⌝ }
     requires { ⌜ stepBytes * (c .steps + w .bits + w .value % 2) ≤ length (now out) ⌝ }
-    ensures { λ r. ⌜ (r .steps ≡ c .steps + w .bits + w .value % 2) × ((lent : List ℕ) (b : Building) → Writing lent (now (out .entry)) c b → Writing lent (now (out .exit)) r (atWindow w b)) ⌝ }
+    ensures { λ r. ⌜ (r .steps ≡ c .steps + w .bits + w .value % 2) × ((lent : List ℕ) (b : PartialPlan) → Writing lent (now (out .entry)) c b → Writing lent (now (out .exit)) r (atSlidingWindow w b)) ⌝ }
 {
     let bits = w.bits;
     let doubled = c.double_times(out, bits);

@@ -11,7 +11,7 @@ use lib.Count.{ones, onesIn, ones-step}
 use lib.Pow.{shr-shr}
 use Rattle.chains.specs.Steps.{add}
 use Rattle.chains.specs.Counts.{counts, countsOf}
-use Rattle.methods.specs.Building.{Building, none, double, downFrom}
+use Rattle.methods.specs.PartialPlan.{PartialPlan, none, double, downFrom}
 use Rattle.integers.specs.Bits.{bit, bitLength}
 use Rattle.methods.specs.Binary.{atBit, binarySteps}
 use Rattle.integers.proofs.Bits.{top-bit, above-top, place-down, bit-small, quotient-none}
@@ -34,20 +34,20 @@ unfolding countsOf ones onesIn
 none-counted = refl
 
 -- how many steps a bit takes
-pub length-at-bit : (x : ℕ) (b : Building) → x < 2 → length (atBit x b .steps) ≡ length (b .steps) + x + 1
+pub length-at-bit : (x : ℕ) (b : PartialPlan) → x < 2 → length (atBit x b .steps) ≡ length (b .steps) + x + 1
 length-at-bit zero b h = omega (arith, length-followed b (add (b .latest) (b .latest)))
 length-at-bit (suc zero) b h = omega (arith, length-followed b (add (b .latest) (b .latest)), length-followed (double b) (add (double b .latest) 0))
 length-at-bit (suc (suc x)) b h = absurd (omega arith)
 
 -- Above place i: the latest holds the bits from i on. Each bit below the top took a doubling, and an addition where it is 1.
-record Above (e i : ℕ) (b : Building) : Type 0 where
+record Above (e i : ℕ) (b : PartialPlan) : Type 0 where
   holds : Holds b (e / 2 ^ i)
   latest : b .latest ≡ length (b .steps)
   few : length (b .steps) + 2 * i ≤ 2 * (bitLength e - 1)
   counted : countsIn b ≡ counts (bitLength e - 1 - i) (ones (e / 2 ^ i) - 1) 0
 
 module _ (e : ℕ) (some : 0 < e) (small : Small e) where
-  at-bit : (i x : ℕ) (b : Building) → i < bitLength e - 1 → bit e i ≡ x → Above e (suc i) b → Above e i (atBit x b)
+  at-bit : (i x : ℕ) (b : PartialPlan) → i < bitLength e - 1 → bit e i ≡ x → Above e (suc i) b → Above e i (atBit x b)
   at-bit i x b l y a = go x y
     where
       v : ℕ

@@ -14,18 +14,18 @@ use Rattle.chains.specs.Steps.{Step, adding, add, subtract}
 use Rattle.chains.specs.Counts.{counts, stepCounts, plus, countsOf}
 use Rattle.chains.proofs.Bytes.{counts-append}
 use Rattle.signed_digits.proofs.Parts.{cond-cases}
-use Rattle.methods.specs.Building.{Building, followed, double, addAt, subtractAt, doubled}
+use Rattle.methods.specs.PartialPlan.{PartialPlan, followed, double, addAt, subtractAt, doubled}
 use Rattle.methods.proofs.Laws.{latest-followed, length-followed, length-doubled, latest-doubled}
 
 -- the counts so far
-abbrev pub countsIn : Building → Counts
+abbrev pub countsIn : PartialPlan → Counts
 countsIn b = countsOf (b .steps)
 
-counts-followed : (b : Building) (s : Step) → countsIn (followed b s) ≡ plus (countsIn b) (plus (stepCounts s) (counts 0 0 0))
+counts-followed : (b : PartialPlan) (s : Step) → countsIn (followed b s) ≡ plus (countsIn b) (plus (stepCounts s) (counts 0 0 0))
 unfolding followed countsOf
 counts-followed b s = counts-append (b .steps) (s ∷ [])
 
-module _ (b : Building) (d a s : ℕ) (so-far : countsIn b ≡ counts d a s) where
+module _ (b : PartialPlan) (d a s : ℕ) (so-far : countsIn b ≡ counts d a s) where
   pub counts-double : countsIn (double b) ≡ counts (d + 1) a s
   unfolding stepCounts
   counts-double =
@@ -41,7 +41,7 @@ module _ (b : Building) (d a s : ℕ) (so-far : countsIn b ≡ counts d a s) whe
   unfolding stepCounts
   counts-subtract p = counts-followed b (subtract (b .latest) p) ∙ rw so-far (simp add-zero)
 
-pub counts-doubled : (n : ℕ) (b : Building) (d a s : ℕ) → countsIn b ≡ counts d a s → countsIn (doubled n b) ≡ counts (d + n) a s
+pub counts-doubled : (n : ℕ) (b : PartialPlan) (d a s : ℕ) → countsIn b ≡ counts d a s → countsIn (doubled n b) ≡ counts (d + n) a s
 unfolding doubled
 counts-doubled zero b d a s e = e ∙ simp add-zero
 counts-doubled (suc n) b d a s e =
@@ -49,10 +49,10 @@ counts-doubled (suc n) b d a s e =
     rw f (counts-doubled n (double b) (d + 1) a s (counts-double b d a s e))
 
 -- a position just filled is not one that was filled before
-pub not-before : (b : Building) (s : Step) (p : ℕ) → p ≤ length (b .steps) → followed b s .latest ≢ p
+pub not-before : (b : PartialPlan) (s : Step) (p : ℕ) → p ≤ length (b .steps) → followed b s .latest ≢ p
 not-before b s p h e = omega (arith, latest-followed b s, length-followed b s)
 
-pub not-before-doubled : (n : ℕ) (b : Building) (p : ℕ) → 1 ≤ n → p ≤ length (b .steps) → doubled n b .latest ≢ p
+pub not-before-doubled : (n : ℕ) (b : PartialPlan) (p : ℕ) → 1 ≤ n → p ≤ length (b .steps) → doubled n b .latest ≢ p
 not-before-doubled n b p some h e = omega (arith, latest-doubled n b some, length-doubled n b)
 
 -- how many steps are counted

@@ -13,63 +13,63 @@ use lib.Pow.{pow-pos, shr-shr, shr-mod, split}
 use Rattle.signed_digits.proofs.Parts.{cond-cases}
 use Rattle.chains.specs.Steps.{Step, add}
 use Rattle.chains.specs.Counts.{counts, countsOf}
-use Rattle.methods.specs.Building.{Building, none, followed, addAt, doubled, downFrom}
+use Rattle.methods.specs.PartialPlan.{PartialPlan, none, followed, addAt, doubled, downFrom}
 use Rattle.integers.specs.Bits.{bitLength}
-use Rattle.methods.specs.FixedWindows.{ladder, window, topWindow, atWindow, windowSteps, fixedWindowSteps}
+use Rattle.methods.specs.FixedWindows.{multiples, window, topWindow, atFixedWindow, windowSteps, fixedWindowSteps}
 use Rattle.methods.specs.Forecast.{tableCounts, nonzeroWindows}
 use Rattle.integers.proofs.Bits.{bit-length-iff, above-top, quotient-le, quotient-none}
 use Rattle.methods.proofs.Counted.{countsIn, counts-double, counts-add, counts-doubled, counts-cond, not-before-doubled, total, length-counted}
 use Rattle.methods.proofs.Laws.{value-kept, Small, small-below, Holds, Stands, Made, none-holds, one-stands, stands-followed, stands-doubled, latest-followed, length-followed, length-doubled, latest-doubled, add-holds, doubled-holds, down-from, made}
 
--- ---- the ladder
+-- ---- the multiples
 
 -- n steps of it, and the latest at position p
-abbrev pub laddered : ℕ → ℕ → Building
-laddered n p = record { steps = ladder n; latest = p }
+abbrev pub multiplied : ℕ → ℕ → PartialPlan
+multiplied n p = record { steps = multiples n; latest = p }
 
-pub length-ladder : (n : ℕ) → length (ladder n) ≡ n
-unfolding ladder
-length-ladder zero = refl
-length-ladder (suc n) = rw length-append (omega (arith, length-ladder n))
+pub length-multiples : (n : ℕ) → length (multiples n) ≡ n
+unfolding multiples
+length-multiples zero = refl
+length-multiples (suc n) = rw length-append (omega (arith, length-multiples n))
 
 -- value p + 1 stands at position p
-ladder-holds : (n : ℕ) → Small (suc n) → (p : ℕ) → p ≤ n → Holds (laddered n p) (suc p)
-unfolding ladder followed
-ladder-holds zero small p h = let z : p ≡ 0 = omega arith in rw z none-holds
-ladder-holds (suc n) small p h = go (decLt n p) (ladder-holds n (small-below (suc n) (suc (suc n)) (omega arith) small))
+multiples-holds : (n : ℕ) → Small (suc n) → (p : ℕ) → p ≤ n → Holds (multiplied n p) (suc p)
+unfolding multiples followed
+multiples-holds zero small p h = let z : p ≡ 0 = omega arith in rw z none-holds
+multiples-holds (suc n) small p h = go (decLt n p) (multiples-holds n (small-below (suc n) (suc (suc n)) (omega arith) small))
   where
-    top : Holds (laddered n n) (suc n) → Holds (addAt 0 (laddered n n)) (suc n + 1)
-    top b = add-holds (laddered n n) 0 (suc n) 1 b (one-stands (laddered n n)) (omega arith) (rw add-one small)
+    top : Holds (multiplied n n) (suc n) → Holds (addAt 0 (multiplied n n)) (suc n + 1)
+    top b = add-holds (multiplied n n) 0 (suc n) 1 b (one-stands (multiplied n n)) (omega arith) (rw add-one small)
 
-    go : Dec (n < p) → ((p : ℕ) → p ≤ n → Holds (laddered n p) (suc p)) → Holds (laddered (suc n) p) (suc p)
+    go : Dec (n < p) → ((p : ℕ) → p ≤ n → Holds (multiplied n p) (suc p)) → Holds (multiplied (suc n) p) (suc p)
     go (yes l) below =
-        let q : p ≡ length (ladder n) + 1 = omega (arith, length-ladder n) in
+        let q : p ≡ length (multiples n) + 1 = omega (arith, length-multiples n) in
         let v : suc p ≡ suc n + 1 = omega arith in
         rw (v, q) (top (below n (omega arith)))
     go (no l) below =
         let t = top (below n (omega arith)) in
         record {
           sound = t .sound;
-          within = omega (arith, t .within, length-ladder n);
-          value = value-kept (ladder n) (add n 0) p (omega (arith, length-ladder n)) ∙ below p (omega arith) .value;
+          within = omega (arith, t .within, length-multiples n);
+          value = value-kept (multiples n) (add n 0) p (omega (arith, length-multiples n)) ∙ below p (omega arith) .value;
         }
 
-pub ladder-counts : (n : ℕ) → countsOf (ladder n) ≡ tableCounts n
-unfolding ladder tableCounts countsOf followed
-ladder-counts zero = refl
-ladder-counts (suc zero) = counts-double none 0 0 0 refl
-ladder-counts (suc (suc n)) = counts-add (laddered (suc n) (suc n)) 1 n 0 (ladder-counts (suc n)) 0 (omega arith) ∙ rw add-one
+pub multiples-counts : (n : ℕ) → countsOf (multiples n) ≡ tableCounts n
+unfolding multiples tableCounts countsOf followed
+multiples-counts zero = refl
+multiples-counts (suc zero) = counts-double none 0 0 0 refl
+multiples-counts (suc (suc n)) = counts-add (multiplied (suc n) (suc n)) 1 n 0 (multiples-counts (suc n)) 0 (omega arith) ∙ rw add-one
 
-ladder-total : (n : ℕ) → total (tableCounts n) ≡ n
+multiples-total : (n : ℕ) → total (tableCounts n) ≡ n
 unfolding tableCounts
-ladder-total zero = refl
-ladder-total (suc n) = omega arith
+multiples-total zero = refl
+multiples-total (suc n) = omega arith
 
 -- no step of it subtracts
-ladder-adds : (n : ℕ) → tableCounts n ≡ counts (tableCounts n .doublings) (tableCounts n .additions) 0
+multiples-adds : (n : ℕ) → tableCounts n ≡ counts (tableCounts n .doublings) (tableCounts n .additions) 0
 unfolding tableCounts
-ladder-adds zero = refl
-ladder-adds (suc n) = refl
+multiples-adds zero = refl
+multiples-adds (suc n) = refl
 
 -- ---- the windows
 
@@ -111,7 +111,7 @@ module _ (e d : ℕ) (wide : 1 ≤ d) where
       let few : bitLength e - 1 < d * (topWindow e d + 1) = lt-mul-div-succ (bitLength e - 1) wide in
       bit-length-iff e d .0 (omega (arith, rw z at few))
 
-  pub fixed-one : topWindow e d ≡ 0 → fixedWindowSteps e d ≡ ladder (e - 1)
+  pub fixed-one : topWindow e d ≡ 0 → fixedWindowSteps e d ≡ multiples (e - 1)
   unfolding fixedWindowSteps
   fixed-one z = rw (lt-ltb e (2 ^ d) (one-window z))
 
@@ -126,20 +126,20 @@ module _ (e d : ℕ) (wide : 1 ≤ d) where
   fixed-more some = rw (le-ltb e (2 ^ d) (more-windows some))
 
 -- how many steps a window takes
-pub length-at-window : (d v : ℕ) (b : Building) → length (atWindow d v b .steps) ≡ length (b .steps) + d + cond (eqb v 0) 0 1
+pub length-at-window : (d v : ℕ) (b : PartialPlan) → length (atFixedWindow d v b .steps) ≡ length (b .steps) + d + cond (eqb v 0) 0 1
 length-at-window d zero b = omega (arith, length-doubled d b)
 length-at-window d (suc p) b = rw (eqb·suc-zero p) (omega (arith, length-doubled d b, length-followed (doubled d b) (add (doubled d b .latest) p)))
 
 -- ---- the values
 
 -- Above window i: the latest holds the windows from i on, and the table stands. Once a lower window is done, the latest is the last position.
-record Above (e d i : ℕ) (b : Building) : Type 0 where
+record Above (e d i : ℕ) (b : PartialPlan) : Type 0 where
   holds : Holds b (e / 2 ^ (d * i))
   table : (p : ℕ) → p + 2 ≤ 2 ^ d → Stands b p (suc p)
   latest : i < topWindow e d → b .latest ≡ length (b .steps)
 
 module _ (e d : ℕ) (some : 0 < e) (wide : 1 ≤ d) (small : Small e) (small-table : Small (2 ^ d)) where
-  at-window : (i v : ℕ) (b : Building) → i < topWindow e d → window e d i ≡ v → Above e d (suc i) b → Above e d i (atWindow d v b)
+  at-window : (i v : ℕ) (b : PartialPlan) → i < topWindow e d → window e d i ≡ v → Above e d (suc i) b → Above e d i (atFixedWindow d v b)
   at-window i v b l y a = go v y
     where
       q : ℕ
@@ -157,7 +157,7 @@ module _ (e d : ℕ) (some : 0 < e) (wide : 1 ≤ d) (small : Small e) (small-ta
       kept : (p : ℕ) → p + 2 ≤ 2 ^ d → Stands (doubled d b) p (suc p)
       kept p h = stands-doubled d b p (suc p) (a .table p h)
 
-      go : (v : ℕ) → window e d i ≡ v → Above e d i (atWindow d v b)
+      go : (v : ℕ) → window e d i ≡ v → Above e d i (atFixedWindow d v b)
       go zero y =
           let w : e / 2 ^ (d * i) ≡ q * 2 ^ d = omega (arith, down) in
           record { holds = rw w moved; table = kept; latest = λ h. latest-doubled d b wide }
@@ -170,21 +170,21 @@ module _ (e d : ℕ) (some : 0 < e) (wide : 1 ≤ d) (small : Small e) (small-ta
             latest = λ h. latest-followed (doubled d b) s;
           }
 
-  all : Above e d 0 (downFrom (λ i b. atWindow d (window e d i) b) (topWindow e d) (laddered (2 ^ d - 2) (window e d (topWindow e d) - 1)))
-  all = down-from (Above e d) (λ i b. atWindow d (window e d i) b) (topWindow e d) _ (λ i b l a. at-window i (window e d i) b l refl a) start
+  all : Above e d 0 (downFrom (λ i b. atFixedWindow d (window e d i) b) (topWindow e d) (multiplied (2 ^ d - 2) (window e d (topWindow e d) - 1)))
+  all = down-from (Above e d) (λ i b. atFixedWindow d (window e d i) b) (topWindow e d) _ (λ i b l a. at-window i (window e d i) b l refl a) start
     where
       t : ℕ
       t = topWindow e d
 
-      entry : (p : ℕ) → p ≤ 2 ^ d - 2 → Holds (laddered (2 ^ d - 2) p) (suc p)
-      entry = ladder-holds (2 ^ d - 2) (small-below (suc (2 ^ d - 2)) (2 ^ d) (omega (arith, pow-pos d)) small-table)
+      entry : (p : ℕ) → p ≤ 2 ^ d - 2 → Holds (multiplied (2 ^ d - 2) p) (suc p)
+      entry = multiples-holds (2 ^ d - 2) (small-below (suc (2 ^ d - 2)) (2 ^ d) (omega (arith, pow-pos d)) small-table)
 
-      start : Above e d t (laddered (2 ^ d - 2) (window e d t - 1))
+      start : Above e d t (multiplied (2 ^ d - 2) (window e d t - 1))
       start =
           let p : ℕ = window e d t - 1 in
           let v : suc p ≡ e / 2 ^ (d * t) = omega (arith, top-window e d some wide, above-top-window e d some wide t (omega arith)) in
           record {
-            holds = subst (Holds (laddered (2 ^ d - 2) p)) v (entry p (omega (arith, window-small e d t)));
+            holds = subst (Holds (multiplied (2 ^ d - 2) p)) v (entry p (omega (arith, window-small e d t)));
             table = λ r h. let s = entry r (omega arith) in record { filled = s .within; value = s .value };
             latest = λ h. absurd (omega arith);
           }
@@ -199,8 +199,8 @@ nonzero-windows-le e d (suc i) =
     omega (arith, nonzero-windows-le e d i)
 
 -- a lower window: d doublings, and an addition where it is not zero
-at-window-counts : (d v : ℕ) (b : Building) (x y : ℕ) → v < 2 ^ d → 2 ^ d ≤ x + y + 2 → countsIn b ≡ counts x y 0
-    → countsIn (atWindow d v b) ≡ counts (x + d) (y + cond (eqb v 0) 0 1) 0
+at-window-counts : (d v : ℕ) (b : PartialPlan) (x y : ℕ) → v < 2 ^ d → 2 ^ d ≤ x + y + 2 → countsIn b ≡ counts x y 0
+    → countsIn (atFixedWindow d v b) ≡ counts (x + d) (y + cond (eqb v 0) 0 1) 0
 at-window-counts d zero b x y l h c = counts-doubled d b x y 0 c ∙ simp add-zero
 at-window-counts zero (suc p) b x y l h c = absurd (omega arith)
 at-window-counts (suc d) (suc p) b x y l h c =
@@ -208,8 +208,8 @@ at-window-counts (suc d) (suc p) b x y l h c =
     rw (eqb·suc-zero p)
     (counts-add (doubled (suc d) b) (x + suc d) y 0 (counts-doubled (suc d) b x y 0 c) p (not-before-doubled (suc d) b p (omega arith) (omega arith)))
 
-windows-counts : (e d n : ℕ) (b : Building) (x y : ℕ) → 2 ^ d ≤ x + y + 2 → countsIn b ≡ counts x y 0
-    → countsIn (downFrom (λ i b. atWindow d (window e d i) b) n b) ≡ counts (x + d * n) (y + nonzeroWindows e d n) 0
+windows-counts : (e d n : ℕ) (b : PartialPlan) (x y : ℕ) → 2 ^ d ≤ x + y + 2 → countsIn b ≡ counts x y 0
+    → countsIn (downFrom (λ i b. atFixedWindow d (window e d i) b) n b) ≡ counts (x + d * n) (y + nonzeroWindows e d n) 0
 unfolding downFrom nonzeroWindows
 windows-counts e d zero b x y h c = c ∙ simp (mul-zero, add-zero)
 windows-counts e d (suc i) b x y h c =
@@ -217,27 +217,27 @@ windows-counts e d (suc i) b x y h c =
     let one : ℕ = cond (eqb v 0) 0 1 in
     let f : x + d * suc i ≡ x + d + d * i = omega (arith, mul-suc d i) in
     let g : y + (nonzeroWindows e d i + one) ≡ y + one + nonzeroWindows e d i = omega arith in
-    rw (f, g) (windows-counts e d i (atWindow d v b) (x + d) (y + one) (omega arith) (at-window-counts d v b x y (window-small e d i) h c))
+    rw (f, g) (windows-counts e d i (atFixedWindow d v b) (x + d) (y + one) (omega arith) (at-window-counts d v b x y (window-small e d i) h c))
 
 module _ (e d : ℕ) where
-  -- below 2 ^ d a ladder; otherwise the table, d doublings for each lower window, and an addition for each that is not zero
+  -- below 2 ^ d a multiples; otherwise the table, d doublings for each lower window, and an addition for each that is not zero
   pub fixed-counts : countsOf (fixedWindowSteps e d) ≡ cond (ltb e (2 ^ d)) (tableCounts (e - 1))
       (counts (tableCounts (2 ^ d - 2) .doublings + d * topWindow e d) (tableCounts (2 ^ d - 2) .additions + nonzeroWindows e d (topWindow e d)) 0)
   unfolding fixedWindowSteps windowSteps
   fixed-counts =
       let n : ℕ = 2 ^ d - 2 in
       let t : ℕ = topWindow e d in
-      let long : 2 ^ d ≤ tableCounts n .doublings + tableCounts n .additions + 2 = omega (arith, ladder-total n, ap total (ladder-adds n)) in
-      counts-cond (ltb e (2 ^ d)) (ladder (e - 1)) (windowSteps e d)
-      ∙ rw (ladder-counts (e - 1), windows-counts e d t (laddered n (window e d t - 1)) (tableCounts n .doublings) (tableCounts n .additions) long (ladder-counts n ∙ ladder-adds n))
+      let long : 2 ^ d ≤ tableCounts n .doublings + tableCounts n .additions + 2 = omega (arith, multiples-total n, ap total (multiples-adds n)) in
+      counts-cond (ltb e (2 ^ d)) (multiples (e - 1)) (windowSteps e d)
+      ∙ rw (multiples-counts (e - 1), windows-counts e d t (multiplied n (window e d t - 1)) (tableCounts n .doublings) (tableCounts n .additions) long (multiples-counts n ∙ multiples-adds n))
 
   -- Brauer's bound: the table, and for each lower window d doublings and at most one addition
   pub fixed-brauer : length (fixedWindowSteps e d) ≤ 2 ^ d - 2 + (d + 1) * topWindow e d
   fixed-brauer =
       rw (length-counted (fixedWindowSteps e d), fixed-counts)
       (cond-cases (ltb e (2 ^ d)) _ _ (λ c. total c ≤ 2 ^ d - 2 + (d + 1) * topWindow e d)
-      (λ t. omega (arith, ladder-total (e - 1), ltb-true e (2 ^ d) t))
-      (λ t. omega (arith, ladder-total (2 ^ d - 2), add-mul d 1 (topWindow e d), nonzero-windows-le e d (topWindow e d))))
+      (λ t. omega (arith, multiples-total (e - 1), ltb-true e (2 ^ d) t))
+      (λ t. omega (arith, multiples-total (2 ^ d - 2), add-mul d 1 (topWindow e d), nonzero-windows-le e d (topWindow e d))))
 
 module _ (e d : ℕ) (some : 0 < e) (wide : 1 ≤ d) where
   pub fixed-made : Small e → Small (2 ^ d) → Made (fixedWindowSteps e d) e
@@ -246,8 +246,8 @@ module _ (e d : ℕ) (some : 0 < e) (wide : 1 ≤ d) where
       let last : ℕ = e - 1 in
       let v : suc last ≡ e = omega arith in
       let a = all e d some wide small small-table in
-      cond-cases (ltb e (2 ^ d)) (ladder last) (windowSteps e d) (λ steps. Made steps e)
-      (λ t. made (laddered last last) e (subst (Holds (laddered last last)) v (ladder-holds last (rw v small) last (omega arith))) (sym (length-ladder last)))
+      cond-cases (ltb e (2 ^ d)) (multiples last) (windowSteps e d) (λ steps. Made steps e)
+      (λ t. made (multiplied last last) e (subst (Holds (multiplied last last)) v (multiples-holds last (rw v small) last (omega arith))) (sym (length-multiples last)))
       (λ t. rw (mul-zero d, quotient-none e) at (made _ (e / 2 ^ (d * 0)) (a .holds) (a .latest (lower-window e d some wide (ltb-false e (2 ^ d) t)))))
 
   -- the table, and at most two steps for each bit below the top

@@ -17,10 +17,10 @@ use Rattle.integers.specs.Positional.{bytesValue}
 use Rattle.integers.proofs.Positional.{Below, positional-lt}
 use Rattle.chains.specs.Steps.{Step, add, subtract}
 use Rattle.chains.specs.Values.{at, start, stepValue, extend, valuesOf, endOf}
-use Rattle.chains.specs.Sound.{stepAt, Named, Held, Sound}
+use Rattle.chains.specs.Sound.{stepAt, WellFormed, Representable, Sound}
 use Rattle.chains.proofs.Values.{extend-append, extend-keeps, length-values}
 use Rattle.signed_digits.proofs.Steps.{minus-smaller}
-use Rattle.methods.specs.Building.{Building, none, followed, double, addAt, subtractAt, doubled, downFrom}
+use Rattle.methods.specs.PartialPlan.{PartialPlan, none, followed, double, addAt, subtractAt, doubled, downFrom}
 
 -- ---- one step more
 
@@ -38,25 +38,25 @@ value-new steps s =
     ap (λ (l : List ℤ). at l (suc (length steps))) (values-followed steps s) ∙ getD-at (valuesOf steps) (stepValue (valuesOf steps) s) [] (pos 0) (suc (length steps)) (length-values steps)
 
 pub sound-none : Sound []
-sound-none = record { named = λ n h. absurd (omega arith); held = λ n h. absurd (omega arith) }
+sound-none = record { formed = λ n h. absurd (omega arith); representable = λ n h. absurd (omega arith) }
 
-pub sound-followed : (steps : List Step) (s : Step) → Sound steps → Named (suc (length steps)) s → Held (stepValue (valuesOf steps) s) → Sound (steps ++ (s ∷ []))
-sound-followed steps s all n v = record { named = named; held = held }
+pub sound-followed : (steps : List Step) (s : Step) → Sound steps → WellFormed (suc (length steps)) s → Representable (stepValue (valuesOf steps) s) → Sound (steps ++ (s ∷ []))
+sound-followed steps s all n v = record { formed = formed; representable = representable }
   where
-    named : (i : ℕ) → i < length (steps ++ (s ∷ [])) → Named (suc i) (stepAt (steps ++ (s ∷ [])) i)
-    named i h = go (decLt i (length steps))
+    formed : (i : ℕ) → i < length (steps ++ (s ∷ [])) → WellFormed (suc i) (stepAt (steps ++ (s ∷ [])) i)
+    formed i h = go (decLt i (length steps))
       where
-        go : Dec (i < length steps) → Named (suc i) (stepAt (steps ++ (s ∷ [])) i)
-        go (yes l) = rw (List·getD-append steps (s ∷ []) (add 0 0) i l) (all .named i l)
+        go : Dec (i < length steps) → WellFormed (suc i) (stepAt (steps ++ (s ∷ [])) i)
+        go (yes l) = rw (List·getD-append steps (s ∷ []) (add 0 0) i l) (all .formed i l)
         go (no l) =
             let e : i ≡ length steps = omega (arith, length-append steps (s ∷ [])) in
             rw (e, getD-at steps s [] (add 0 0) (length steps) refl) n
 
-    held : (i : ℕ) → i < length (steps ++ (s ∷ [])) → Held (at (valuesOf (steps ++ (s ∷ []))) (suc i))
-    held i h = go (decLt i (length steps))
+    representable : (i : ℕ) → i < length (steps ++ (s ∷ [])) → Representable (at (valuesOf (steps ++ (s ∷ []))) (suc i))
+    representable i h = go (decLt i (length steps))
       where
-        go : Dec (i < length steps) → Held (at (valuesOf (steps ++ (s ∷ []))) (suc i))
-        go (yes l) = rw (value-kept steps s (suc i) (omega arith)) (all .held i l)
+        go : Dec (i < length steps) → Representable (at (valuesOf (steps ++ (s ∷ []))) (suc i))
+        go (yes l) = rw (value-kept steps s (suc i) (omega arith)) (all .representable i l)
         go (no l) =
             let e : i ≡ length steps = omega (arith, length-append steps (s ∷ [])) in
             rw (e, value-new steps s) v
@@ -83,13 +83,13 @@ pub quotient-small : (e i : ℕ) → Small e → Small (e / 2 ^ i)
 quotient-small e i s = small-below (e / 2 ^ i) e (shr-le e i) s
 
 -- all steps so far are sound, and the latest position holds v
-pub record Holds (b : Building) (v : ℕ) : Type 0 where
+pub record Holds (b : PartialPlan) (v : ℕ) : Type 0 where
   pub sound : Sound (b .steps)
   pub within : b .latest ≤ length (b .steps)
   pub value : at (valuesOf (b .steps)) (b .latest) ≡ pos v
 
 -- position p, filled already, holds w
-pub record Stands (b : Building) (p w : ℕ) : Type 0 where
+pub record Stands (b : PartialPlan) (p w : ℕ) : Type 0 where
   pub filled : p ≤ length (b .steps)
   pub value : at (valuesOf (b .steps)) p ≡ pos w
 
@@ -97,28 +97,28 @@ pub none-holds : Holds none 1
 unfolding valuesOf extend
 none-holds = record { sound = sound-none; within = omega arith; value = refl }
 
-pub latest-followed : (b : Building) (s : Step) → followed b s .latest ≡ length (followed b s .steps)
+pub latest-followed : (b : PartialPlan) (s : Step) → followed b s .latest ≡ length (followed b s .steps)
 unfolding followed
 latest-followed b s = sym (length-append (b .steps) (s ∷ []))
 
-pub length-followed : (b : Building) (s : Step) → length (followed b s .steps) ≡ length (b .steps) + 1
+pub length-followed : (b : PartialPlan) (s : Step) → length (followed b s .steps) ≡ length (b .steps) + 1
 unfolding followed
 length-followed b s = length-append (b .steps) (s ∷ [])
 
 -- what stands stays
-pub stands-followed : (b : Building) (s : Step) (p w : ℕ) → Stands b p w → Stands (followed b s) p w
+pub stands-followed : (b : PartialPlan) (s : Step) (p w : ℕ) → Stands b p w → Stands (followed b s) p w
 unfolding followed
 stands-followed b s p w t = record { filled = rw length-append (omega (arith, t .filled)); value = value-kept (b .steps) s p (t .filled) ∙ t .value }
 
 -- position 0 holds 1 from the start
-pub one-stands : (b : Building) → Stands b 0 1
+pub one-stands : (b : PartialPlan) → Stands b 0 1
 unfolding valuesOf
 one-stands b = record { filled = omega arith; value = extend-keeps start (b .steps) 0 (omega arith) }
 
 zero-not : (v : ℕ) → 0 < v → v ≡ 0 → ⊥
 zero-not v p e = omega arith
 
-pub followed-holds : (b : Building) (s : Step) (v : ℕ) → Sound (b .steps) → Named (suc (length (b .steps))) s → stepValue (valuesOf (b .steps)) s ≡ pos v
+pub followed-holds : (b : PartialPlan) (s : Step) (v : ℕ) → Sound (b .steps) → WellFormed (suc (length (b .steps))) s → stepValue (valuesOf (b .steps)) s ≡ pos v
     → 0 < v → Small v → Holds (followed b s) v
 unfolding followed Small
 followed-holds b s v all n e p l = record {
@@ -130,39 +130,39 @@ followed-holds b s v all n e p l = record {
 -- ---- the three kinds of step
 
 -- the latest is below the next position
-named-add : (b : Building) (p : ℕ) → b .latest ≤ length (b .steps) → p ≤ length (b .steps) → Named (suc (length (b .steps))) (add (b .latest) p)
-named-add b p h l = record { operation = omega arith; first = omega arith; second = omega arith }
+formed-add : (b : PartialPlan) (p : ℕ) → b .latest ≤ length (b .steps) → p ≤ length (b .steps) → WellFormed (suc (length (b .steps))) (add (b .latest) p)
+formed-add b p h l = record { operation = omega arith; first = omega arith; second = omega arith }
 
-pub add-holds : (b : Building) (p v w : ℕ) → Holds b v → Stands b p w → 0 < v + w → Small (v + w) → Holds (addAt p b) (v + w)
+pub add-holds : (b : PartialPlan) (p v w : ℕ) → Holds b v → Stands b p w → 0 < v + w → Small (v + w) → Holds (addAt p b) (v + w)
 unfolding stepValue
 add-holds b p v w h t some small =
-    followed-holds b (add (b .latest) p) (v + w) (h .sound) (named-add b p (h .within) (t .filled)) (rw (h .value, t .value)) some small
+    followed-holds b (add (b .latest) p) (v + w) (h .sound) (formed-add b p (h .within) (t .filled)) (rw (h .value, t .value)) some small
 
-pub double-holds : (b : Building) (v : ℕ) → Holds b v → 0 < v → Small (2 * v) → Holds (double b) (2 * v)
+pub double-holds : (b : PartialPlan) (v : ℕ) → Holds b v → 0 < v → Small (2 * v) → Holds (double b) (2 * v)
 double-holds b v h some small =
     let e : 2 * v ≡ v + v = omega arith in
     rw e (add-holds b (b .latest) v v h (record { filled = h .within; value = h .value }) (omega arith) (rw e at small))
 
-pub subtract-holds : (b : Building) (p v w : ℕ) → Holds b v → Stands b p w → w < v → Small v → Holds (subtractAt p b) (v - w)
+pub subtract-holds : (b : PartialPlan) (p v w : ℕ) → Holds b v → Stands b p w → w < v → Small v → Holds (subtractAt p b) (v - w)
 unfolding stepValue
 subtract-holds b p v w h t less small =
     followed-holds b (subtract (b .latest) p) (v - w) (h .sound) (record { operation = omega arith; first = omega (arith, h .within); second = omega (arith, t .filled) })
     (rw (h .value, t .value) (minus-smaller v w (omega arith))) (omega arith) (small-below (v - w) v (omega arith) small)
 
 -- a doubling, then what stands at p added or taken away
-pub double-add : (b : Building) (p v w : ℕ) → Holds b v → Stands b p w → 0 < v → Small (2 * v + w) → Holds (addAt p (double b)) (2 * v + w)
+pub double-add : (b : PartialPlan) (p v w : ℕ) → Holds b v → Stands b p w → 0 < v → Small (2 * v + w) → Holds (addAt p (double b)) (2 * v + w)
 double-add b p v w h t some small =
     add-holds (double b) p (2 * v) w (double-holds b v h some (small-below (2 * v) (2 * v + w) (omega arith) small))
     (stands-followed b (add (b .latest) (b .latest)) p w t) (omega arith) small
 
-pub double-subtract : (b : Building) (p v w : ℕ) → Holds b v → Stands b p w → w < 2 * v → Small (2 * v) → Holds (subtractAt p (double b)) (2 * v - w)
+pub double-subtract : (b : PartialPlan) (p v w : ℕ) → Holds b v → Stands b p w → w < 2 * v → Small (2 * v) → Holds (subtractAt p (double b)) (2 * v - w)
 double-subtract b p v w h t less small =
     subtract-holds (double b) p (2 * v) w (double-holds b v h (omega arith) small) (stands-followed b (add (b .latest) (b .latest)) p w t) less small
 
 -- ---- repeated
 
 -- n doublings, with what stood before
-pub doubled-holds : (n : ℕ) (b : Building) (v : ℕ) → Holds b v → 0 < v → Small (v * 2 ^ n) → Holds (doubled n b) (v * 2 ^ n)
+pub doubled-holds : (n : ℕ) (b : PartialPlan) (v : ℕ) → Holds b v → 0 < v → Small (v * 2 ^ n) → Holds (doubled n b) (v * 2 ^ n)
 unfolding doubled
 doubled-holds zero b v h some small = let e : v * 2 ^ 0 ≡ v = omega arith in rw e h
 doubled-holds (suc n) b v h some small =
@@ -170,49 +170,49 @@ doubled-holds (suc n) b v h some small =
     let one : 2 * v ≤ 2 * v * 2 ^ n = omega (arith, mul-le-mul-left (2 * v) (pow-pos n)) in
     rw e (doubled-holds n (double b) (2 * v) (double-holds b v h some (small-below (2 * v) (2 * v * 2 ^ n) one (rw e at small))) (omega arith) (rw e at small))
 
-pub stands-doubled : (n : ℕ) (b : Building) (p w : ℕ) → Stands b p w → Stands (doubled n b) p w
+pub stands-doubled : (n : ℕ) (b : PartialPlan) (p w : ℕ) → Stands b p w → Stands (doubled n b) p w
 unfolding doubled
 stands-doubled zero b p w t = t
 stands-doubled (suc n) b p w t = stands-doubled n (double b) p w (stands-followed b (add (b .latest) (b .latest)) p w t)
 
-pub length-doubled : (n : ℕ) (b : Building) → length (doubled n b .steps) ≡ length (b .steps) + n
+pub length-doubled : (n : ℕ) (b : PartialPlan) → length (doubled n b .steps) ≡ length (b .steps) + n
 unfolding doubled
 length-doubled zero b = omega arith
 length-doubled (suc n) b = omega (arith, length-doubled n (double b), length-followed b (add (b .latest) (b .latest)))
 
 -- the last of n + 1 doublings
-pub doubled-last : (n : ℕ) (b : Building) → doubled (suc n) b ≡ double (doubled n b)
+pub doubled-last : (n : ℕ) (b : PartialPlan) → doubled (suc n) b ≡ double (doubled n b)
 unfolding doubled
 doubled-last zero b = refl
 doubled-last (suc n) b = doubled-last n (double b)
 
 -- one doubling more
-pub doubled-more : (n : ℕ) (b : Building) → double (doubled n b) ≡ doubled (n + 1) b
+pub doubled-more : (n : ℕ) (b : PartialPlan) → double (doubled n b) ≡ doubled (n + 1) b
 unfolding doubled
 doubled-more zero b = refl
 doubled-more (suc n) b = let e : suc n + 1 ≡ suc (n + 1) = omega arith in rw e (doubled-more n (double b))
 
 -- after a doubling the latest is the last position
-pub latest-doubled : (n : ℕ) (b : Building) → 1 ≤ n → doubled n b .latest ≡ length (doubled n b .steps)
+pub latest-doubled : (n : ℕ) (b : PartialPlan) → 1 ≤ n → doubled n b .latest ≡ length (doubled n b .steps)
 unfolding doubled
 latest-doubled zero b h = absurd (omega arith)
 latest-doubled (suc zero) b h = latest-followed b (add (b .latest) (b .latest))
 latest-doubled (suc (suc n)) b h = latest-doubled (suc n) (double b) (omega arith)
 
 -- n doublings, then what stands at p added
-pub doubled-add : (n : ℕ) (b : Building) (p v w : ℕ) → Holds b v → Stands b p w → 0 < v → Small (v * 2 ^ n + w) → Holds (addAt p (doubled n b)) (v * 2 ^ n + w)
+pub doubled-add : (n : ℕ) (b : PartialPlan) (p v w : ℕ) → Holds b v → Stands b p w → 0 < v → Small (v * 2 ^ n + w) → Holds (addAt p (doubled n b)) (v * 2 ^ n + w)
 doubled-add n b p v w h t some small =
     add-holds (doubled n b) p (v * 2 ^ n) w (doubled-holds n b v h some (small-below (v * 2 ^ n) (v * 2 ^ n + w) (omega arith) small))
     (stands-doubled n b p w t) (omega (arith, mul-pos some (pow-pos n))) small
 
 -- from n places down to none
-pub down-from {ℓ} : (P : ℕ → Building → Type ℓ) (f : ℕ → Building → Building) (n : ℕ) (b : Building) → ((i : ℕ) (b : Building) → i < n → P (suc i) b → P i (f i b)) → P n b → P 0 (downFrom f n b)
+pub down-from {ℓ} : (P : ℕ → PartialPlan → Type ℓ) (f : ℕ → PartialPlan → PartialPlan) (n : ℕ) (b : PartialPlan) → ((i : ℕ) (b : PartialPlan) → i < n → P (suc i) b → P i (f i b)) → P n b → P 0 (downFrom f n b)
 unfolding downFrom
 down-from P f zero b step h = h
 down-from P f (suc n) b step h = down-from P f n (f n b) (λ i c l q. step i c (omega arith) q) (step n b (omega arith) h)
 
 -- steps are only added
-pub down-grows : (f : ℕ → Building → Building) (n : ℕ) (b : Building) → ((i : ℕ) (b : Building) → length (b .steps) ≤ length (f i b .steps)) → length (b .steps) ≤ length (downFrom f n b .steps)
+pub down-grows : (f : ℕ → PartialPlan → PartialPlan) (n : ℕ) (b : PartialPlan) → ((i : ℕ) (b : PartialPlan) → length (b .steps) ≤ length (f i b .steps)) → length (b .steps) ≤ length (downFrom f n b .steps)
 unfolding downFrom
 down-grows f zero b more = omega arith
 down-grows f (suc n) b more = omega (arith, more n b, down-grows f n (f n b) more)
@@ -222,5 +222,5 @@ pub record Made (steps : List Step) (e : ℕ) : Type 0 where
   pub sound : Sound steps
   pub end : endOf steps ≡ pos e
 
-pub made : (b : Building) (e : ℕ) → Holds b e → b .latest ≡ length (b .steps) → Made (b .steps) e
+pub made : (b : PartialPlan) (e : ℕ) → Holds b e → b .latest ≡ length (b .steps) → Made (b .steps) e
 made b e h l = record { sound = h .sound; end = rw (← l) (h .value) }

@@ -14,7 +14,7 @@ use Rattle.signed_digits.proofs.Triple.{digit-left}
 use Rattle.signed_digits.proofs.Length.{length-at-most}
 use Rattle.chains.specs.Steps.{add, subtract}
 use Rattle.chains.specs.Counts.{counts, countsOf}
-use Rattle.methods.specs.Building.{Building, none, double, downFrom}
+use Rattle.methods.specs.PartialPlan.{PartialPlan, none, double, downFrom}
 use Rattle.integers.specs.Bits.{bitLength}
 use Rattle.methods.specs.NonAdjacentForm.{atDigit, digitSteps, nafSteps}
 use Rattle.methods.specs.Forecast.{isPlus, isMinus, plusDigits, minusDigits}
@@ -23,7 +23,7 @@ use Rattle.methods.proofs.Laws.{Small, small-below, Holds, Made, none-h
 use Rattle.methods.proofs.Counted.{countsIn, counts-double, counts-add, counts-subtract, not-before}
 
 -- how many steps a digit takes
-pub length-at-digit : (d : ℤ) (b : Building) → length (atDigit d b .steps) ≡ length (b .steps) + isPlus d + isMinus d + 1
+pub length-at-digit : (d : ℤ) (b : PartialPlan) → length (atDigit d b .steps) ≡ length (b .steps) + isPlus d + isMinus d + 1
 length-at-digit (pos zero) b = omega (arith, length-followed b (add (b .latest) (b .latest)))
 length-at-digit (pos (suc n)) b = omega (arith, length-followed b (add (b .latest) (b .latest)), length-followed (double b) (add (double b .latest) 0))
 length-at-digit (negsuc n) b = omega (arith, length-followed b (add (b .latest) (b .latest)), length-followed (double b) (subtract (double b .latest) 0))
@@ -39,7 +39,7 @@ rests-le (suc i) n = go (rests 2 i n) (rests-le i n)
     go (suc m) h = omega (arith, rest-less 2 (suc m) (omega arith) (omega arith))
 
 -- Above place i: the latest holds what is left there. Each digit below the top took a doubling, and one step more where it is not 0.
-record Above (e i : ℕ) (b : Building) : Type 0 where
+record Above (e i : ℕ) (b : PartialPlan) : Type 0 where
   holds : Holds b (rests 2 i e)
   latest : b .latest ≡ length (b .steps)
   few : length (b .steps) + 2 * i ≤ 2 * (length (canonical (pos e)) - 1)
@@ -81,7 +81,7 @@ module _ (e : ℕ) (some : 0 < e) (small : Small (e + 1)) where
   unfolding rests
   digits-left i h = naf-step 2 (rests 2 i e) (omega arith) (left i h)
 
-  at-digit : (i : ℕ) (d : ℤ) (b : Building) → i < length (canonical (pos e)) - 1 → Low (rests 2 i e) (rests 2 (suc i) e) d
+  at-digit : (i : ℕ) (d : ℤ) (b : PartialPlan) → i < length (canonical (pos e)) - 1 → Low (rests 2 i e) (rests 2 (suc i) e) d
       → canonical (pos (rests 2 i e)) ≡ d ∷ canonical (pos (rests 2 (suc i) e)) → Above e (suc i) b → Above e i (atDigit d b)
   unfolding plusDigits minusDigits
   at-digit i d b l (even q) c a =

@@ -16,9 +16,9 @@ use Rattle.rules.specs.declared.Counts.{Counts}
 use Rattle.signed_digits.proofs.Parts.{cond-cases}
 use Rattle.chains.specs.Steps.{Step, add}
 use Rattle.chains.specs.Counts.{counts, stepCounts, countsOf}
-use Rattle.methods.specs.Building.{Building, followed, double, addAt, doubled}
+use Rattle.methods.specs.PartialPlan.{PartialPlan, followed, double, addAt, doubled}
 use Rattle.integers.specs.Bits.{bit, bitLength}
-use Rattle.methods.specs.SlidingWindows.{tableStep, oddTable, oddPosition, tableSize, longest, windowValue, slide, scanFrom, slidingWindowSteps}
+use Rattle.methods.specs.SlidingWindows.{tableStep, oddTable, oddPosition, tableLength, longest, windowValue, slide, scanFrom, slidingWindowSteps}
 use Rattle.methods.specs.Forecast.{tableCounts, laterWindows, scanCounts, slidingWindowCounts}
 use Rattle.integers.proofs.Bits.{bit-length-iff, some-bits, top-bit, place-down, places-down, bit-small, quotient-none}
 use Rattle.methods.proofs.Counted.{countsIn, counts-double, counts-add, counts-doubled}
@@ -51,7 +51,7 @@ position-value v o =
     (λ t. let n : v ≢ 1 = eqb-false v 1 t in omega (arith, odd-value ((v + 1) / 2) (omega arith)))
 
 -- its first n steps; each adds to the latest what stands before it
-abbrev pub table : ℕ → Building
+abbrev pub table : ℕ → PartialPlan
 table n = record { steps = oddTable n; latest = n }
 
 pub length-table : (n : ℕ) → length (oddTable n) ≡ n
@@ -129,7 +129,7 @@ pub record Entry (d v : ℕ) : Type 0 where
 
 module _ (d : ℕ) (wide : 1 ≤ d) where
   -- no step for d = 1, and otherwise half of 2 ^ d
-  size-cases : (P : ℕ → Type 0) → (d ≡ 1 → P 0) → ((h : ℕ) → 2 ≤ h → 2 ^ d ≡ 2 * h → P h) → P (tableSize d)
+  size-cases : (P : ℕ → Type 0) → (d ≡ 1 → P 0) → ((h : ℕ) → 2 ≤ h → 2 ^ d ≡ 2 * h → P h) → P (tableLength d)
   size-cases P one more =
       elim (decLt d 2) [
         | yes l ↦ rw (lt-ltb d 2 l) (one (omega arith))
@@ -138,11 +138,11 @@ module _ (d : ℕ) (wide : 1 ≤ d) where
             rw (le-ltb d 2 (omega arith)) (more (2 ^ (d - 1)) (pow-mono {i = 1} (omega arith)) (ap (λ (n : ℕ). 2 ^ n) s ∙ pow-succ' 2 (d - 1)))
       ]
 
-  table-narrow : tableValue (tableSize d) ≤ 2 ^ d
+  table-narrow : tableValue (tableLength d) ≤ 2 ^ d
   unfolding tableValue
   table-narrow = size-cases (λ s. tableValue s ≤ 2 ^ d) (λ one. pow-pos d) (λ h two twice. omega (arith, odd-value h two))
 
-  entry-within : (v : ℕ) → Entry d v → oddPosition v ≤ tableSize d
+  entry-within : (v : ℕ) → Entry d v → oddPosition v ≤ tableLength d
   entry-within v t =
       size-cases (λ s. oddPosition v ≤ s) (λ one. let z : v ≡ 1 = omega (arith, rw one at (t .narrow)) in rw z (omega arith))
       (λ h two twice. cond-cases (eqb v 1) 0 ((v + 1) / 2) (λ p. p ≤ h) (λ u. omega arith) (λ u. omega (arith, t .narrow)))
@@ -211,36 +211,36 @@ reaches e n (suc l) h b =
 abbrev pub belowWindow : ℕ → ℕ → ℕ → ℕ
 belowWindow e d n = suc n - longest e n d
 
-abbrev atWindow : ℕ → ℕ → ℕ → Building → Building
-atWindow e d n b = addAt (oddPosition (windowValue e n (longest e n d))) (doubled (longest e n d) b)
+abbrev pastWindow : ℕ → ℕ → ℕ → PartialPlan → PartialPlan
+pastWindow e d n b = addAt (oddPosition (windowValue e n (longest e n d))) (doubled (longest e n d) b)
 
 -- `slide` without its fuel: from place i and b the scan comes to c, and meets w windows
-data Scan (e d : ℕ) : ℕ → Building → ℕ → Building → Type 0 where
-  done : {b : Building} → Scan e d 0 b 0 b
-  window : (n : ℕ) (b : Building) {w : ℕ} {c : Building} → bit e n ≡ 1 → Scan e d (belowWindow e d n) (atWindow e d n b) w c → Scan e d (suc n) b (suc w) c
-  zero-bit : (n : ℕ) (b : Building) {w : ℕ} {c : Building} → bit e n ≢ 1 → Scan e d n (double b) w c → Scan e d (suc n) b w c
+data Scan (e d : ℕ) : ℕ → PartialPlan → ℕ → PartialPlan → Type 0 where
+  done : {b : PartialPlan} → Scan e d 0 b 0 b
+  window : (n : ℕ) (b : PartialPlan) {w : ℕ} {c : PartialPlan} → bit e n ≡ 1 → Scan e d (belowWindow e d n) (pastWindow e d n b) w c → Scan e d (suc n) b (suc w) c
+  zero-bit : (n : ℕ) (b : PartialPlan) {w : ℕ} {c : PartialPlan} → bit e n ≢ 1 → Scan e d n (double b) w c → Scan e d (suc n) b w c
 
 -- At place i: the latest holds the bits from i on, and each entry of the table stands. At place 0 the latest is the position filled last.
-record Reached (e d i : ℕ) (b : Building) : Type 0 where
+record Reached (e d i : ℕ) (b : PartialPlan) : Type 0 where
   holds : Holds b (e / 2 ^ i)
   positive : 0 < e / 2 ^ i
   stands : (v : ℕ) → Entry d v → Stands b (oddPosition v) v
   last : i ≡ 0 → b .latest ≡ length (b .steps)
 
 module _ (e d : ℕ) (wide : 1 ≤ d) where
-  scan : (f i : ℕ) (b : Building) → i ≤ f → Scan e d i b (laterWindows e d f i) (slide e d f i b)
+  scan : (f i : ℕ) (b : PartialPlan) → i ≤ f → Scan e d i b (laterWindows e d f i) (slide e d f i b)
   unfolding slide laterWindows
   scan zero zero b h = done
   scan zero (suc n) b h = absurd (omega arith)
   scan (suc f) zero b h = done
   scan (suc f) (suc n) b h =
       elim (ℕ-discrete (bit e n) 1) [
-        | yes o ↦ rw (eq-eqb (bit e n) 1 o) (window n b o (scan f (belowWindow e d n) (atWindow e d n b) (omega (arith, longest-window e n d o wide .some))))
+        | yes o ↦ rw (eq-eqb (bit e n) 1 o) (window n b o (scan f (belowWindow e d n) (pastWindow e d n b) (omega (arith, longest-window e n d o wide .some))))
         | no z ↦ rw (ne-eqb (bit e n) 1 z) (zero-bit n b z (scan f n (double b) (omega arith)))
       ]
 
   -- fuel beyond the place changes nothing
-  pub scan-fuel : (f g i : ℕ) (b : Building) → i ≤ f → i ≤ g → (laterWindows e d f i ≡ laterWindows e d g i) × (slide e d f i b ≡ slide e d g i b)
+  pub scan-fuel : (f g i : ℕ) (b : PartialPlan) → i ≤ f → i ≤ g → (laterWindows e d f i ≡ laterWindows e d g i) × (slide e d f i b ≡ slide e d g i b)
   unfolding slide laterWindows
   scan-fuel zero zero i b h k = (refl, refl)
   scan-fuel zero (suc g) zero b h k = (refl, refl)
@@ -252,31 +252,31 @@ module _ (e d : ℕ) (wide : 1 ≤ d) where
       elim (ℕ-discrete (bit e n) 1) [
         | yes o ↦
             let less = longest-window e n d o wide .some in
-            let r = scan-fuel f g (belowWindow e d n) (atWindow e d n b) (omega arith) (omega arith) in
+            let r = scan-fuel f g (belowWindow e d n) (pastWindow e d n b) (omega arith) (omega arith) in
             rw (eq-eqb (bit e n) 1 o) (ap suc (r .0), r .1)
         | no z ↦ rw (ne-eqb (bit e n) 1 z) (scan-fuel f g n (double b) (omega arith) (omega arith))
       ]
 
-  length-window : (n : ℕ) (b : Building) → length (atWindow e d n b .steps) ≡ length (b .steps) + longest e n d + 1
+  length-window : (n : ℕ) (b : PartialPlan) → length (pastWindow e d n b .steps) ≡ length (b .steps) + longest e n d + 1
   length-window n b = length-followed (doubled (longest e n d) b) _ ∙ ap (λ (m : ℕ). m + 1) (length-doubled (longest e n d) b)
 
   -- steps are only added
-  scan-grows : {i w : ℕ} {b c : Building} → Scan e d i b w c → length (b .steps) ≤ length (c .steps)
+  scan-grows : {i w : ℕ} {b c : PartialPlan} → Scan e d i b w c → length (b .steps) ≤ length (c .steps)
   scan-grows done = omega arith
   scan-grows (window n b o s) = omega (arith, scan-grows s, length-window n b)
   scan-grows (zero-bit n b z s) = omega (arith, scan-grows s, length-followed b (add (b .latest) (b .latest)))
 
-  pub slide-grows : (f i : ℕ) (b : Building) → i ≤ f → length (b .steps) ≤ length (slide e d f i b .steps)
+  pub slide-grows : (f i : ℕ) (b : PartialPlan) → i ≤ f → length (b .steps) ≤ length (slide e d f i b .steps)
   slide-grows f i b h = scan-grows (scan f i b h)
 
   -- at most two steps for each bit
-  scan-short : {i w : ℕ} {b c : Building} → Scan e d i b w c → length (c .steps) ≤ length (b .steps) + 2 * i
+  scan-short : {i w : ℕ} {b c : PartialPlan} → Scan e d i b w c → length (c .steps) ≤ length (b .steps) + 2 * i
   scan-short done = omega arith
   scan-short (window n b o s) = let w = longest-window e n d o wide in omega (arith, scan-short s, length-window n b)
   scan-short (zero-bit n b z s) = omega (arith, scan-short s, length-followed b (add (b .latest) (b .latest)))
 
   -- a doubling for each bit, and an addition for each window
-  scan-counted : {i w : ℕ} {b c : Building} → Scan e d i b w c → tableSize d ≤ length (b .steps)
+  scan-counted : {i w : ℕ} {b c : PartialPlan} → Scan e d i b w c → tableLength d ≤ length (b .steps)
       → (x y : ℕ) → countsIn b ≡ counts x y 0 → countsIn c ≡ counts (x + i) (y + w) 0
   scan-counted done t x y q = q ∙ simp add-zero
   scan-counted (window n b {w} o s) t x y q =
@@ -291,10 +291,10 @@ module _ (e d : ℕ) (wide : 1 ≤ d) where
       rw f (scan-counted s (omega (arith, length-followed b (add (b .latest) (b .latest)))) (x + 1) y (counts-double b x y 0 q))
 
   module _ (small : Small e) where
-    at-window : (n : ℕ) (b : Building) → bit e n ≡ 1 → Reached e d (suc n) b → Reached e d (belowWindow e d n) (atWindow e d n b)
+    at-window : (n : ℕ) (b : PartialPlan) → bit e n ≡ 1 → Reached e d (suc n) b → Reached e d (belowWindow e d n) (pastWindow e d n b)
     at-window n b o r = record {
       holds =
-          subst (λ (v : ℕ). Holds (atWindow e d n b) v) (sym down)
+          subst (λ (v : ℕ). Holds (pastWindow e d n b) v) (sym down)
           (doubled-add l b (oddPosition x) (e / 2 ^ suc n) x (r .holds) (r .stands x entry) (r .positive) (subst Small down (quotient-small e (suc n - l) small)));
       positive = omega (arith, down, entry .odd);
       stands = λ v t. stands-followed (doubled l b) _ (oddPosition v) v (stands-doubled l b (oddPosition v) v (r .stands v t));
@@ -313,7 +313,7 @@ module _ (e d : ℕ) (wide : 1 ≤ d) where
         down : e / 2 ^ (suc n - l) ≡ e / 2 ^ suc n * 2 ^ l + x
         down = window-down (longest-window e n d o wide)
 
-    at-zero : (n : ℕ) (b : Building) → bit e n ≢ 1 → Reached e d (suc n) b → Reached e d n (double b)
+    at-zero : (n : ℕ) (b : PartialPlan) → bit e n ≢ 1 → Reached e d (suc n) b → Reached e d n (double b)
     at-zero n b z r =
         let down : e / 2 ^ n ≡ 2 * (e / 2 ^ suc n) = omega (arith, place-down e n, bit-small e n) in
         record {
@@ -323,7 +323,7 @@ module _ (e d : ℕ) (wide : 1 ≤ d) where
           last = λ z. latest-followed b _;
         }
 
-    scan-reached : {i w : ℕ} {b c : Building} → Scan e d i b w c → Reached e d i b → Reached e d 0 c
+    scan-reached : {i w : ℕ} {b c : PartialPlan} → Scan e d i b w c → Reached e d i b → Reached e d 0 c
     scan-reached done r = r
     scan-reached (window n b o s) r = scan-reached s (at-window n b o r)
     scan-reached (zero-bit n b z s) r = scan-reached s (at-zero n b z r)
@@ -334,8 +334,8 @@ abbrev pub top : ℕ → ℕ
 top e = bitLength e - 1
 
 -- the table, and latest set to the position of the first window
-abbrev atFirst : ℕ → ℕ → Building
-atFirst e d = record { steps = oddTable (tableSize d); latest = oddPosition (windowValue e (top e) (longest e (top e) d)) }
+abbrev atFirst : ℕ → ℕ → PartialPlan
+atFirst e d = record { steps = oddTable (tableLength d); latest = oddPosition (windowValue e (top e) (longest e (top e) d)) }
 
 module _ (e d : ℕ) (some : 0 < e) (wide : 1 ≤ d) where
   pub first-one : bit e (top e) ≡ 1
@@ -371,8 +371,8 @@ module _ (e d : ℕ) (some : 0 < e) (wide : 1 ≤ d) where
     last = λ z. absurd (more (whole-entry z));
   }
     where
-      whole : Filled (tableSize d)
-      whole = filled (tableSize d) (small-below (tableValue (tableSize d)) (2 ^ d) (table-narrow d wide) room)
+      whole : Filled (tableLength d)
+      whole = filled (tableLength d) (small-below (tableValue (tableLength d)) (2 ^ d) (table-narrow d wide) room)
 
       stands : (v : ℕ) → Entry d v → Stands (atFirst e d) (oddPosition v) v
       stands v t =
@@ -418,11 +418,11 @@ module _ (e d : ℕ) (some : 0 < e) (wide : 1 ≤ d) where
   sliding-short =
       entry-or-scan (λ s c. length s ≤ 2 ^ d + 2 * (bitLength e - 1))
       (λ t. omega (arith, length-table (oddPosition e), position-less (oddPosition e), position-value e (t .odd), t .narrow))
-      (λ more. omega (arith, scan-short e d wide scan-all, first-window .some, length-table (tableSize d), position-less (tableSize d), table-narrow d wide))
+      (λ more. omega (arith, scan-short e d wide scan-all, first-window .some, length-table (tableLength d), position-less (tableLength d), table-narrow d wide))
 
   -- each bit below the first window takes a doubling, each later window an addition
   pub sliding-counts : countsOf (slidingWindowSteps e d) ≡ slidingWindowCounts e d
   sliding-counts =
       entry-or-scan (λ s c. countsOf s ≡ c)
       (λ t. table-counted (oddPosition e))
-      (λ more. scan-counted e d wide scan-all (omega (arith, length-table (tableSize d))) _ _ (table-counted (tableSize d) ∙ no-subtractions (tableSize d)))
+      (λ more. scan-counted e d wide scan-all (omega (arith, length-table (tableLength d))) _ _ (table-counted (tableLength d) ∙ no-subtractions (tableLength d)))

@@ -2,10 +2,10 @@
 use Prim.Native.Nat.{ℕ, zero, suc, _-_}
 use mathlib.Core.List.{List}
 use Rattle.chains.specs.Steps.{Step}
-use Rattle.methods.specs.Building.{Building, none, double, addAt, downFrom}
+use Rattle.methods.specs.PartialPlan.{PartialPlan, none, double, addAt, downFrom}
 use Rattle.integers.specs.Bits.{bit, bitLength}
 
-abbrev pub atBit : ℕ → Building → Building
+abbrev pub atBit : ℕ → PartialPlan → PartialPlan
 atBit zero b = double b
 atBit (suc one) b = addAt 0 (double b)
 

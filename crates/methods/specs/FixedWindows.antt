@@ -4,13 +4,13 @@ use mathlib.Core.Bool.{cond}
 use mathlib.Core.List.{List, [], _∷_, _++_}
 use lib.Dec.{ltb}
 use Rattle.chains.specs.Steps.{Step, add}
-use Rattle.methods.specs.Building.{Building, doubled, addAt, downFrom}
+use Rattle.methods.specs.PartialPlan.{PartialPlan, doubled, addAt, downFrom}
 use Rattle.integers.specs.Bits.{bitLength}
 
 -- the steps add(i-1, 0) for i = 1 to n, so value v stands at position v-1
-unfoldable pub ladder : ℕ → List Step
-ladder zero = []
-ladder (suc n) = ladder n ++ (add n 0 ∷ [])
+unfoldable pub multiples : ℕ → List Step
+multiples zero = []
+multiples (suc n) = multiples n ++ (add n 0 ∷ [])
 
 -- the value of window i, and the place of the top window, the one that holds the top bit
 abbrev pub window : ℕ → ℕ → ℕ → ℕ
@@ -20,16 +20,16 @@ abbrev pub topWindow : ℕ → ℕ → ℕ
 topWindow e d = (bitLength e - 1) / d
 
 -- for each lower window: double d times; if its value v is not 0, add(latest, v-1)
-abbrev pub atWindow : ℕ → ℕ → Building → Building
-atWindow d zero b = doubled d b
-atWindow d (suc p) b = addAt p (doubled d b)
+abbrev pub atFixedWindow : ℕ → ℕ → PartialPlan → PartialPlan
+atFixedWindow d zero b = doubled d b
+atFixedWindow d (suc p) b = addAt p (doubled d b)
 
 -- The table first: add(i-1, 0) for i = 1 to 2^d - 2. Latest then becomes the position of the value of the top window.
 unfoldable pub windowSteps : ℕ → ℕ → List Step
 windowSteps e d =
-    downFrom (λ i b. atWindow d (window e d i) b) (topWindow e d)
-    (record { steps = ladder (2 ^ d - 2); latest = window e d (topWindow e d) - 1 }) .steps
+    downFrom (λ i b. atFixedWindow d (window e d i) b) (topWindow e d)
+    (record { steps = multiples (2 ^ d - 2); latest = window e d (topWindow e d) - 1 }) .steps
 
 -- if the number is below 2^d: steps add(i-1, 0) for i = 1 to e-1, and no more
 unfoldable pub fixedWindowSteps : ℕ → ℕ → List Step
-fixedWindowSteps e d = cond (ltb e (2 ^ d)) (ladder (e - 1)) (windowSteps e d)
+fixedWindowSteps e d = cond (ltb e (2 ^ d)) (multiples (e - 1)) (windowSteps e d)

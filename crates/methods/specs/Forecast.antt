@@ -8,7 +8,7 @@ use Rattle.rules.specs.declared.Counts.{Counts}
 use Rattle.integers.specs.Bits.{bit, bitLength}
 use Rattle.chains.specs.Counts.{counts}
 use Rattle.methods.specs.FixedWindows.{window}
-use Rattle.methods.specs.SlidingWindows.{oddPosition, tableSize, longest}
+use Rattle.methods.specs.SlidingWindows.{oddPosition, tableLength, longest}
 
 -- the first n steps of a table: the first one, add(0,0), is a doubling, and each other one an addition
 unfoldable pub tableCounts : ℕ → Counts
@@ -36,8 +36,8 @@ laterWindows e d (suc f) (suc n) =
 -- of `scanFrom`: suc n - longest e n d bits stand below the first window
 abbrev pub scanCounts : ℕ → ℕ → ℕ → Counts
 scanCounts e d n =
-    counts (tableCounts (tableSize d) .doublings + (suc n - longest e n d))
-    (tableCounts (tableSize d) .additions + laterWindows e d n (suc n - longest e n d)) 0
+    counts (tableCounts (tableLength d) .doublings + (suc n - longest e n d))
+    (tableCounts (tableLength d) .additions + laterWindows e d n (suc n - longest e n d)) 0
 
 -- of `slidingWindowSteps`, case by case
 unfoldable pub slidingWindowCounts : ℕ → ℕ → Counts

@@ -6,9 +6,9 @@ use lib.ListN.{length}
 use Rattle.signed_digits.specs.Strings.{digitAt}
 use Rattle.signed_digits.specs.Naf.{canonical}
 use Rattle.chains.specs.Steps.{Step}
-use Rattle.methods.specs.Building.{Building, none, double, addAt, subtractAt, downFrom}
+use Rattle.methods.specs.PartialPlan.{PartialPlan, none, double, addAt, subtractAt, downFrom}
 
-abbrev pub atDigit : ℤ → Building → Building
+abbrev pub atDigit : ℤ → PartialPlan → PartialPlan
 atDigit (pos zero) b = double b
 atDigit (pos (suc n)) b = addAt 0 (double b)
 atDigit (negsuc n) b = subtractAt 0 (double b)

@@ -4,7 +4,7 @@ use mathlib.Core.Bool.{cond}
 use mathlib.Core.List.{List, [], _∷_, _++_}
 use lib.Dec.{ltb, leb, eqb}
 use Rattle.chains.specs.Steps.{Step, add}
-use Rattle.methods.specs.Building.{Building, double, doubled, addAt}
+use Rattle.methods.specs.PartialPlan.{PartialPlan, double, doubled, addAt}
 use Rattle.integers.specs.Bits.{bit, bitLength}
 
 -- The table: add(0,0), add(1,0), then add(i-1, 1) for i = 3 on; its first n steps. Odd v above 1 stands at position (v+1)/2, and 1 at position 0.
@@ -21,8 +21,8 @@ abbrev pub oddPosition : ℕ → ℕ
 oddPosition v = cond (eqb v 1) 0 ((v + 1) / 2)
 
 -- the whole table for d of 2 or more goes to i = 2^(d-1); for d = 1 there is no table
-abbrev pub tableSize : ℕ → ℕ
-tableSize d = cond (ltb d 2) 0 (2 ^ (d - 1))
+abbrev pub tableLength : ℕ → ℕ
+tableLength d = cond (ltb d 2) 0 (2 ^ (d - 1))
 
 -- the longest window of at most l bits that begins at place n, where a 1 stands, and ends in 1
 unfoldable pub longest : ℕ → ℕ → ℕ → ℕ
@@ -35,7 +35,7 @@ windowValue e n l = e / 2 ^ (suc n - l) % 2 ^ l
 
 -- Scan the bits below place i, at most f windows and zeros of them; i itself is enough. At a 1, a window: double once per bit of it, then
 -- add(latest, its position). At a 0: double.
-unfoldable pub slide : ℕ → ℕ → ℕ → ℕ → Building → Building
+unfoldable pub slide : ℕ → ℕ → ℕ → ℕ → PartialPlan → PartialPlan
 slide e d zero i b = b
 slide e d (suc f) zero b = b
 slide e d (suc f) (suc n) b =
@@ -47,7 +47,7 @@ slide e d (suc f) (suc n) b =
 abbrev pub scanFrom : ℕ → ℕ → ℕ → List Step
 scanFrom e d n =
     slide e d n (suc n - longest e n d)
-    (record { steps = oddTable (tableSize d); latest = oddPosition (windowValue e n (longest e n d)) }) .steps
+    (record { steps = oddTable (tableLength d); latest = oddPosition (windowValue e n (longest e n d)) }) .steps
 
 -- if the number is odd and below 2^d, the table stops at it (no steps for 1); otherwise the scan
 unfoldable pub slidingWindowSteps : ℕ → ℕ → List Step

@@ -8,7 +8,7 @@ use lib.Seq.{sets-eq, take-at, drop-at, drop-drop}
 use Rattle.rules.specs.Limits.{stepBytes}
 use Rattle.chains.specs.Steps.{Step, stepBytesOf, planBytesOf}
 use Rattle.chains.proofs.Bytes.{length-plan}
-use Rattle.methods.specs.Building.{Building, followed}
+use Rattle.methods.specs.PartialPlan.{PartialPlan, followed}
 use Rattle.plan_writing.specs.declared.Cursor.{Cursor}
 use Rattle.plan_writing.specs.Writing.{Writing}
 
@@ -28,7 +28,7 @@ plan-followed [] s = append-nil (stepBytesOf s)
 plan-followed (t ∷ steps) s = ap (λ (l : List ℕ). stepBytesOf t ++ l) (plan-followed steps s) ∙ sym (append-assoc (stepBytesOf t) (planBytesOf steps) (stepBytesOf s))
 
 -- the bytes of a step put where the cursor stands
-pub followed-writing : (lent here next : List ℕ) (c : Cursor) (b : Building) (s : Step) → Writing lent here c b
+pub followed-writing : (lent here next : List ℕ) (c : Cursor) (b : PartialPlan) (s : Step) → Writing lent here c b
     → next ≡ take (stepBytes * c .steps) here ++ (stepBytesOf s ++ drop (stepBytes * c .steps + stepBytes) here)
     → Writing lent next (record { steps = c .steps + 1; latest = c .steps + 1 }) (followed b s)
 unfolding followed

@@ -6,13 +6,13 @@ use native.Mathlib.Omega.{arith}
 use lib.ListN.{length, drop}
 use Rattle.chains.specs.Steps.{Step, planBytesOf}
 use Rattle.chains.proofs.Bytes.{length-plan}
-use Rattle.methods.specs.Building.{Building, none, downFrom}
+use Rattle.methods.specs.PartialPlan.{PartialPlan, none, downFrom}
 use Rattle.methods.proofs.Laws.{down-grows}
 use Rattle.plan_writing.specs.declared.Cursor.{Cursor}
 use Rattle.plan_writing.specs.Writing.{Writing}
 
-pub record Underway (lent here : List ℕ) (c : Cursor) (f : ℕ → Building → Building) (i : ℕ) (all : List Step) : Type 0 where
-  pub building : Building
+pub record Underway (lent here : List ℕ) (c : Cursor) (f : ℕ → PartialPlan → PartialPlan) (i : ℕ) (all : List Step) : Type 0 where
+  pub building : PartialPlan
   pub writing : Writing lent here c building
   pub rest : downFrom f i building .steps ≡ all
 
@@ -21,7 +21,7 @@ pub nothing-written : (lent : List ℕ) (c : Cursor) → c .steps ≡ 0 → c .l
 unfolding planBytesOf
 nothing-written lent c s l = record { steps = s; latest = l; bytes = refl }
 
-module _ (lent here : List ℕ) (c : Cursor) (f : ℕ → Building → Building) (all : List Step) where
+module _ (lent here : List ℕ) (c : Cursor) (f : ℕ → PartialPlan → PartialPlan) (all : List Step) where
   -- above place i stands i - 1
   pub down : (i : ℕ) → 0 < i → Underway lent here c f i all → Underway lent here c f (suc (i - 1)) all
   down i h u = let e : suc (i - 1) ≡ i = omega arith in rw e u
@@ -32,7 +32,7 @@ module _ (lent here : List ℕ) (c : Cursor) (f : ℕ → Building → Building)
   underway-next next d i u w = record { building = f i (u .building); writing = w; rest = u .rest }
 
   -- the steps of the next place are among all
-  pub underway-room : (i : ℕ) → ((i : ℕ) (b : Building) → length (b .steps) ≤ length (f i b .steps)) → (u : Underway lent here c f (suc i) all) → length (f i (u .building) .steps) ≤ length all
+  pub underway-room : (i : ℕ) → ((i : ℕ) (b : PartialPlan) → length (b .steps) ≤ length (f i b .steps)) → (u : Underway lent here c f (suc i) all) → length (f i (u .building) .steps) ≤ length all
   unfolding downFrom
   underway-room i more u = omega (arith, down-grows f i (f i (u .building)) more, ap length (u .rest))
 

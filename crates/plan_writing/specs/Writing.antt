@@ -5,14 +5,14 @@ use Prim.Native.Nat.{ℕ, _*_}
 use lib.ListN.{length, drop}
 use Rattle.rules.specs.Limits.{stepBytes}
 use Rattle.chains.specs.Steps.{Step, planBytesOf}
-use Rattle.methods.specs.Building.{Building}
+use Rattle.methods.specs.PartialPlan.{PartialPlan}
 use Rattle.plan_writing.specs.declared.Cursor.{Cursor}
 
 -- the steps so far stand at the start of what was lent, and the bytes above are as they were
-pub record Writing (lent : List ℕ) (now : List ℕ) (c : Cursor) (b : Building) : Type 0 where
+pub record Writing (lent : List ℕ) (now : List ℕ) (c : Cursor) (b : PartialPlan) : Type 0 where
   pub steps : c .steps ≡ length (b .steps)
   pub latest : c .latest ≡ b .latest
   pub bytes : now ≡ planBytesOf (b .steps) ++ drop (stepBytes * length (b .steps)) lent
 
-abbrev pub stepOf : ℕ → ℕ → ℕ → Step
-stepOf operation j k = record { operation = operation; first = j; second = k }
+abbrev pub stepWith : ℕ → ℕ → ℕ → Step
+stepWith operation j k = record { operation = operation; first = j; second = k }

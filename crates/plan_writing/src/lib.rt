@@ -6,8 +6,8 @@ ghost use Prim.Native.Nat.{ℕ, _+_, _*_, _≤_, _<_};
 ghost use lib.ListN.{length, take, drop};
 ghost use Rattle.rules.specs.Limits.{stepBytes};
 ghost use Rattle.chains.specs.Steps.{Step, stepBytesOf, add, subtract};
-ghost use Rattle.methods.specs.Building.{Building, double, doubled, addAt, followed};
-ghost use Rattle.plan_writing.specs.Writing.{Writing, stepOf};
+ghost use Rattle.methods.specs.PartialPlan.{PartialPlan, double, doubled, addAt, followed};
+ghost use Rattle.plan_writing.specs.Writing.{Writing, stepWith};
 
 // How many steps stand, and the position called latest.
 pub struct Cursor {
@@ -18,7 +18,7 @@ pub struct Cursor {
 // Writes step n, counted from 0.
 fn put(out: &mut [u8], n: usize, operation: u8, j: usize, k: usize)
     requires { ⌜ stepBytes * n + stepBytes ≤ length (now out) ⌝ }
-    ensures { λ _. ⌜ now (out .exit) ≡ take (stepBytes * n) (now (out .entry)) ++ (stepBytesOf (stepOf operation j k) ++ drop (stepBytes * n + stepBytes) (now (out .entry))) ⌝ }
+    ensures { λ _. ⌜ now (out .exit) ≡ take (stepBytes * n) (now (out .entry)) ++ (stepBytesOf (stepWith operation j k) ++ drop (stepBytes * n + stepBytes) (now (out .entry))) ⌝ }
 {
     let at = STEP_BYTES * n;
     out[at] = operation;
@@ -42,7 +42,7 @@ impl Cursor {
     // One step more, which fills the next position.
     fn follow(self, out: &mut [u8], operation: u8, j: usize, k: usize) -> Cursor
         requires { ⌜ stepBytes * self .steps + stepBytes ≤ length (now out) ⌝ }
-        ensures { λ r. ⌜ (r .steps ≡ self .steps + 1) × ((lent : List ℕ) (b : Building) → Writing lent (now (out .entry)) self b → Writing lent (now (out .exit)) r (followed b (stepOf operation j k))) ⌝ }
+        ensures { λ r. ⌜ (r .steps ≡ self .steps + 1) × ((lent : List ℕ) (b : PartialPlan) → Writing lent (now (out .entry)) self b → Writing lent (now (out .exit)) r (followed b (stepWith operation j k))) ⌝ }
     {
         let n = self.steps;
         put(out, n, operation, j, k);
@@ -55,7 +55,7 @@ impl Cursor {
     // add(latest, latest)
     pub fn double(self, out: &mut [u8]) -> Cursor
         requires { ⌜ stepBytes * self .steps + stepBytes ≤ length (now out) ⌝ }
-        ensures { λ r. ⌜ (r .steps ≡ self .steps + 1) × ((lent : List ℕ) (b : Building) → Writing lent (now (out .entry)) self b → Writing lent (now (out .exit)) r (double b)) ⌝ }
+        ensures { λ r. ⌜ (r .steps ≡ self .steps + 1) × ((lent : List ℕ) (b : PartialPlan) → Writing lent (now (out .entry)) self b → Writing lent (now (out .exit)) r (double b)) ⌝ }
     {
         let latest = self.latest;
         self.follow(out, 0, latest, latest)
@@ -64,7 +64,7 @@ impl Cursor {
     // The same n times.
     pub fn double_times(self, out: &mut [u8], n: usize) -> Cursor
         requires { ⌜ stepBytes * (self .steps + n) ≤ length (now out) ⌝ }
-        ensures { λ r. ⌜ (r .steps ≡ self .steps + n) × ((lent : List ℕ) (b : Building) → Writing lent (now (out .entry)) self b → Writing lent (now (out .exit)) r (doubled n b)) ⌝ }
+        ensures { λ r. ⌜ (r .steps ≡ self .steps + n) × ((lent : List ℕ) (b : PartialPlan) → Writing lent (now (out .entry)) self b → Writing lent (now (out .exit)) r (doubled n b)) ⌝ }
     {
         let mut last = self;
         let mut done = 0;
@@ -78,7 +78,7 @@ impl Cursor {
     // add(latest, p)
     pub fn add_at(self, out: &mut [u8], p: usize) -> Cursor
         requires { ⌜ stepBytes * self .steps + stepBytes ≤ length (now out) ⌝ }
-        ensures { λ r. ⌜ (r .steps ≡ self .steps + 1) × ((lent : List ℕ) (b : Building) → Writing lent (now (out .entry)) self b → Writing lent (now (out .exit)) r (addAt p b)) ⌝ }
+        ensures { λ r. ⌜ (r .steps ≡ self .steps + 1) × ((lent : List ℕ) (b : PartialPlan) → Writing lent (now (out .entry)) self b → Writing lent (now (out .exit)) r (addAt p b)) ⌝ }
     {
         let latest = self.latest;
         self.follow(out, 0, latest, p)
@@ -87,7 +87,7 @@ impl Cursor {
     // The operation of latest and p.
     pub fn step_at(self, out: &mut [u8], operation: u8, p: usize) -> Cursor
         requires { ⌜ stepBytes * self .steps + stepBytes ≤ length (now out) ⌝ }
-        ensures { λ r. ⌜ (r .steps ≡ self .steps + 1) × ((lent : List ℕ) (b : Building) → Writing lent (now (out .entry)) self b → Writing lent (now (out .exit)) r (followed b (stepOf operation (b .latest) p))) ⌝ }
+        ensures { λ r. ⌜ (r .steps ≡ self .steps + 1) × ((lent : List ℕ) (b : PartialPlan) → Writing lent (now (out .entry)) self b → Writing lent (now (out .exit)) r (followed b (stepWith operation (b .latest) p))) ⌝ }
     {
         let latest = self.latest;
         self.follow(out, operation, latest, p)

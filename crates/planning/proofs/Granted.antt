@@ -10,7 +10,7 @@ use lib.Dec.{ltb, eqb}
 use lib.ListN.{length}
 use Rattle.rules.specs.Limits.{numberBytes, planSteps}
 use Rattle.rules.specs.declared.Refusal.the-variants.{NumberTooLong, NumberIsZero, MethodOrWidth}
-use Rattle.rules.specs.declared.Verdict.the-variants.{Fine, No}
+use Rattle.rules.specs.declared.Verdict.the-variants.{Passed, Failed}
 use Rattle.integers.specs.Positional.{bytesValue}
 use Rattle.integers.proofs.Positional.{Below}
 use Rattle.chains.specs.Counts.{countsOf}
@@ -30,27 +30,27 @@ pub record Granted (number : List ℕ) (method width : ℕ) : Type 0 where
   pub may : isAllowed method width ≡ true
 
 module _ (number : List ℕ) (method width : ℕ) where
-  pub granted : request number method width ≡ Fine → Granted number method width
+  pub granted : request number method width ≡ Passed → Granted number method width
   unfolding request
   granted h = one (ltb numberBytes (length number)) refl h
     where
       three : (t : Bool) → isAllowed method width ≡ t → length number ≤ numberBytes → bytesValue number ≢ 0
-          → cond t Fine (No MethodOrWidth) ≡ Fine → Granted number method width
+          → cond t Passed (Failed MethodOrWidth) ≡ Passed → Granted number method width
       three true e s n q = record { short = s; nonzero = n; may = e }
       three false e s n q = let z : _≡_ {A = ℕ} 0 1 = cc in absurd (omega arith)
 
       two : (t : Bool) → eqb (bytesValue number) 0 ≡ t → length number ≤ numberBytes
-          → cond t (No NumberIsZero) (cond (isAllowed method width) Fine (No MethodOrWidth)) ≡ Fine → Granted number method width
+          → cond t (Failed NumberIsZero) (cond (isAllowed method width) Passed (Failed MethodOrWidth)) ≡ Passed → Granted number method width
       two true e s q = let z : _≡_ {A = ℕ} 0 1 = cc in absurd (omega arith)
       two false e s q = three (isAllowed method width) refl s (eqb-false (bytesValue number) 0 e) q
 
       one : (t : Bool) → ltb numberBytes (length number) ≡ t
-          → cond t (No NumberTooLong) (cond (eqb (bytesValue number) 0) (No NumberIsZero) (cond (isAllowed method width) Fine (No MethodOrWidth))) ≡ Fine → Granted number method width
+          → cond t (Failed NumberTooLong) (cond (eqb (bytesValue number) 0) (Failed NumberIsZero) (cond (isAllowed method width) Passed (Failed MethodOrWidth))) ≡ Passed → Granted number method width
       one true e q = let z : _≡_ {A = ℕ} 0 1 = cc in absurd (omega arith)
       one false e q = two (eqb (bytesValue number) 0) refl (ltb-false numberBytes (length number) e) q
 
   -- the steps of a granted request are counted within the limit
-  pub counted-few : Below 256 number → request number method width ≡ Fine → total (countsOf (stepsFor number method width)) ≤ planSteps
+  pub counted-few : Below 256 number → request number method width ≡ Passed → total (countsOf (stepsFor number method width)) ≤ planSteps
   counted-few b h =
       let g = granted h in
       rw (← length-counted (stepsFor number method width)) (every-fit number b (g .short) (g .nonzero) method width (allowed method width (g .may)) .few)

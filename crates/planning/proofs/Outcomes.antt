@@ -5,7 +5,7 @@ use Prim.Native.Nat.{ℕ, _+_, _*_, _<_, _≤_}
 use lib.ListN.{length, drop}
 use Rattle.rules.specs.Limits.{stepBytes}
 use Rattle.rules.specs.declared.Refusal.the-variants.{RoomTooSmall}
-use Rattle.rules.specs.declared.Verdict.the-variants.{Fine}
+use Rattle.rules.specs.declared.Verdict.the-variants.{Passed}
 use Rattle.rules.specs.declared.Counts.{Counts}
 use Rattle.rules.specs.declared.Counted.the-variants.{Steps, Refused}
 use Rattle.rules.proofs.Fitted.{too-small, fits}
@@ -15,7 +15,7 @@ use Rattle.chains.proofs.Bytes.{length-plan}
 use Rattle.methods.proofs.Counted.{total, length-counted}
 use Rattle.planning.specs.Plan.{request, stepsFor, planAnswer, planBuffer}
 
-module _ (number : List ℕ) (method width : ℕ) (out : List ℕ) (h : request number method width ≡ Fine) (c : Counts) (counted : c ≡ countsOf (stepsFor number method width)) where
+module _ (number : List ℕ) (method width : ℕ) (out : List ℕ) (h : request number method width ≡ Passed) (c : Counts) (counted : c ≡ countsOf (stepsFor number method width)) where
   bytes : List ℕ
   bytes = planBytesOf (stepsFor number method width)
 

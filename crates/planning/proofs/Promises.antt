@@ -11,7 +11,7 @@ use lib.ListN.{length, drop}
 use Rattle.rules.specs.Limits.{numberBytes}
 use Rattle.rules.specs.Outcome.{Outcome, refused, answered, countedOutcome}
 use Rattle.rules.specs.declared.Refusal.the-variants.{NumberTooLong, NumberIsZero, MethodOrWidth}
-use Rattle.rules.specs.declared.Verdict.the-variants.{Fine, No}
+use Rattle.rules.specs.declared.Verdict.the-variants.{Passed, Failed}
 use Rattle.rules.proofs.Fitted.{too-small, fits}
 use Rattle.integers.specs.Positional.{bytesValue}
 use Rattle.chains.specs.Steps.{planBytesOf}
@@ -23,24 +23,24 @@ use Rattle.planning.proofs.Granted.{Granted}
 module _ (number : List ℕ) (method width : ℕ) where
   -- the four verdicts on a request, each with what led there
   data Asking : Type 0 where
-    long : numberBytes < length number → request number method width ≡ No NumberTooLong → Asking
-    zero : length number ≤ numberBytes → bytesValue number ≡ 0 → request number method width ≡ No NumberIsZero → Asking
-    unknown : length number ≤ numberBytes → bytesValue number ≢ 0 → isAllowed method width ≡ false → request number method width ≡ No MethodOrWidth → Asking
-    good : Granted number method width → request number method width ≡ Fine → Asking
+    long : numberBytes < length number → request number method width ≡ Failed NumberTooLong → Asking
+    zero : length number ≤ numberBytes → bytesValue number ≡ 0 → request number method width ≡ Failed NumberIsZero → Asking
+    unknown : length number ≤ numberBytes → bytesValue number ≢ 0 → isAllowed method width ≡ false → request number method width ≡ Failed MethodOrWidth → Asking
+    good : Granted number method width → request number method width ≡ Passed → Asking
 
-  is-long : numberBytes < length number → request number method width ≡ No NumberTooLong
+  is-long : numberBytes < length number → request number method width ≡ Failed NumberTooLong
   unfolding request
   is-long h = rw (lt-ltb numberBytes (length number) h)
 
-  is-zero : length number ≤ numberBytes → bytesValue number ≡ 0 → request number method width ≡ No NumberIsZero
+  is-zero : length number ≤ numberBytes → bytesValue number ≡ 0 → request number method width ≡ Failed NumberIsZero
   unfolding request
   is-zero s z = rw (le-ltb numberBytes (length number) s, eq-eqb (bytesValue number) 0 z)
 
-  is-unknown : length number ≤ numberBytes → bytesValue number ≢ 0 → isAllowed method width ≡ false → request number method width ≡ No MethodOrWidth
+  is-unknown : length number ≤ numberBytes → bytesValue number ≢ 0 → isAllowed method width ≡ false → request number method width ≡ Failed MethodOrWidth
   unfolding request
   is-unknown s n a = rw (le-ltb numberBytes (length number) s, ne-eqb (bytesValue number) 0 n, a)
 
-  is-good : Granted number method width → request number method width ≡ Fine
+  is-good : Granted number method width → request number method width ≡ Passed
   unfolding request
   is-good g = rw (le-ltb numberBytes (length number) (g .short), ne-eqb (bytesValue number) 0 (g .nonzero), g .may)
 

@@ -9,7 +9,7 @@ use Rattle.rules.specs.Memory.{fitted, leaves}
 use Rattle.rules.specs.Outcome.{unlessRefused}
 use Rattle.rules.specs.declared.Refusal.the-variants.{NumberTooLong, NumberIsZero, MethodOrWidth}
 use Rattle.rules.specs.declared.Verdict.{Verdict}
-use Rattle.rules.specs.declared.Verdict.the-variants.{Fine, No}
+use Rattle.rules.specs.declared.Verdict.the-variants.{Passed, Failed}
 use Rattle.rules.specs.declared.Written.{Written}
 use Rattle.rules.specs.declared.Written.the-variants.{Length, Refused as NotWritten}
 use Rattle.rules.specs.declared.Counts.{Counts}
@@ -23,9 +23,9 @@ use Rattle.methods.specs.Method.{isAllowed, stepsBy}
 -- 1, 2, 3
 unfoldable pub request : List ℕ → ℕ → ℕ → Verdict
 request number method width =
-    cond (ltb numberBytes (length number)) (No NumberTooLong)
-    (cond (eqb (bytesValue number) 0) (No NumberIsZero)
-    (cond (isAllowed method width) Fine (No MethodOrWidth)))
+    cond (ltb numberBytes (length number)) (Failed NumberTooLong)
+    (cond (eqb (bytesValue number) 0) (Failed NumberIsZero)
+    (cond (isAllowed method width) Passed (Failed MethodOrWidth)))
 
 -- the steps that the method gives for the number
 abbrev pub stepsFor : List ℕ → ℕ → ℕ → List Step
@@ -37,8 +37,8 @@ forecastAnswer number method width = unlessRefused (request number method width)
 
 -- how many bytes of plan are written, or why none
 abbrev pub unlessNo : Verdict → Written → Written
-unlessNo Fine written = written
-unlessNo (No r) written = NotWritten r
+unlessNo Passed written = written
+unlessNo (Failed r) written = NotWritten r
 
 abbrev pub planWritten : List ℕ → ℕ → ℕ → ℕ → Written
 planWritten number method width room = unlessNo (request number method width) (fitted (planBytesOf (stepsFor number method width)) room)

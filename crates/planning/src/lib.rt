@@ -11,7 +11,7 @@ ghost use mathlib.Core.List.{_++_};
 ghost use Prim.Native.Nat.{_*_, _≤_};
 ghost use lib.ListN.{length, drop};
 ghost use Rattle.rules.specs.Limits.{stepBytes};
-ghost use Rattle.rules.specs.declared.Verdict.the-variants.{Fine};
+ghost use Rattle.rules.specs.declared.Verdict.the-variants.{Passed};
 ghost use Rattle.chains.specs.Steps.{planBytesOf};
 ghost use Rattle.chains.specs.Counts.{countsOf};
 ghost use Rattle.methods.specs.Method.{isWindow, isAllowed};
@@ -51,20 +51,20 @@ fn requested(number: &[u8], method: u32, width: u32) -> Verdict
     ensures { λ r. ⌜ r ≡ request (now (number .entry)) method width ⌝ }
 {
     if NUMBER_BYTES < number.len() {
-        return Verdict::No(Refusal::NumberTooLong);
+        return Verdict::Failed(Refusal::NumberTooLong);
     }
     if significant(number) == 0 {
-        return Verdict::No(Refusal::NumberIsZero);
+        return Verdict::Failed(Refusal::NumberIsZero);
     }
     if is_allowed(method, width) {
-        return Verdict::Fine;
+        return Verdict::Passed;
     }
-    Verdict::No(Refusal::MethodOrWidth)
+    Verdict::Failed(Refusal::MethodOrWidth)
 }
 
 // The counts of the steps that a method gives, for a request that is granted. A line a method.
 fn counts(number: &[u8], method: u32, width: u32) -> Counts
-    requires { ⌜ request (now number) method width ≡ Fine ⌝ }
+    requires { ⌜ request (now number) method width ≡ Passed ⌝ }
     ensures { λ r. ⌜ r ≡ countsOf (stepsFor (now (number .entry)) method width) ⌝ }
 {
     if method == 1 {
@@ -81,7 +81,7 @@ fn counts(number: &[u8], method: u32, width: u32) -> Counts
 
 // Writes those steps. A line a method.
 fn write(number: &[u8], method: u32, width: u32, out: &mut [u8])
-    requires { ⌜ request (now number) method width ≡ Fine ⌝ }
+    requires { ⌜ request (now number) method width ≡ Passed ⌝ }
     requires { ⌜ stepBytes * length (stepsFor (now number) method width) ≤ length (now out) ⌝ }
     ensures { λ _. ⌜ now (out .exit) ≡ planBytesOf (stepsFor (now (number .entry)) method width) ++ drop (length (planBytesOf (stepsFor (now (number .entry)) method width))) (now (out .entry)) ⌝ }
 {
@@ -104,7 +104,7 @@ fn write(number: &[u8], method: u32, width: u32, out: &mut [u8])
 pub fn forecast(number: &[u8], method: u32, width: u32) -> Counted
     ensures { λ r. ⌜ r ≡ forecastAnswer (now (number .entry)) method width ⌝ }
 {
-    if let Verdict::No(refusal) = requested(number, method, width) {
+    if let Verdict::Failed(refusal) = requested(number, method, width) {
         return Counted::Refused(refusal);
     }
     Counted::Steps(counts(number, method, width))
@@ -115,7 +115,7 @@ pub fn plan(number: &[u8], method: u32, width: u32, out: &mut [u8]) -> Counted
     ensures answer { λ r. ⌜ r ≡ planAnswer (now (number .entry)) method width (length (now (out .entry))) ⌝ }
     ensures buffer { λ r. ⌜ now (out .exit) ≡ planBuffer (now (number .entry)) method width (now (out .entry)) ⌝ }
 {
-    if let Verdict::No(refusal) = requested(number, method, width) {
+    if let Verdict::Failed(refusal) = requested(number, method, width) {
         return Counted::Refused(refusal);
     }
     let steps = counts(number, method, width);

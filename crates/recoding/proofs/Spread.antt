@@ -1,4 +1,4 @@
--- Eight binary digits in the bytes of a word, and the differences of two such words. Assumes nothing.
+-- Eight bits in the bytes of a word, and the differences of two such words. Assumes nothing.
 use mathlib.Core.Path.{_≡_, refl, sym, ap, _∙_}
 use mathlib.Core.Bool.{Bool, true, false, _&&_}
 use mathlib.Core.List.{[], _∷_}
@@ -49,7 +49,7 @@ value-xor f g zero hf hg = rw (value-none f, value-none g, value-none (λ j. bit
 value-xor f g (suc n) hf hg =
     rw (value-more f n, value-more g n, value-more (λ j. bitXor (f j) (g j)) n, xor-block (8 * n) (f n) (g n) (bytesValue (tabulate f n)) (bytesValue (tabulate g n)) (value-small f n hf) (value-small g n hg), value-xor f g n hf hg)
 
--- ---- eight binary digits, one to a byte
+-- ---- eight bits, one to a byte
 
 -- a test passes at each number below n
 all : (ℕ → Bool) → ℕ → Bool

@@ -14,6 +14,6 @@ placeByte e i = digitByte (digitAt (canonical (pos e)) i)
 unfoldable pub tripleCarry : ℕ → ℕ → ℕ
 tripleCarry e k = 3 * (e % 256 ^ k) / 256 ^ k
 
--- the digit byte that is the difference of two binary digits
+-- the digit byte that is the difference of two bits
 unfoldable pub difference : ℕ → ℕ → ℕ → ℕ
 difference more less j = (bit more j + 255 * bit less j) % 256

@@ -1,5 +1,5 @@
-// The canonical digits of a number by the binary digits of three times the number: the digit at
-// place i is the binary digit of 3 e at i + 1, less that of e. So no digit waits for another, and
+// The canonical digits of a number by the bits of three times the number: the digit at
+// place i is the bit of 3 e at i + 1, less that of e. So no digit waits for another, and
 // the work is linear in the number's bytes.
 use integers::byte_at;
 use integers::significant;
@@ -41,7 +41,7 @@ pub fn count(number: &[u8]) -> usize
     8 * (n - 1) + (63 - u64::leading_zeros(top) as usize)
 }
 
-// The eight lowest binary digits, one to a byte, four in each half of the word. Copies of four
+// The eight lowest bits, one to a byte, four in each half of the word. Copies of four
 // digits, each seven places above the one before, do not meet, and have digit j at place 8 j.
 fn spread(word: u64) -> u64
     ensures { λ r. ⌜ r ≡ bytesValue (tabulate (bit word) 8) ⌝ }
@@ -50,7 +50,7 @@ fn spread(word: u64) -> u64
     (0x20_4081 * halves) & 0x0101_0101_0101_0101
 }
 
-// The bytes of the differences of the eight lowest binary digits of two words. With 128 in each
+// The bytes of the differences of the eight lowest bits of two words. With 128 in each
 // byte none borrows from the next.
 fn differences(more: u64, less: u64) -> u64
     ensures { λ r. ⌜ r ≡ bytesValue (tabulate (difference more less) 8) ⌝ }
@@ -58,7 +58,7 @@ fn differences(more: u64, less: u64) -> u64
     (spread(more) + 0x8080_8080_8080_8080 - spread(less)) ^ 0x8080_8080_8080_8080
 }
 
-// Writes at `at` the differences of the low `count` binary digits of two words.
+// Writes at `at` the differences of the low `count` bits of two words.
 fn write_differences(out: &mut [u8], at: usize, count: usize, more: u64, less: u64)
     requires { ⌜ count ≤ 8 ⌝ }
     requires { ⌜ at + count ≤ length (now out) ⌝ }

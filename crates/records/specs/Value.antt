@@ -10,5 +10,5 @@ unfoldable pub integerOf : Value → ℤ
 integerOf v = signed (v .negative) (wordsValue (v .words))
 
 -- its size is below the bound
-abbrev pub Small : Value → Type 0
-Small v = wordsValue (v .words) < valueBound
+abbrev pub FitsRecord : Value → Type 0
+FitsRecord v = wordsValue (v .words) < valueBound

@@ -1,7 +1,7 @@
 // Values of a chain, signed and of a fixed size, and their records in a work space.
-use integers::added;
+use integers::add_with_carry;
 use integers::store_word;
-use integers::subtracted;
+use integers::subtract_with_borrow;
 use integers::whole_word_at;
 use rules::VALUE_WORDS;
 ghost use mathlib.Core.Path.{_≡_};
@@ -15,7 +15,7 @@ ghost use Rattle.rules.specs.Limits.{valueBytes, recordBytes, valueBound};
 ghost use Rattle.integers.specs.Positional.{bytesValue, wordsValue, lowBytes};
 ghost use Rattle.integers.specs.Signed.{signOf};
 ghost use Rattle.chains.specs.Records.{recordOf};
-ghost use Rattle.records.specs.Value.{integerOf, Small};
+ghost use Rattle.records.specs.Value.{integerOf, FitsRecord};
 
 // A size, least significant word first, and whether the value is below zero.
 pub struct Value {
@@ -25,7 +25,7 @@ pub struct Value {
 
 // The value 1.
 pub fn one() -> Value
-    ensures { λ r. ⌜ (integerOf r ≡ pos 1) × Small r ⌝ }
+    ensures { λ r. ⌜ (integerOf r ≡ pos 1) × FitsRecord r ⌝ }
 {
     let mut words = [0u64; VALUE_WORDS];
     words[0] = 1;
@@ -53,7 +53,7 @@ fn load_size(space: &[u8], at: usize) -> [u64; VALUE_WORDS]
 // The value whose record stands at `at`.
 pub fn load(space: &[u8], at: usize) -> Value
     requires { ⌜ at + recordBytes ≤ length (now space) ⌝ }
-    ensures { λ r. ⌜ Small r × ((z : ℤ) → take recordBytes (drop at (now (space .entry))) ≡ recordOf z → natAbs z < valueBound → integerOf r ≡ z) ⌝ }
+    ensures { λ r. ⌜ FitsRecord r × ((z : ℤ) → take recordBytes (drop at (now (space .entry))) ≡ recordOf z → natAbs z < valueBound → integerOf r ≡ z) ⌝ }
 {
     Value {
         words: load_size(space, at + 1),
@@ -71,7 +71,7 @@ fn sum(a: [u64; VALUE_WORDS], b: [u64; VALUE_WORDS]) -> [u64; VALUE_WORDS]
     let mut carry = false;
     let mut k = 0;
     while k < VALUE_WORDS {
-        let next = added(a[k], b[k], carry);
+        let next = add_with_carry(a[k], b[k], carry);
         words[k] = next.word;
         carry = next.carry;
         k += 1;
@@ -92,7 +92,7 @@ fn subtract_size(a: [u64; VALUE_WORDS], b: [u64; VALUE_WORDS]) -> Difference
     let mut borrow = false;
     let mut k = 0;
     while k < VALUE_WORDS {
-        let next = subtracted(a[k], b[k], borrow);
+        let next = subtract_with_borrow(a[k], b[k], borrow);
         words[k] = next.word;
         borrow = next.borrow;
         k += 1;
@@ -105,8 +105,8 @@ fn subtract_size(a: [u64; VALUE_WORDS], b: [u64; VALUE_WORDS]) -> Difference
 
 // a + b, or a - b.
 pub fn combined(a: Value, b: Value, subtract: bool) -> Value
-    requires { ⌜ Small a ⌝ }
-    requires { ⌜ Small b ⌝ }
+    requires { ⌜ FitsRecord a ⌝ }
+    requires { ⌜ FitsRecord b ⌝ }
     ensures { λ r. ⌜ integerOf r ≡ cond subtract (integerOf a -ℤ integerOf b) (integerOf a +ℤ integerOf b) ⌝ }
 {
     let first = a.words;
@@ -169,7 +169,7 @@ fn store_size(space: &mut [u8], at: usize, words: [u64; VALUE_WORDS])
 
 // Writes the record of a value at `at`.
 pub fn store(space: &mut [u8], at: usize, v: Value)
-    requires { ⌜ Small v ⌝ }
+    requires { ⌜ FitsRecord v ⌝ }
     requires { ⌜ at + recordBytes ≤ length (now space) ⌝ }
     ensures { λ _. ⌜ now (space .exit) ≡ take at (now (space .entry)) ++ (recordOf (integerOf v) ++ drop (at + recordBytes) (now (space .entry))) ⌝ }
 {

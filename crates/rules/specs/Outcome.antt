@@ -7,7 +7,7 @@ use Rattle.rules.specs.declared.Written.the-variants.{Length, Refused}
 use Rattle.rules.specs.declared.Counted.{Counted}
 use Rattle.rules.specs.declared.Counted.the-variants.{Steps, Refused as CountRefused}
 use Rattle.rules.specs.declared.Verdict.{Verdict}
-use Rattle.rules.specs.declared.Verdict.the-variants.{Fine, No}
+use Rattle.rules.specs.declared.Verdict.the-variants.{Passed, Failed}
 use Rattle.rules.specs.Refusals.{refusalNumber, refusalPlace}
 
 -- a refusal answers its number and place and nothing else; any other answer has values
@@ -30,5 +30,5 @@ countedOutcome (CountRefused r) = refusal r
 
 -- a call's own answer, unless a test before it says no
 abbrev pub unlessRefused : Verdict → Counted → Counted
-unlessRefused Fine answer = answer
-unlessRefused (No r) answer = CountRefused r
+unlessRefused Passed answer = answer
+unlessRefused (Failed r) answer = CountRefused r

@@ -1,7 +1,7 @@
 -- Document 01's table "When a call says no": the number and the place of each refusal.
 use Prim.Native.Nat.{ℕ}
 use Rattle.rules.specs.declared.Refusal.{Refusal}
-use Rattle.rules.specs.declared.Refusal.the-variants.{NumberTooLong, NumberIsZero, MethodOrWidth, NotADigit, StringTooLong, RoomTooSmall, PlanLength, WorkSpaceTooShort, StepUnsound, ValueIsZero, ValueTooLarge, WrongEnd}
+use Rattle.rules.specs.declared.Refusal.the-variants.{NumberTooLong, NumberIsZero, MethodOrWidth, NotADigit, StringTooLong, RoomTooSmall, PlanLength, WorkSpaceTooShort, MalformedStep, ValueIsZero, ValueTooLarge, WrongEnd}
 
 abbrev pub refusalNumber : Refusal → ℕ
 refusalNumber NumberTooLong = 1
@@ -12,7 +12,7 @@ refusalNumber StringTooLong = 5
 refusalNumber (RoomTooSmall needed) = 6
 refusalNumber PlanLength = 7
 refusalNumber WorkSpaceTooShort = 8
-refusalNumber (StepUnsound i) = 9
+refusalNumber (MalformedStep i) = 9
 refusalNumber (ValueIsZero i) = 10
 refusalNumber (ValueTooLarge i) = 11
 refusalNumber (WrongEnd r) = 12
@@ -26,7 +26,7 @@ refusalPlace StringTooLong = 0
 refusalPlace (RoomTooSmall needed) = needed
 refusalPlace PlanLength = 0
 refusalPlace WorkSpaceTooShort = 0
-refusalPlace (StepUnsound i) = i
+refusalPlace (MalformedStep i) = i
 refusalPlace (ValueIsZero i) = i
 refusalPlace (ValueTooLarge i) = i
 refusalPlace (WrongEnd r) = r

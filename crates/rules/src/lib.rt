@@ -71,7 +71,7 @@ pub enum Refusal {
     // Work space too short for the plan.
     WorkSpaceTooShort,
     // Unknown operation, or a position that is not below the step's own, at this step.
-    StepUnsound(usize),
+    MalformedStep(usize),
     // The value at this step is zero.
     ValueIsZero(usize),
     // The value at this step is too large.
@@ -94,7 +94,7 @@ impl Refusal {
             Refusal::RoomTooSmall(_) => 6,
             Refusal::PlanLength => 7,
             Refusal::WorkSpaceTooShort => 8,
-            Refusal::StepUnsound(_) => 9,
+            Refusal::MalformedStep(_) => 9,
             Refusal::ValueIsZero(_) => 10,
             Refusal::ValueTooLarge(_) => 11,
             Refusal::WrongEnd(_) => 12,
@@ -114,7 +114,7 @@ impl Refusal {
             Refusal::RoomTooSmall(needed) => needed,
             Refusal::PlanLength => 0,
             Refusal::WorkSpaceTooShort => 0,
-            Refusal::StepUnsound(step) => step,
+            Refusal::MalformedStep(step) => step,
             Refusal::ValueIsZero(step) => step,
             Refusal::ValueTooLarge(step) => step,
             Refusal::WrongEnd(step) => step,
@@ -144,6 +144,6 @@ pub enum Counted {
 
 // Whether a test lets a call go on, or why not.
 pub enum Verdict {
-    Fine,
-    No(Refusal),
+    Passed,
+    Failed(Refusal),
 }

@@ -1,4 +1,4 @@
--- The digits of the canonical string of e, by the binary digits of 3 e and of e: each place by itself, with no carry.
+-- The digits of the canonical string of e, by the bits of 3 e and of e: each place by itself, with no carry.
 use mathlib.Core.Path.{_≡_, refl, sym, _∙_, ap}
 use Prim.Native.Nat.{ℕ, zero, suc, _+_, _*_, _<_, _≤_, _^_, _%_, _/_}
 use native.Mathlib.Omega.{arith}

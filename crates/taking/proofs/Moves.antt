@@ -1,4 +1,4 @@
--- One move of a recoder: the lowest digit of v + c, and what is left, by the two low binary digits of v. Assumes nothing.
+-- One move of a recoder: the lowest digit of v + c, and what is left, by the two low bits of v. Assumes nothing.
 use mathlib.Core.Path.{_≡_, refl, sym, ap, _∙_}
 use mathlib.Core.Logic.{_≢_}
 use mathlib.Core.Bool.{Bool, true, false, not, _&&_}
@@ -64,7 +64,7 @@ pub one-small : (b : Bool) → boolByte b ≤ 1
 one-small true = omega arith
 one-small false = omega arith
 
--- the low word has the two low binary digits
+-- the low word has the two low bits
 low-word : (words : List ℕ) → getD words 0 0 % 4 ≡ wordsValue words % 4
 low-word words = omega (arith, positional-drop (2 ^ 64) words 0)
 

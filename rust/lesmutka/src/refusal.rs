@@ -29,7 +29,7 @@ pub enum Refusal {
     /// 8: the work space is shorter than [`crate::work_space`] of the plan's steps.
     WorkSpaceTooShort,
     /// 9: an unknown operation, or a position not below the step's own.
-    StepUnsound {
+    MalformedStep {
         /// The step, counted from 1.
         step: usize,
     },
@@ -62,7 +62,7 @@ impl Refusal {
             Refusal::RoomTooSmall { .. } => 6,
             Refusal::PlanLength => 7,
             Refusal::WorkSpaceTooShort => 8,
-            Refusal::StepUnsound { .. } => 9,
+            Refusal::MalformedStep { .. } => 9,
             Refusal::ValueIsZero { .. } => 10,
             Refusal::ValueTooLarge { .. } => 11,
             Refusal::WrongEnd { .. } => 12,
@@ -74,7 +74,7 @@ impl Refusal {
         match self {
             Refusal::NotADigit { place } => place,
             Refusal::RoomTooSmall { needed } => needed,
-            Refusal::StepUnsound { step }
+            Refusal::MalformedStep { step }
             | Refusal::ValueIsZero { step }
             | Refusal::ValueTooLarge { step }
             | Refusal::WrongEnd { step } => step,
@@ -94,7 +94,7 @@ impl Refusal {
             6 => Refusal::RoomTooSmall { needed: place },
             7 => Refusal::PlanLength,
             8 => Refusal::WorkSpaceTooShort,
-            9 => Refusal::StepUnsound { step: place },
+            9 => Refusal::MalformedStep { step: place },
             10 => Refusal::ValueIsZero { step: place },
             11 => Refusal::ValueTooLarge { step: place },
             12 => Refusal::WrongEnd { step: place },
@@ -127,7 +127,7 @@ impl fmt::Display for Message {
                 )
             }
             Refusal::WorkSpaceTooShort => f.write_str("the work space is too short for the plan"),
-            Refusal::StepUnsound { .. } => {
+            Refusal::MalformedStep { .. } => {
                 f.write_str("this step has an unknown operation, or a position that is not below its own")
             }
             Refusal::ValueIsZero { .. } => f.write_str("the value at this step is zero"),

@@ -161,7 +161,7 @@ fn checking() {
     assert_eq!(check(&[1], &[0; 3205], &mut space), Err(Refusal::PlanLength));
     assert_eq!(
         check(&[1], &[0, 1, 0, 0, 0], &mut space),
-        Err(Refusal::StepUnsound { step: 1 })
+        Err(Refusal::MalformedStep { step: 1 })
     );
     assert_eq!(
         check(&[1], &[1, 0, 0, 0, 0], &mut space),

@@ -37,7 +37,7 @@ fn refusals() -> [Refusal; 12] {
         Refusal::RoomTooSmall { needed: 7 },
         Refusal::PlanLength,
         Refusal::WorkSpaceTooShort,
-        Refusal::StepUnsound { step: 7 },
+        Refusal::MalformedStep { step: 7 },
         Refusal::ValueIsZero { step: 7 },
         Refusal::ValueTooLarge { step: 7 },
         Refusal::WrongEnd { step: 7 },

@@ -7,7 +7,7 @@ use lib.IntN.{natAbs}
 use Rattle.rules.specs.Limits.{valueBound}
 use Rattle.records.specs.Value.{integerOf}
 use Rattle.records.proofs.Size.{size-is}
-use Rattle.checking.specs.WorkSpace.{stepOf}
+use Rattle.checking.specs.WorkSpace.{asStep}
 use Rattle.checking.proofs.Outcomes.{Gives, gives, unsound-checked, zero-checked, large-checked, fine-checked}
 use borrow.Author.Needs.{needs}
 use Rattle.checking.proofs.check_step.Statement.{statement}
@@ -26,17 +26,17 @@ add-i c = search needs
 returns : tie.Need-returns
 returns c =
     let args = c .before .before .before .args in
-    unsound-checked (stepOf (args .step)) (args .n) (args .space .now) (λ k. omega (arith, k .operation))
+    unsound-checked (asStep (args .step)) (args .n) (args .space .now) (λ k. omega (arith, k .operation))
 
 returns-2 : tie.Need-returns-2
 returns-2 c =
     let args = c .before .before .before .before .args in
-    unsound-checked (stepOf (args .step)) (args .n) (args .space .now) (λ k. omega (arith, k .first))
+    unsound-checked (asStep (args .step)) (args .n) (args .space .now) (λ k. omega (arith, k .first))
 
 returns-3 : tie.Need-returns-3
 returns-3 c =
     let args = c .before .before .before .before .before .args in
-    unsound-checked (stepOf (args .step)) (args .n) (args .space .now) (λ k. omega (arith, k .second))
+    unsound-checked (asStep (args .step)) (args .n) (args .space .now) (λ k. omega (arith, k .second))
 
 mul-at : tie.Need-mul-at
 mul-at c = search needs
@@ -58,13 +58,13 @@ combined-requires c κs = search needs
 
 -- the value of the step
 combines : (c : tie.After-combined)
-    → let args = c .before .before .before .before .before .before .before .before .before .before .before .args in Gives (stepOf (args .step)) (args .n) (args .space .now) (integerOf (c .combined .result))
+    → let args = c .before .before .before .before .before .before .before .before .before .before .before .args in Gives (asStep (args .step)) (args .n) (args .space .now) (integerOf (c .combined .result))
 combines c =
     let second = c .before .before in
     let first = second .before .before in
     let tests = first .before .before in
     let args = tests .before .before .before .before .before .args in
-    gives (stepOf (args .step)) (args .n) (args .space .now) (integerOf (first .load .result)) (integerOf (second .load2 .result)) (integerOf (c .combined .result))
+    gives (asStep (args .step)) (args .n) (args .space .now) (integerOf (first .load .result)) (integerOf (second .load2 .result)) (integerOf (c .combined .result))
     (record { operation = tests .before .before .if1 .left; first = tests .before .if2 .left; second = tests .if3 .left })
     (first .load .ensures .1) (second .load2 .ensures .1) (c .combined .ensures)
 
@@ -78,7 +78,7 @@ returns-4 : tie.Need-returns-4
 returns-4 c =
     let value = c .before .before .combined .result in
     let args = c .before .before .before .before .before .before .before .before .before .before .before .before .before .args in
-    zero-checked (stepOf (args .step)) (args .n) (args .space .now) (integerOf value) (combines (c .before .before)) (eqb-true (natAbs (integerOf value)) 0 (sym (c .before .is-zero .ensures) ∙ c .if4 .taken))
+    zero-checked (asStep (args .step)) (args .n) (args .space .now) (integerOf value) (combines (c .before .before)) (eqb-true (natAbs (integerOf value)) 0 (sym (c .before .is-zero .ensures) ∙ c .if4 .taken))
 
 is-small-requires : tie.Need-is-small-requires
 is-small-requires c κs = search needs
@@ -100,7 +100,7 @@ returns-5 c =
     let tested = stored .before .before in
     let value = tested .before .before .before .before .combined .result in
     let args = c .before .before .before .before .before .before .before .before .before .before .before .before .before .before .before .before .before .before .before .args in
-    fine-checked (stepOf (args .step)) (args .n) (args .space .now) (integerOf value) (combines (tested .before .before .before .before)) (stored .store .last .0)
+    fine-checked (asStep (args .step)) (args .n) (args .space .now) (integerOf value) (combines (tested .before .before .before .before)) (stored .store .last .0)
     (eqb-false (natAbs (integerOf value)) 0 (sym (tested .before .before .before .is-zero .ensures) ∙ tested .before .before .if4 .left))
     (is-small tested)
     (stored .store .ensures)
@@ -112,7 +112,7 @@ returns-6 : tie.Need-returns-6
 returns-6 c =
     let value = c .before .before .before .before .combined .result in
     let args = c .before .before .before .before .before .before .before .before .before .before .before .before .before .before .before .args in
-    large-checked (stepOf (args .step)) (args .n) (args .space .now) (integerOf value) (combines (c .before .before .before .before)) (ltb-false (natAbs (integerOf value)) valueBound (sym (c .before .is-small .ensures) ∙ c .if5 .left))
+    large-checked (asStep (args .step)) (args .n) (args .space .now) (integerOf value) (combines (c .before .before .before .before)) (ltb-false (natAbs (integerOf value)) valueBound (sym (c .before .is-small .ensures) ∙ c .if5 .left))
 
 pub check-step-spec : {M : Type 1} → statement M
 check-step-spec =

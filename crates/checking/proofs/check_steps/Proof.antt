@@ -11,7 +11,7 @@ use Rattle.chains.specs.Steps.{stepsOf}
 use Rattle.chains.specs.Values.{start}
 use Rattle.chains.specs.Counts.{countsOf}
 use Rattle.chains.proofs.Bytes.{length-steps}
-use Rattle.checking.specs.WorkSpace.{stepOf, stepsIn, Recording}
+use Rattle.checking.specs.WorkSpace.{asStep, stepsIn, Recording}
 use Rattle.checking.proofs.Counting.{counts-more}
 use Rattle.checking.proofs.Underway.{Underway, underway-none, underway-next, underway-stop, underway-end}
 use borrow.Author.Needs.{needs}
@@ -60,7 +60,7 @@ returns c =
     let check = c .before .before .before .before .before .check-step in
     let plan = start .args .plan .now in
     let verdict = c .before .verdict .given in
-    λ lent w. underway-stop plan lent (loop .space) (loop .n) (loop .inv .4 lent w) (search needs) (stepOf (step .result)) (step .ensures) (check .result) (check .last .1 .0) (check .ensures) (verdict .0 .0) (Steps (countsOf (stepsOf plan))) (verdict .1)
+    λ lent w. underway-stop plan lent (loop .space) (loop .n) (loop .inv .4 lent w) (search needs) (asStep (step .result)) (step .ensures) (check .result) (check .last .1 .0) (check .ensures) (verdict .0 .0) (Steps (countsOf (stepsOf plan))) (verdict .1)
 
 enum-told : tie.Need-enum-told Inv-loop μ-loop
 enum-told c = search needs
@@ -82,8 +82,8 @@ loop-again c =
       search needs,
       search needs,
       omega (arith, count .ensures .1),
-      count .ensures .0 ∙ rw (loop .inv .3) (counts-more plan (loop .n) (stepOf (step .result)) (search needs) (step .ensures)),
-      λ lent w. underway-next plan lent (loop .space) (loop .n) (loop .inv .4 lent w) (search needs) (stepOf (step .result)) (step .ensures) (check .result) (check .last .1 .0) (check .ensures) (c .enum-told .given .1),
+      count .ensures .0 ∙ rw (loop .inv .3) (counts-more plan (loop .n) (asStep (step .result)) (search needs) (step .ensures)),
+      λ lent w. underway-next plan lent (loop .space) (loop .n) (loop .inv .4 lent w) (search needs) (asStep (step .result)) (step .ensures) (check .result) (check .last .1 .0) (check .ensures) (c .enum-told .given .1),
     )
 
 same-length-2 : tie.Need-same-length-2 Inv-loop μ-loop

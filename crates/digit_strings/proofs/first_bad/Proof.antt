@@ -5,7 +5,7 @@ use native.Mathlib.Nat.{zero-add}
 use native.Mathlib.Omega.{arith}
 use lib.ListN.{length, drop}
 use Rattle.digit_strings.specs.Checked.{firstBad}
-use Rattle.digit_strings.proofs.Scan.{here, later, never}
+use Rattle.digit_strings.proofs.Scan.{bad-here, digit-here, none-bad-above}
 use borrow.Author.Needs.{needs}
 use Rattle.digit_strings.proofs.first_bad.Statement.{statement}
 use Rattle.digit_strings.proofs.first_bad.Tie as tie
@@ -37,7 +37,7 @@ returns : tie.Need-returns Inv-loop μ-loop
 returns c =
     let loop = c .before .before .before .before .loop in
     let digits = c .before .before .before .before .before .before .before .args .digits .now in
-    omega (arith, loop .inv .1, here digits (loop .i) (search needs) (sym (c .before .is-digit .ensures) ∙ c .if1 .left))
+    omega (arith, loop .inv .1, bad-here digits (loop .i) (search needs) (sym (c .before .is-digit .ensures) ∙ c .if1 .left))
 
 add-i : tie.Need-add-i Inv-loop μ-loop
 add-i c = search needs
@@ -49,13 +49,13 @@ loop-again : tie.Need-loop-again Inv-loop μ-loop
 loop-again c =
     let loop = c .before .before .before .before .loop in
     let digits = c .before .before .before .before .before .before .before .args .digits .now in
-    (search needs, omega (arith, loop .inv .1, later digits (loop .i) (search needs) (sym (c .before .is-digit .ensures) ∙ c .if1 .taken)))
+    (search needs, omega (arith, loop .inv .1, digit-here digits (loop .i) (search needs) (sym (c .before .is-digit .ensures) ∙ c .if1 .taken)))
 
 returns-2 : tie.Need-returns-2 Inv-loop μ-loop
 returns-2 c =
     let digits = c .before .before .before .before .args .digits .now in
     let e : c .before .loop .i ≡ length digits = omega arith in
-    omega (arith, c .before .loop .inv .1, never digits, ap (λ (n : ℕ). firstBad (drop n digits)) e)
+    omega (arith, c .before .loop .inv .1, none-bad-above digits, ap (λ (n : ℕ). firstBad (drop n digits)) e)
 
 pub first-bad-spec : {M : Type 1} → statement M
 first-bad-spec =

@@ -2,7 +2,7 @@
 use Prim.Native.Nat.{_-_, _≤_}
 use lib.ListN.{length}
 use Rattle.digit_strings.specs.Internal.{DigitsFor}
-use Rattle.digit_strings.proofs.Scan.{none-yet, more}
+use Rattle.digit_strings.proofs.Scan.{none-yet, digits-joined}
 use borrow.Author.Needs.{needs}
 use Rattle.digit_strings.proofs.whole_digits.Statement.{statement}
 use Rattle.digit_strings.proofs.whole_digits.Tie as tie
@@ -35,7 +35,7 @@ loop-again : tie.Need-loop-again Inv-loop μ-loop
 loop-again c =
     let loop = c .before .before .before .loop in
     let args = c .before .before .before .before .before .args in
-    (search needs, more (args .digits .now) (loop .i) 8 (loop .inv .1) (c .before .are-digits .ensures (c .if1 .taken)))
+    (search needs, digits-joined (args .digits .now) (loop .i) 8 (loop .inv .1) (c .before .are-digits .ensures (c .if1 .taken)))
 
 returns : tie.Need-returns Inv-loop μ-loop
 returns c = c .before .before .before .loop .inv

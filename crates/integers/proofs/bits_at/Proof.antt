@@ -23,16 +23,16 @@ add-bytes c = search needs
 shr-result : tie.Need-shr-result
 shr-result c = search needs
 
-power-requires : tie.Need-power-requires
-power-requires c κs = search needs
+power-of-two-requires : tie.Need-power-of-two-requires
+power-of-two-requires c κs = search needs
 
 rem-result : tie.Need-rem-result
-rem-result c = rw (c .power .ensures) (pow-pos (c .before .before .before .before .args .count))
+rem-result c = rw (c .power-of-two .ensures) (pow-pos (c .before .before .before .before .args .count))
 
 returns : tie.Need-returns
 returns c =
     let args = c .before .before .before .before .args in
-    rw (c .before .before .byte-at .ensures .0, c .before .byte-at2 .ensures .0, c .power .ensures)
+    rw (c .before .before .byte-at .ensures .0, c .before .byte-at2 .ensures .0, c .power-of-two .ensures)
     (bits-of-bytes (args .number .now) (args .place) (args .count) (λ i. c .before .before .before .shared-slice-known .given i .fits) (search needs))
 
 pub bits-at-spec : {M : Type 1} → statement M
@@ -45,6 +45,6 @@ bits-at-spec =
     mul-bytes
     add-bytes
     shr-result
-    power-requires
+    power-of-two-requires
     rem-result
     returns)

@@ -1,7 +1,7 @@
 -- `method_binary::at_bit` meets its contract. Assumes nothing.
 use mathlib.Core.Path.{_≡_}
 use native.Mathlib.Omega.{arith}
-use Rattle.methods.specs.Building.{double}
+use Rattle.methods.specs.PartialPlan.{double}
 use borrow.Author.Needs.{needs}
 use Rattle.method_binary.proofs.at_bit.Statement.{statement}
 use Rattle.method_binary.proofs.at_bit.Tie as tie

@@ -6,7 +6,7 @@ use lib.ListN.{length}
 use Rattle.integers.specs.Positional.{bytesValue}
 use Rattle.integers.specs.Bits.{bit, bitLength}
 use Rattle.integers.proofs.Bits.{some-bits, bit-small}
-use Rattle.methods.specs.Building.{Building, none}
+use Rattle.methods.specs.PartialPlan.{PartialPlan, none}
 use Rattle.methods.specs.Binary.{atBit, binarySteps}
 use Rattle.methods.proofs.Binary.{length-at-bit}
 use Rattle.plan_writing.proofs.Underway.{Underway, down, nothing-written, underway-next, underway-room, underway-end}
@@ -54,7 +54,7 @@ at-bit-requires c κs =
     let loop = c .before .before .before .loop in
     let args = c .before .before .before .before .before .before .before .before .args in
     let e : ℕ = bytesValue (args .number .now) in
-    let f : ℕ → Building → Building = λ i b. atBit (bit e i) b in
+    let f : ℕ → PartialPlan → PartialPlan = λ i b. atBit (bit e i) b in
     let u : Underway (args .out .now) (loop .out) (loop .c) f (suc (loop .i - 1)) (binarySteps e) = down (args .out .now) (loop .out) (loop .c) f (binarySteps e) (loop .i) (search needs) (loop .inv .2) in
     let x : c .bit-at .result < 2 = omega (arith, c .bit-at .ensures, bit-small e (loop .i - 1)) in
     let room = underway-room (args .out .now) (loop .out) (loop .c) f (binarySteps e) (loop .i - 1) (λ i b. omega (arith, length-at-bit (bit e i) b (bit-small e i))) u in
@@ -68,7 +68,7 @@ loop-again c =
     let loop = c .before .before .before .before .before .before .loop in
     let args = c .before .before .before .before .before .before .before .before .before .before .before .args in
     let e : ℕ = bytesValue (args .number .now) in
-    let f : ℕ → Building → Building = λ i b. atBit (bit e i) b in
+    let f : ℕ → PartialPlan → PartialPlan = λ i b. atBit (bit e i) b in
     let u : Underway (args .out .now) (loop .out) (loop .c) f (suc (loop .i - 1)) (binarySteps e) = down (args .out .now) (loop .out) (loop .c) f (binarySteps e) (loop .i) (search needs) (loop .inv .2) in
     let step = c .before .before .at-bit in
     (omega arith, search needs, underway-next (args .out .now) (loop .out) (loop .c) f (binarySteps e) (step .last .1 .0) (step .result) (loop .i - 1) u (rw (c .before .before .before .bit-at .ensures) at (step .ensures .1 (args .out .now) (u .building) (u .writing))))
@@ -80,7 +80,7 @@ returns : tie.Need-returns Inv-loop μ-loop
 returns c =
     let args = c .before .before .before .before .before .before .args in
     let loop = c .before .loop in
-    let f : ℕ → Building → Building = λ i b. atBit (bit (bytesValue (args .number .now)) i) b in
+    let f : ℕ → PartialPlan → PartialPlan = λ i b. atBit (bit (bytesValue (args .number .now)) i) b in
     let z : loop .i ≡ 0 = omega arith in
     underway-end (args .out .now) (loop .out) (loop .c) f (binarySteps (bytesValue (args .number .now))) (rw z at (loop .inv .2))
 

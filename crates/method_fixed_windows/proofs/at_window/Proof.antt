@@ -3,8 +3,8 @@ use mathlib.Core.Path.{_≡_, ap}
 use Prim.Native.Nat.{ℕ, suc, _-_}
 use native.Mathlib.Omega.{arith}
 use borrow.Author.Tests.{ne-eqb}
-use Rattle.methods.specs.Building.{doubled}
-use Rattle.methods.specs.FixedWindows.{atWindow}
+use Rattle.methods.specs.PartialPlan.{doubled}
+use Rattle.methods.specs.FixedWindows.{atFixedWindow}
 use borrow.Author.Needs.{needs}
 use Rattle.method_fixed_windows.proofs.at_window.Statement.{statement}
 use Rattle.method_fixed_windows.proofs.at_window.Tie as tie
@@ -42,7 +42,7 @@ returns-2 c =
     let a = c .before .before .add-at in
     let z : v ≡ suc (v - 1) = omega arith in (
       rw (ne-eqb v 0 (c .before .before .before .before .if1 .left)) (omega (arith, d .ensures .0, a .ensures .0)),
-      λ lent b w. rw (ap (λ (n : ℕ). atWindow (start .args .width) n b) z) (a .ensures .1 lent (doubled (start .args .width) b) (d .ensures .1 lent b w)),
+      λ lent b w. rw (ap (λ (n : ℕ). atFixedWindow (start .args .width) n b) z) (a .ensures .1 lent (doubled (start .args .width) b) (d .ensures .1 lent b w)),
     )
 
 pub at-window-spec : {M : Type 1} → statement M

@@ -6,7 +6,7 @@ use native.Mathlib.Omega.{arith}
 use lib.Pow.{pow-mono}
 use borrow.Author.Tests.{le-ltb}
 use Rattle.integers.specs.Positional.{bytesValue}
-use Rattle.methods.proofs.FixedWindows.{ladder-counts, one-window, more-windows, fixed-one, fixed-counts}
+use Rattle.methods.proofs.FixedWindows.{multiples-counts, one-window, more-windows, fixed-one, fixed-counts}
 use borrow.Author.Needs.{needs}
 use Rattle.method_fixed_windows.proofs.counts.Statement.{statement}
 use Rattle.method_fixed_windows.proofs.counts.Tie as tie
@@ -29,10 +29,10 @@ returns : tie.Need-returns
 returns c =
     let args = c .before .before .before .before .before .args in
     let e : ℕ = bytesValue (args .number .now) in
-    rw (c .table-counts .ensures .0, c .before .small-value .ensures, fixed-one e (args .width) (search needs) (search needs)) (sym (ladder-counts (e - 1)))
+    rw (c .table-counts .ensures .0, c .before .small-value .ensures, fixed-one e (args .width) (search needs) (search needs)) (sym (multiples-counts (e - 1)))
 
-table-size-requires : tie.Need-table-size-requires
-table-size-requires c κs = search needs
+table-length-requires : tie.Need-table-length-requires
+table-length-requires c κs = search needs
 
 table-counts-requires-2 : tie.Need-table-counts-requires-2
 table-counts-requires-2 c κs = search needs
@@ -50,7 +50,7 @@ add-t11 : tie.Need-add-t11
 add-t11 c =
     let width : ℕ = c .before .before .before .before .before .before .before .before .args .width in
     let top : ℕ = c .before .before .before .before .before .before .top-window .result in
-    omega (arith, c .before .before .before .before .table-size .ensures, pow-mono {i = width} {j = 6} (search needs), mul-le-mul-right {m = 1} {n = width} top (search needs))
+    omega (arith, c .before .before .before .before .table-length .ensures, pow-mono {i = width} {j = 6} (search needs), mul-le-mul-right {m = 1} {n = width} top (search needs))
 
 returns-2 : tie.Need-returns-2
 returns-2 c =
@@ -58,7 +58,7 @@ returns-2 c =
     let e : ℕ = bytesValue (args .number .now) in
     let t = c .before .before .before .before .before .before .top-window in
     let more : 2 ^ args .width ≤ e = more-windows e (args .width) (search needs) (omega (arith, t .ensures .0)) in
-    rw (c .before .nonzero-windows .ensures .0, c .before .before .before .table-counts2 .ensures .0, c .before .before .before .before .table-size .ensures, t .ensures .0, fixed-counts e (args .width), le-ltb e (2 ^ args .width) more)
+    rw (c .before .nonzero-windows .ensures .0, c .before .before .before .table-counts2 .ensures .0, c .before .before .before .before .table-length .ensures, t .ensures .0, fixed-counts e (args .width), le-ltb e (2 ^ args .width) more)
 
 pub counts-spec : {M : Type 1} → statement M
 counts-spec =
@@ -69,7 +69,7 @@ counts-spec =
     sub-table-counts
     table-counts-requires
     returns
-    table-size-requires
+    table-length-requires
     table-counts-requires-2
     mul-t8
     add-t9

@@ -6,8 +6,8 @@ use lib.ListN.{length}
 use lib.Pow.{pow-mono}
 use Rattle.integers.specs.Positional.{bytesValue}
 use Rattle.chains.proofs.Bytes.{length-plan}
-use Rattle.methods.specs.FixedWindows.{ladder}
-use Rattle.methods.proofs.FixedWindows.{length-ladder, one-window, fixed-one, fixed-more}
+use Rattle.methods.specs.FixedWindows.{multiples}
+use Rattle.methods.proofs.FixedWindows.{length-multiples, one-window, fixed-one, fixed-more}
 use borrow.Author.Needs.{needs}
 use Rattle.method_fixed_windows.proofs.write.Statement.{statement}
 use Rattle.method_fixed_windows.proofs.write.Tie as tie
@@ -25,14 +25,14 @@ small-value-requires c κs =
     let args = c .before .before .before .before .before .args in
     omega (arith, one-window (bytesValue (args .number .now)) (args .width) (search needs) (search needs), pow-mono {i = args .width} {j = 8} (search needs))
 
-sub-write-ladder : tie.Need-sub-write-ladder
-sub-write-ladder c = search needs
+sub-write-multiples : tie.Need-sub-write-multiples
+sub-write-multiples c = search needs
 
-write-ladder-requires : tie.Need-write-ladder-requires
-write-ladder-requires c κs =
+write-multiples-requires : tie.Need-write-multiples-requires
+write-multiples-requires c κs =
     let args = c .before .before .before .before .before .before .args in
     let e : ℕ = bytesValue (args .number .now) in
-    omega (arith, c .small-value .ensures, ap length (fixed-one e (args .width) (search needs) (search needs)), length-ladder (e - 1))
+    omega (arith, c .small-value .ensures, ap length (fixed-one e (args .width) (search needs) (search needs)), length-multiples (e - 1))
 
 same-length : tie.Need-same-length
 same-length c = search needs
@@ -49,7 +49,7 @@ returns-2 : tie.Need-returns-2
 returns-2 c =
     let args = c .before .before .before .before .before .before .before .before .before .args in
     let e : ℕ = bytesValue (args .number .now) in
-    rw (fixed-one e (args .width) (search needs) (search needs), length-plan (ladder (e - 1)), length-ladder (e - 1)) (rw (c .before .before .before .small-value .ensures) at (c .before .before .write-ladder .ensures))
+    rw (fixed-one e (args .width) (search needs) (search needs), length-plan (multiples (e - 1)), length-multiples (e - 1)) (rw (c .before .before .before .small-value .ensures) at (c .before .before .write-multiples .ensures))
 
 pub write-spec : {M : Type 1} → statement M
 write-spec =
@@ -58,8 +58,8 @@ write-spec =
     top-window-requires
     write-windows-requires
     small-value-requires
-    sub-write-ladder
-    write-ladder-requires
+    sub-write-multiples
+    write-multiples-requires
     same-length
     returns
     same-length-2

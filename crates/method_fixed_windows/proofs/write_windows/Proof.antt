@@ -6,10 +6,10 @@ use native.Mathlib.Nat.{mul-le-mul-left}
 use native.Mathlib.Omega.{arith}
 use lib.ListN.{length}
 use Rattle.integers.specs.Positional.{bytesValue}
-use Rattle.methods.specs.Building.{Building}
-use Rattle.methods.specs.FixedWindows.{window, topWindow, atWindow, windowSteps}
+use Rattle.methods.specs.PartialPlan.{PartialPlan}
+use Rattle.methods.specs.FixedWindows.{window, topWindow, atFixedWindow, windowSteps}
 use Rattle.methods.proofs.Laws.{down-grows}
-use Rattle.methods.proofs.FixedWindows.{laddered, length-ladder, length-at-window, top-window-some}
+use Rattle.methods.proofs.FixedWindows.{multiplied, length-multiples, length-at-window, top-window-some}
 use Rattle.plan_writing.specs.Writing.{Writing}
 use Rattle.plan_writing.proofs.Underway.{Underway, down, underway-next, underway-room, underway-end}
 use borrow.Author.Needs.{needs}
@@ -17,22 +17,22 @@ use Rattle.method_fixed_windows.proofs.write_windows.Statement.{stateme
 use Rattle.method_fixed_windows.proofs.write_windows.Tie as tie
 
 -- the steps of window i
-abbrev windowAt : List ℕ → ℕ → ℕ → Building → Building
-windowAt number width i b = atWindow width (window (bytesValue number) width i) b
+abbrev windowAt : List ℕ → ℕ → ℕ → PartialPlan → PartialPlan
+windowAt number width i b = atFixedWindow width (window (bytesValue number) width i) b
 
-grows : (number : List ℕ) (width i : ℕ) (b : Building) → length (b .steps) ≤ length (windowAt number width i b .steps)
+grows : (number : List ℕ) (width i : ℕ) (b : PartialPlan) → length (b .steps) ≤ length (windowAt number width i b .steps)
 grows number width i b = omega (arith, length-at-window width (window (bytesValue number) width i) b)
 
 -- the table, and the latest at the value of the top window
-abbrev tabled : List ℕ → ℕ → ℕ → Building
-tabled number width top = laddered (2 ^ width - 2) (window (bytesValue number) width top - 1)
+abbrev tabled : List ℕ → ℕ → ℕ → PartialPlan
+tabled number width top = multiplied (2 ^ width - 2) (window (bytesValue number) width top - 1)
 
 -- the table is among all steps
 table-room : (number : List ℕ) (width : ℕ) → 2 ^ width - 2 ≤ length (windowSteps (bytesValue number) width)
 unfolding windowSteps
 table-room number width =
     let top : ℕ = topWindow (bytesValue number) width in
-    omega (arith, length-ladder (2 ^ width - 2), down-grows (windowAt number width) top (tabled number width top) (grows number width))
+    omega (arith, length-multiples (2 ^ width - 2), down-grows (windowAt number width) top (tabled number width top) (grows number width))
 
 abbrev Inv-loop : tie.InvT-loop
 Inv-loop number width top out₀ table c₀ i₀ out c i =
@@ -45,19 +45,19 @@ abbrev μ-loop : tie.MeasureT-loop
 under : (c : tie.At-loop Inv-loop μ-loop) → let args = c .before .before .before .before .before .before .before .before .before .args in Underway (args .out .now) (c .loop .out) (c .loop .c) (windowAt (args .number .now) (args .width)) (c .loop .i) (windowSteps (bytesValue (args .number .now)) (args .width))
 under c =
     let args = c .before .before .before .before .before .before .before .before .before .args in
-    let size = c .before .before .before .before .before .before .table-size .ensures in
+    let size = c .before .before .before .before .before .before .table-length .ensures in
     c .loop .inv .2 (args .out .now)
     (record {
-      steps = size ∙ sym (length-ladder (2 ^ args .width - 2));
+      steps = size ∙ sym (length-multiples (2 ^ args .width - 2));
       latest = ap (λ (v : ℕ). v - 1) (c .before .window-at .ensures);
-      bytes = c .before .before .before .before .write-ladder .ensures ∙ rw (size, length-ladder (2 ^ args .width - 2));
+      bytes = c .before .before .before .before .write-multiples .ensures ∙ rw (size, length-multiples (2 ^ args .width - 2));
     })
 
-table-size-requires : tie.Need-table-size-requires Inv-loop μ-loop
-table-size-requires c κs = search needs
+table-length-requires : tie.Need-table-length-requires Inv-loop μ-loop
+table-length-requires c κs = search needs
 
-write-ladder-requires : tie.Need-write-ladder-requires Inv-loop μ-loop
-write-ladder-requires c κs = omega (arith, c .before .table-size .ensures, table-room (c .before .before .before .before .args .number .now) (c .before .before .before .before .args .width))
+write-multiples-requires : tie.Need-write-multiples-requires Inv-loop μ-loop
+write-multiples-requires c κs = omega (arith, c .before .table-length .ensures, table-room (c .before .before .before .before .args .number .now) (c .before .before .before .before .args .width))
 
 window-at-requires : tie.Need-window-at-requires Inv-loop μ-loop
 window-at-requires c κs = search needs
@@ -88,7 +88,7 @@ at-window-requires c κs =
     let loop = c .before .before .before .loop in
     let args = c .before .before .before .before .before .before .before .before .before .before .before .before .args in
     let i : ℕ = loop .i - 1 in
-    let f : ℕ → Building → Building = windowAt (args .number .now) (args .width) in
+    let f : ℕ → PartialPlan → PartialPlan = windowAt (args .number .now) (args .width) in
     let all = windowSteps (bytesValue (args .number .now)) (args .width) in
     let u : Underway (args .out .now) (loop .out) (loop .c) f (suc i) all = down (args .out .now) (loop .out) (loop .c) f all (loop .i) (search needs) (under (c .before .before .before)) in
     let room = underway-room (args .out .now) (loop .out) (loop .c) f all i (grows (args .number .now) (args .width)) u in
@@ -101,7 +101,7 @@ loop-again : tie.Need-loop-again Inv-loop μ-loop
 loop-again c =
     let loop = c .before .before .before .before .before .before .loop in
     let args = c .before .before .before .before .before .before .before .before .before .before .before .before .before .before .before .args in
-    let f : ℕ → Building → Building = windowAt (args .number .now) (args .width) in
+    let f : ℕ → PartialPlan → PartialPlan = windowAt (args .number .now) (args .width) in
     let all = windowSteps (bytesValue (args .number .now)) (args .width) in
     let step = c .before .before .at-window in (
       search needs,
@@ -127,8 +127,8 @@ write-windows-spec =
     (tie.spec
     Inv-loop
     μ-loop
-    table-size-requires
-    write-ladder-requires
+    table-length-requires
+    write-multiples-requires
     window-at-requires
     sub-t12
     loop-holds

@@ -5,9 +5,9 @@ use Prim.Native.Nat.{ℕ}
 use native.Mathlib.Omega.{arith}
 use lib.IntN.{ℤ, pos}
 use Rattle.integers.specs.Signed.{signOf}
-use Rattle.methods.specs.Building.{Building, double, followed}
+use Rattle.methods.specs.PartialPlan.{PartialPlan, double, followed}
 use Rattle.methods.specs.NonAdjacentForm.{atDigit}
-use Rattle.plan_writing.specs.Writing.{stepOf}
+use Rattle.plan_writing.specs.Writing.{stepWith}
 use Rattle.method_naf.specs.Digits.{Digit, nought, plus, minus}
 use borrow.Author.Needs.{needs}
 use Rattle.method_naf.proofs.at_digit.Statement.{statement}
@@ -24,7 +24,7 @@ is-nought plus e = absurd (omega arith)
 is-nought minus e = absurd (omega arith)
 
 -- the step beside the doubling
-is-signed : {byte : ℕ} {d : ℤ} (b : Building) → Digit byte d → byte ≢ 0 → followed (double b) (stepOf (signOf d) (double b .latest) 0) ≡ atDigit d b
+is-signed : {byte : ℕ} {d : ℤ} (b : PartialPlan) → Digit byte d → byte ≢ 0 → followed (double b) (stepWith (signOf d) (double b .latest) 0) ≡ atDigit d b
 is-signed b nought n = absurd (n refl)
 is-signed b plus n = refl
 is-signed b minus n = refl

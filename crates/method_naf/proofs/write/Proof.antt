@@ -7,7 +7,7 @@ use lib.ListN.{length}
 use Rattle.integers.specs.Positional.{bytesValue}
 use Rattle.signed_digits.specs.Strings.{digitAt}
 use Rattle.signed_digits.specs.Naf.{canonical}
-use Rattle.methods.specs.Building.{Building, none}
+use Rattle.methods.specs.PartialPlan.{PartialPlan, none}
 use Rattle.methods.specs.NonAdjacentForm.{atDigit, digitSteps, nafSteps}
 use Rattle.methods.proofs.NonAdjacentForm.{some-digits, length-at-digit}
 use Rattle.plan_writing.proofs.Underway.{Underway, down, nothing-written, underway-next, underway-room, underway-end}
@@ -22,7 +22,7 @@ use Rattle.method_naf.proofs.recoded.Reads as recoded-reads
 use Rattle.plan_writing.proofs.Cursor.first.Reads as first-reads
 
 -- the steps of the digit at a place
-abbrev atPlace : ℕ → ℕ → Building → Building
+abbrev atPlace : ℕ → ℕ → PartialPlan → PartialPlan
 atPlace e i b = atDigit (digitAt (canonical (pos e)) i) b
 
 abbrev Inv-loop : tie.InvT-loop

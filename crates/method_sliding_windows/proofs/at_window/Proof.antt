@@ -2,8 +2,8 @@
 use Prim.Native.Nat.{_%_}
 use native.Mathlib.Omega.{arith}
 use borrow.Author.Tests.{eq-eqb, ne-eqb}
-use Rattle.methods.specs.Building.{doubled}
-use Rattle.method_sliding_windows.specs.Scan.{atWindow}
+use Rattle.methods.specs.PartialPlan.{doubled}
+use Rattle.method_sliding_windows.specs.Scan.{atSlidingWindow}
 use borrow.Author.Needs.{needs}
 use Rattle.method_sliding_windows.proofs.at_window.Statement.{statement}
 use Rattle.method_sliding_windows.proofs.at_window.Tie as tie
@@ -25,7 +25,7 @@ same-length : tie.Need-same-length
 same-length c = search needs
 
 returns : tie.Need-returns
-unfolding atWindow
+unfolding atSlidingWindow
 returns c =
     let args = c .before .before .before .before .before .before .before .args in
     let doubled = c .before .before .before .before .double-times in
@@ -35,7 +35,7 @@ same-length-2 : tie.Need-same-length-2
 same-length-2 c = search needs
 
 returns-2 : tie.Need-returns-2
-unfolding atWindow
+unfolding atSlidingWindow
 returns-2 c =
     let args = c .before .before .before .before .before .before .before .before .before .before .before .before .args in
     let times = c .before .before .before .before .before .before .before .before .before .double-times in

@@ -5,11 +5,11 @@ use borrow.Author.Needs.{needs}
 use Rattle.method_sliding_windows.proofs.next_window.Statement.{statement}
 use Rattle.method_sliding_windows.proofs.next_window.Tie as tie
 
-sub-digits-down : tie.Need-sub-digits-down
-sub-digits-down c = search needs
+sub-bits-down : tie.Need-sub-bits-down
+sub-bits-down c = search needs
 
-digits-down-requires : tie.Need-digits-down-requires
-digits-down-requires c κs = search needs
+bits-down-requires : tie.Need-bits-down-requires
+bits-down-requires c κs = search needs
 
 zeros-above-requires : tie.Need-zeros-above-requires
 zeros-above-requires c κs = search needs
@@ -17,7 +17,7 @@ zeros-above-requires c κs = search needs
 returns : tie.Need-returns
 returns c =
     let args = c .before .before .before .before .args in
-    let digits = c .before .before .digits-down in
+    let digits = c .before .before .bits-down in
     let zeros = c .zeros-above in
     next-zeros (wordsValue (args .words .now)) (args .width) (search needs) (search needs) (args .place) (search needs) (digits .result) (digits .ensures) (zeros .result) (search needs) (search needs) (search needs) (search needs)
 
@@ -27,7 +27,7 @@ window-in-requires c κs = search needs
 returns-2 : tie.Need-returns-2
 returns-2 c =
     let args = c .before .before .before .before .args in
-    let digits = c .before .before .digits-down in
+    let digits = c .before .before .bits-down in
     rw (c .window-in .ensures)
     (next-window (wordsValue (args .words .now)) (args .width) (search needs) (search needs) (args .place) (search needs) (digits .result) (digits .ensures) (search needs))
 
@@ -35,8 +35,8 @@ pub next-window-spec : {M : Type 1} → statement M
 next-window-spec =
     tie.close
     (tie.spec
-    sub-digits-down
-    digits-down-requires
+    sub-bits-down
+    bits-down-requires
     zeros-above-requires
     returns
     window-in-requires

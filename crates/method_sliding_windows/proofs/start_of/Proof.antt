@@ -8,15 +8,15 @@ use lib.Pow.{pow-mono}
 use Rattle.integers.specs.Bits.{bitLength}
 use Rattle.integers.specs.Positional.{wordsValue}
 use Rattle.methods.proofs.SlidingWindows.{first-window, window-entry}
-use Rattle.method_sliding_windows.specs.Scan.{windowAt, digitsDown, firstIn, startOf}
+use Rattle.method_sliding_windows.specs.Scan.{windowAt, bitsDown, firstIn, startOf}
 use Rattle.method_sliding_windows.proofs.Digits.{start-large, start-window}
 use borrow.Author.Needs.{needs}
 use Rattle.method_sliding_windows.proofs.start_of.Statement.{statement}
 use Rattle.method_sliding_windows.proofs.start_of.Tie as tie
 
 -- the digits from the top bit down
-digits : (c : tie.After-digits-down) → c .digits-down .result ≡ digitsDown (wordsValue (c .before .before .args .words .now)) (bitLength (wordsValue (c .before .before .args .words .now)) - 1)
-digits c = c .digits-down .ensures ∙ ap (λ (n : ℕ). digitsDown (wordsValue (c .before .before .args .words .now)) n) (c .before .before .pre .1 .0)
+digits : (c : tie.After-bits-down) → c .bits-down .result ≡ bitsDown (wordsValue (c .before .before .args .words .now)) (bitLength (wordsValue (c .before .before .args .words .now)) - 1)
+digits c = c .bits-down .ensures ∙ ap (λ (n : ℕ). bitsDown (wordsValue (c .before .before .args .words .now)) n) (c .before .before .pre .1 .0)
 
 module _ (c : tie.After-window-in) where
   abbrev e : ℕ
@@ -37,8 +37,8 @@ module _ (c : tie.After-window-in) where
   small : c .window-in .result .value < 64
   small = rw window (lt-of-lt-of-le (window-entry (first-window e d some (search needs)) .narrow) (pow-mono {j = 6} (search needs)))
 
-digits-down-requires : tie.Need-digits-down-requires
-digits-down-requires c κs = search needs
+bits-down-requires : tie.Need-bits-down-requires
+bits-down-requires c κs = search needs
 
 window-in-requires : tie.Need-window-in-requires
 window-in-requires c κs =
@@ -68,7 +68,7 @@ pub start-of-spec : {M : Type 1} → statement M
 start-of-spec =
     tie.close
     (tie.spec
-    digits-down-requires
+    bits-down-requires
     window-in-requires
     add-below
     sub-below

@@ -5,16 +5,16 @@ use Rattle.method_sliding_windows.proofs.table_steps.Statement.{stateme
 use Rattle.method_sliding_windows.proofs.table_steps.Tie as tie
 use Rattle.method_sliding_windows.proofs.table_steps.Reads as reads
 use Rattle.method_sliding_windows.proofs.table_steps.Lts as lts
-use Rattle.method_sliding_windows.proofs.table_size.Reads as table-size-reads
+use Rattle.method_sliding_windows.proofs.table_length.Reads as table-length-reads
 
-table-size-requires : tie.Need-table-size-requires
-table-size-requires c κs = search needs
+table-length-requires : tie.Need-table-length-requires
+table-length-requires c κs = search needs
 
 returns : tie.Need-returns
 returns c = rw (eq-eqb (c .before .args .below) 0 (c .if1 .taken))
 
 returns-2 : tie.Need-returns-2
-returns-2 c = rw (ne-eqb (c .before .before .args .below) 0 (search needs)) (c .table-size .ensures)
+returns-2 c = rw (ne-eqb (c .before .before .args .below) 0 (search needs)) (c .table-length .ensures)
 
 pub table-steps-spec : {M : Type 1} → statement M
-table-steps-spec = tie.close (tie.spec table-size-requires returns returns-2)
+table-steps-spec = tie.close (tie.spec table-length-requires returns returns-2)

@@ -7,17 +7,17 @@ use lib.ListN.{length}
 use Rattle.rules.specs.Limits.{stepBytes}
 use Rattle.integers.specs.Positional.{bytesValue, wordsValue}
 use Rattle.integers.proofs.Bits.{some-bits}
-use Rattle.methods.specs.Building.{Building}
+use Rattle.methods.specs.PartialPlan.{PartialPlan}
 use Rattle.methods.specs.SlidingWindows.{slide, slidingWindowSteps}
 use Rattle.plan_writing.specs.Writing.{Writing}
-use Rattle.method_sliding_windows.proofs.Scan.{Held, held, Sliding, sliding-room, sliding-next, sliding-end, begun, sliding-all, table-room}
+use Rattle.method_sliding_windows.proofs.Scan.{InWords, in-words, Sliding, sliding-room, sliding-next, sliding-end, begun, sliding-all, table-room}
 use borrow.Author.Needs.{needs}
 use Rattle.method_sliding_windows.proofs.write.Statement.{statement}
 use Rattle.method_sliding_windows.proofs.write.Tie as tie
 
 abbrev Inv-loop : tie.InvT-loop
 Inv-loop number width out₀ words c₀ i₀ out c i =
-    (length out ≡ length out₀) × ((lent : List ℕ) (b : Building) → Writing lent out₀ c₀ b → Sliding lent out c (wordsValue words) width i (slide (wordsValue words) width i₀ i₀ b .steps))
+    (length out ≡ length out₀) × ((lent : List ℕ) (b : PartialPlan) → Writing lent out₀ c₀ b → Sliding lent out c (wordsValue words) width i (slide (wordsValue words) width i₀ i₀ b .steps))
 
 abbrev μ-loop : tie.MeasureT-loop
 μ-loop number width out₀ words c₀ i₀ out c i = i
@@ -35,10 +35,10 @@ module _ (c : tie.After-bit-length Inv-loop μ-loop) where
   abbrev words : List ℕ
   words = c .before .before .words-of .result
 
-  number : Held (given) words (c .bit-length .result - 1)
+  number : InWords (given) words (c .bit-length .result - 1)
   number =
       let entry = c .before .before .before .before .before in
-      held (given) words (c .bit-length .result) (λ i. c .before .before .before .before .shared-slice-known .given i .fits) (entry .pre .0) (entry .pre .1 .0) (c .before .before .words-of .ensures) (c .bit-length .ensures)
+      in-words (given) words (c .bit-length .result) (λ i. c .before .before .before .before .shared-slice-known .given i .fits) (entry .pre .0) (entry .pre .1 .0) (c .before .before .words-of .ensures) (c .bit-length .ensures)
 
   wide : 1 ≤ width
   wide = c .before .before .before .before .before .pre .1 .1 .0 .0

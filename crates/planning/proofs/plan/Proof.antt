@@ -3,7 +3,7 @@ use mathlib.Core.Path.{_≡_, sym, _∙_}
 use Prim.Native.Nat.{_≤_}
 use native.Mathlib.Omega.{arith}
 use Rattle.rules.specs.Limits.{planSteps}
-use Rattle.rules.specs.declared.Verdict.the-variants.{Fine}
+use Rattle.rules.specs.declared.Verdict.the-variants.{Passed}
 use Rattle.chains.proofs.Bytes.{length-plan}
 use Rattle.methods.proofs.Counted.{total}
 use Rattle.planning.specs.Plan.{request, stepsFor}
@@ -14,7 +14,7 @@ use Rattle.planning.proofs.plan.Statement.{statement}
 use Rattle.planning.proofs.plan.Tie as tie
 
 -- once the steps are counted the request was granted, and they are few
-granted : (c : tie.After-counts) → request (c .before .before .before .before .before .before .args .number .now) (c .before .before .before .before .before .before .args .method) (c .before .before .before .before .before .before .args .width) ≡ Fine
+granted : (c : tie.After-counts) → request (c .before .before .before .before .before .before .args .number .now) (c .before .before .before .before .before .before .args .method) (c .before .before .before .before .before .before .args .width) ≡ Passed
 granted c = sym (c .before .before .before .requested .ensures) ∙ c .before .enum-told .given .1
 
 few : (c : tie.After-counts) → total (c .counts .result) ≤ planSteps

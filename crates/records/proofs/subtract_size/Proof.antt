@@ -13,7 +13,7 @@ use Rattle.records.proofs.subtract_size.Statement.{statement}
 use Rattle.records.proofs.subtract_size.Tie as tie
 use Rattle.records.proofs.subtract_size.Reads as reads
 use Rattle.records.proofs.subtract_size.Lts as lts
-use Rattle.integers.proofs.subtracted.Reads as subtracted-reads
+use Rattle.integers.proofs.subtract_with_borrow.Reads as subtract-with-borrow-reads
 
 abbrev Inv-loop : tie.InvT-loop
 Inv-loop a b words₀ borrow₀ k₀ words borrow k =
@@ -26,20 +26,20 @@ loop-holds : tie.Need-loop-holds Inv-loop μ-loop
 unfolding positional
 loop-holds c = (search needs, search needs, search needs, carried-none (replicate valueWords 0) (c .args .t2) (c .args .t1))
 
-mul-subtracted : tie.Need-mul-subtracted Inv-loop μ-loop
-mul-subtracted c = search needs
+mul-subtract-with-borrow : tie.Need-mul-subtract-with-borrow Inv-loop μ-loop
+mul-subtract-with-borrow c = search needs
 
-array-read-subtracted : tie.Need-array-read-subtracted Inv-loop μ-loop
-array-read-subtracted c = search needs
+array-read-subtract-with-borrow : tie.Need-array-read-subtract-with-borrow Inv-loop μ-loop
+array-read-subtract-with-borrow c = search needs
 
-mul-subtracted-2 : tie.Need-mul-subtracted-2 Inv-loop μ-loop
-mul-subtracted-2 c = search needs
+mul-subtract-with-borrow-2 : tie.Need-mul-subtract-with-borrow-2 Inv-loop μ-loop
+mul-subtract-with-borrow-2 c = search needs
 
-array-read-subtracted-2 : tie.Need-array-read-subtracted-2 Inv-loop μ-loop
-array-read-subtracted-2 c = search needs
+array-read-subtract-with-borrow-2 : tie.Need-array-read-subtract-with-borrow-2 Inv-loop μ-loop
+array-read-subtract-with-borrow-2 c = search needs
 
-subtracted-requires : tie.Need-subtracted-requires Inv-loop μ-loop
-subtracted-requires c κs = search needs
+subtract-with-borrow-requires : tie.Need-subtract-with-borrow-requires Inv-loop μ-loop
+subtract-with-borrow-requires c κs = search needs
 
 mul-words : tie.Need-mul-words Inv-loop μ-loop
 mul-words c = search needs
@@ -58,11 +58,11 @@ loop-again c =
     let loop = c .before .before .loop in
     let args = c .before .before .before .args in
     let k = loop .k in
-    let word = c .subtracted .result in
+    let word = c .subtract-with-borrow .result in
     let next = set (loop .words) k (word .word) in
     let same : Carried k next (args .t2) (args .t1) (loop .borrow) = rw (stored-low (loop .words) k (word .word)) (loop .inv .3) in
     let here : getD next k 0 + getD (args .t2) k 0 + boolByte (loop .borrow) ≡ getD (args .t1) k 0 + 2 ^ 64 * boolByte (word .borrow) =
-    rw (getD-set-same (loop .words) k (word .word) 0 (search needs)) (c .subtracted .ensures) in
+    rw (getD-set-same (loop .words) k (word .word) 0 (search needs)) (c .subtract-with-borrow .ensures) in
     (search needs, search needs, stored-lt (loop .words) k (word .word) (search needs) (search needs) (loop .inv .2), carried-more k next (args .t2) (args .t1) (loop .borrow) (word .borrow) same here)
 
 returns : tie.Need-returns Inv-loop μ-loop
@@ -81,11 +81,11 @@ subtract-size-spec =
     Inv-loop
     μ-loop
     loop-holds
-    mul-subtracted
-    array-read-subtracted
-    mul-subtracted-2
-    array-read-subtracted-2
-    subtracted-requires
+    mul-subtract-with-borrow
+    array-read-subtract-with-borrow
+    mul-subtract-with-borrow-2
+    array-read-subtract-with-borrow-2
+    subtract-with-borrow-requires
     mul-words
     array-write-words
     add-k

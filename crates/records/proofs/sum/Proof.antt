@@ -14,7 +14,7 @@ use Rattle.records.proofs.sum.Statement.{statement}
 use Rattle.records.proofs.sum.Tie as tie
 use Rattle.records.proofs.sum.Reads as reads
 use Rattle.records.proofs.sum.Lts as lts
-use Rattle.integers.proofs.added.Reads as added-reads
+use Rattle.integers.proofs.add_with_carry.Reads as add-with-carry-reads
 
 abbrev Inv-loop : tie.InvT-loop
 Inv-loop a b words₀ carry₀ k₀ words carry k = (k ≤ valueWords) × (length words ≡ valueWords) × Carried k a b words carry
@@ -25,20 +25,20 @@ abbrev μ-loop : tie.MeasureT-loop
 loop-holds : tie.Need-loop-holds Inv-loop μ-loop
 loop-holds c = (search needs, search needs, carried-none (c .args .t1) (c .args .t2) (replicate valueWords 0))
 
-mul-added : tie.Need-mul-added Inv-loop μ-loop
-mul-added c = search needs
+mul-add-with-carry : tie.Need-mul-add-with-carry Inv-loop μ-loop
+mul-add-with-carry c = search needs
 
-array-read-added : tie.Need-array-read-added Inv-loop μ-loop
-array-read-added c = search needs
+array-read-add-with-carry : tie.Need-array-read-add-with-carry Inv-loop μ-loop
+array-read-add-with-carry c = search needs
 
-mul-added-2 : tie.Need-mul-added-2 Inv-loop μ-loop
-mul-added-2 c = search needs
+mul-add-with-carry-2 : tie.Need-mul-add-with-carry-2 Inv-loop μ-loop
+mul-add-with-carry-2 c = search needs
 
-array-read-added-2 : tie.Need-array-read-added-2 Inv-loop μ-loop
-array-read-added-2 c = search needs
+array-read-add-with-carry-2 : tie.Need-array-read-add-with-carry-2 Inv-loop μ-loop
+array-read-add-with-carry-2 c = search needs
 
-added-requires : tie.Need-added-requires Inv-loop μ-loop
-added-requires c κs = search needs
+add-with-carry-requires : tie.Need-add-with-carry-requires Inv-loop μ-loop
+add-with-carry-requires c κs = search needs
 
 mul-words : tie.Need-mul-words Inv-loop μ-loop
 mul-words c = search needs
@@ -57,10 +57,10 @@ loop-again c =
     let loop = c .before .before .loop in
     let args = c .before .before .before .args in
     let k = loop .k in
-    let word = c .added .result in
+    let word = c .add-with-carry .result in
     let same : Carried k (args .t1) (args .t2) (set (loop .words) k (word .word)) (loop .carry) = rw (stored-low (loop .words) k (word .word)) (loop .inv .2) in
     let here : getD (args .t1) k 0 + getD (args .t2) k 0 + boolByte (loop .carry) ≡ getD (set (loop .words) k (word .word)) k 0 + 2 ^ 64 * boolByte (word .carry) =
-    rw (getD-set-same (loop .words) k (word .word) 0 (search needs)) (sym (c .added .ensures)) in
+    rw (getD-set-same (loop .words) k (word .word) 0 (search needs)) (sym (c .add-with-carry .ensures)) in
     (search needs, search needs, carried-more k (args .t1) (args .t2) (set (loop .words) k (word .word)) (loop .carry) (word .carry) same here)
 
 returns : tie.Need-returns Inv-loop μ-loop
@@ -80,11 +80,11 @@ sum-spec =
     Inv-loop
     μ-loop
     loop-holds
-    mul-added
-    array-read-added
-    mul-added-2
-    array-read-added-2
-    added-requires
+    mul-add-with-carry
+    array-read-add-with-carry
+    mul-add-with-carry-2
+    array-read-add-with-carry-2
+    add-with-carry-requires
     mul-words
     array-write-words
     add-k

@@ -4,7 +4,7 @@ use Prim.Native.Nat.{_≤_, _-_, _+_, _*_}
 use native.Mathlib.Numerals.{add-one}
 use native.Mathlib.Omega.{arith}
 use Rattle.signed_digits.specs.Naf.{rest}
-use Rattle.cleaning.specs.Internal.{heldAt, sumAt}
+use Rattle.cleaning.specs.Internal.{raisedAt, sumAt}
 use Rattle.cleaning.proofs.Places.{rest-grows, sum-small}
 use Rattle.cleaning.proofs.Count.{count-is}
 use borrow.Author.Needs.{needs}
@@ -17,8 +17,8 @@ Inv-loop digits from n i₀ low₀ high₀ i low high = (i ≤ n) × (low ≤ 4)
 abbrev μ-loop : tie.MeasureT-loop
 μ-loop digits from n i₀ low₀ high₀ i low high = n - i
 
-held-at-requires : tie.Need-held-at-requires Inv-loop μ-loop
-held-at-requires c κs = search needs
+raised-at-requires : tie.Need-raised-at-requires Inv-loop μ-loop
+raised-at-requires c κs = search needs
 
 add-high : tie.Need-add-high Inv-loop μ-loop
 add-high c = search needs
@@ -27,7 +27,7 @@ loop-holds : tie.Need-loop-holds Inv-loop μ-loop
 loop-holds c =
     let start = c .before .before in
     let b = sum-small (start .args .digits .now) (start .pre .0) (start .args .from) in
-    (search needs, search needs, search needs, omega (arith, b, c .held-at .ensures), omega (arith, b, c .held-at .ensures))
+    (search needs, search needs, search needs, omega (arith, b, c .raised-at .ensures), omega (arith, b, c .raised-at .ensures))
 
 returns : tie.Need-returns Inv-loop μ-loop
 returns c = λ h. absurd (omega arith)
@@ -35,8 +35,8 @@ returns c = λ h. absurd (omega arith)
 add-i : tie.Need-add-i Inv-loop μ-loop
 add-i c = search needs
 
-held-at-requires-2 : tie.Need-held-at-requires-2 Inv-loop μ-loop
-held-at-requires-2 c κs = search needs
+raised-at-requires-2 : tie.Need-raised-at-requires-2 Inv-loop μ-loop
+raised-at-requires-2 c κs = search needs
 
 mul-above : tie.Need-mul-above Inv-loop μ-loop
 mul-above c = search needs
@@ -61,8 +61,8 @@ unfolding sumAt
 loop-again c =
     let loop = c .before .before .before .before .before .loop in
     let s = c .before .before .before .before .before .before .before .before .args .digits .now in
-    let above = c .before .before .held-at2 in
-    let a : above .result ≡ heldAt s (loop .i + 1) = above .ensures .0 in
+    let above = c .before .before .raised-at2 in
+    let a : above .result ≡ raisedAt s (loop .i + 1) = above .ensures .0 in
     let e : sumAt s (loop .i + 1) ≡ rest 2 (sumAt s (loop .i) + 2 * above .result) = rw (a, add-one (loop .i)) in
     let low : c .before .rest-of .result ≡ rest 2 (loop .low + 2 * above .result) = c .before .rest-of .ensures .0 in
     let high : c .rest-of2 .result ≡ rest 2 (loop .high + 2 * above .result) = c .rest-of2 .ensures .0 in (
@@ -87,12 +87,12 @@ by-top-spec =
     (tie.spec
     Inv-loop
     μ-loop
-    held-at-requires
+    raised-at-requires
     add-high
     loop-holds
     returns
     add-i
-    held-at-requires-2
+    raised-at-requires-2
     mul-above
     add-rest-of
     rest-of-requires

@@ -18,8 +18,8 @@ by-top-requires c κs = search needs
 returns : tie.Need-returns
 returns c = c .before .by-top .ensures (search needs)
 
-held-at-requires : tie.Need-held-at-requires
-held-at-requires c κs = search needs
+raised-at-requires : tie.Need-raised-at-requires
+raised-at-requires c κs = search needs
 
 add-highest : tie.Need-add-highest
 add-highest c = search needs
@@ -42,7 +42,7 @@ count-spec =
     sub-by-top
     by-top-requires
     returns
-    held-at-requires
+    raised-at-requires
     add-highest
     highest-requires
     returns-2)

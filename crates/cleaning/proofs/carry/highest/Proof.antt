@@ -4,7 +4,7 @@ use Prim.Native.Nat.{_≤_, _-_, _+_, _*_}
 use native.Mathlib.Numerals.{add-one}
 use native.Mathlib.Omega.{arith}
 use Rattle.signed_digits.specs.Naf.{rest}
-use Rattle.cleaning.specs.Internal.{heldAt, sumAt, Highest}
+use Rattle.cleaning.specs.Internal.{raisedAt, sumAt, Highest}
 use Rattle.cleaning.proofs.Places.{held-small, sum-small}
 use Rattle.cleaning.proofs.Count.{highest-none, highest-more}
 use borrow.Author.Needs.{needs}
@@ -35,8 +35,8 @@ add-i c = search needs
 top-requires : tie.Need-top-requires Inv-loop μ-loop
 top-requires c κs = search needs
 
-held-at-requires : tie.Need-held-at-requires Inv-loop μ-loop
-held-at-requires c κs = search needs
+raised-at-requires : tie.Need-raised-at-requires Inv-loop μ-loop
+raised-at-requires c κs = search needs
 
 mul-rest-of : tie.Need-mul-rest-of Inv-loop μ-loop
 mul-rest-of c = search needs
@@ -56,8 +56,8 @@ loop-again c =
     let loop = c .before .before .before .before .loop in
     let args = c .before .before .before .before .before .before .args in
     let s = args .digits .now in
-    let above = c .before .held-at in
-    let a : above .result ≡ heldAt s (loop .i + 1) = above .ensures .0 in
+    let above = c .before .raised-at in
+    let a : above .result ≡ raisedAt s (loop .i + 1) = above .ensures .0 in
     let r : c .rest-of .result ≡ rest 2 (loop .sum + 2 * above .result) = c .rest-of .ensures .0 in
     let high = rw (← loop .inv .3) at (highest-more s (args .from) (loop .i) (loop .length) (loop .inv .4) (search needs)) in
     (search needs, search needs, search needs, rw (r, loop .inv .3, a, add-one (loop .i)), rw (c .before .before .top .ensures) high)
@@ -78,7 +78,7 @@ highest-spec =
     loop-holds
     add-i
     top-requires
-    held-at-requires
+    raised-at-requires
     mul-rest-of
     add-rest-of
     rest-of-requires

@@ -8,7 +8,7 @@ use lib.ListN.{length, drop, set}
 use Rattle.integers.specs.Tabulate.{tabulate}
 use Rattle.integers.proofs.Tabulate.{tabulate-more}
 use Rattle.signed_digits.specs.Naf.{rest}
-use Rattle.cleaning.specs.Internal.{heldAt, sumAt, pairAt, placeByte}
+use Rattle.cleaning.specs.Internal.{raisedAt, sumAt, pairAt, placeByte}
 use Rattle.cleaning.proofs.Places.{place-byte}
 use borrow.Author.Needs.{needs}
 use Rattle.cleaning.proofs.carry.write.Statement.{statement}
@@ -21,8 +21,8 @@ Inv-loop digits out₀ count sum₀ i₀ out sum i =
 abbrev μ-loop : tie.MeasureT-loop
 μ-loop digits out₀ count sum₀ i₀ out sum i = count - i
 
-held-at-requires : tie.Need-held-at-requires Inv-loop μ-loop
-held-at-requires c κs = search needs
+raised-at-requires : tie.Need-raised-at-requires Inv-loop μ-loop
+raised-at-requires c κs = search needs
 
 add-sum : tie.Need-add-sum Inv-loop μ-loop
 add-sum c = search needs
@@ -31,11 +31,11 @@ loop-holds : tie.Need-loop-holds Inv-loop μ-loop
 unfolding tabulate sumAt
 loop-holds c = search needs
 
-add-held-at : tie.Need-add-held-at Inv-loop μ-loop
-add-held-at c = search needs
+add-raised-at : tie.Need-add-raised-at Inv-loop μ-loop
+add-raised-at c = search needs
 
-held-at-requires-2 : tie.Need-held-at-requires-2 Inv-loop μ-loop
-held-at-requires-2 c κs = search needs
+raised-at-requires-2 : tie.Need-raised-at-requires-2 Inv-loop μ-loop
+raised-at-requires-2 c κs = search needs
 
 mul-pair : tie.Need-mul-pair Inv-loop μ-loop
 mul-pair c = search needs
@@ -73,9 +73,9 @@ loop-again c =
     let loop = c .before .before .before .loop in
     let start = c .before .before .before .before .before .before .before in
     let s = start .args .digits .now in
-    let above = c .before .held-at2 in
+    let above = c .before .raised-at2 in
     let pair : ℕ = loop .sum + 2 * above .result in
-    let a : above .result ≡ heldAt s (loop .i + 1) = above .ensures .0 in
+    let a : above .result ≡ raisedAt s (loop .i + 1) = above .ensures .0 in
     let p : pair ≡ pairAt s (loop .i) = rw (loop .inv .3, a, add-one (loop .i)) in
     let r : c .rest-of .result ≡ rest 2 pair = c .rest-of .ensures .0 in
     let n : c .rest-of .result ≡ sumAt s (loop .i + 1) = rw (r, p, add-one (loop .i)) in
@@ -98,11 +98,11 @@ write-spec =
     (tie.spec
     Inv-loop
     μ-loop
-    held-at-requires
+    raised-at-requires
     add-sum
     loop-holds
-    add-held-at
-    held-at-requires-2
+    add-raised-at
+    raised-at-requires-2
     mul-pair
     add-pair
     rest-of-requires

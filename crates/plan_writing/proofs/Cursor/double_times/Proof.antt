@@ -5,7 +5,7 @@ use Prim.Native.Nat.{ℕ, _≤_, _+_, _-_}
 use native.Mathlib.Numerals.{add-one}
 use native.Mathlib.Omega.{arith}
 use lib.ListN.{length}
-use Rattle.methods.specs.Building.{Building, doubled}
+use Rattle.methods.specs.PartialPlan.{PartialPlan, doubled}
 use Rattle.methods.proofs.Laws.{doubled-last}
 use Rattle.plan_writing.specs.Writing.{Writing}
 use borrow.Author.Needs.{needs}
@@ -13,7 +13,7 @@ use Rattle.plan_writing.proofs.Cursor.double_times.Statement.{statement
 use Rattle.plan_writing.proofs.Cursor.double_times.Tie as tie
 
 abbrev Inv-loop : tie.InvT-loop
-Inv-loop out₀ n last₀ done₀ out last done = (done ≤ n) × (length out ≡ length out₀) × (last .steps ≡ last₀ .steps + done) × ((lent : List ℕ) (b : Building) → Writing lent out₀ last₀ b → Writing lent out last (doubled done b))
+Inv-loop out₀ n last₀ done₀ out last done = (done ≤ n) × (length out ≡ length out₀) × (last .steps ≡ last₀ .steps + done) × ((lent : List ℕ) (b : PartialPlan) → Writing lent out₀ last₀ b → Writing lent out last (doubled done b))
 
 abbrev μ-loop : tie.MeasureT-loop
 μ-loop out₀ n last₀ done₀ out last done = n - done

@@ -1,6 +1,6 @@
 -- `plan_writing::Cursor::follow` meets its contract. Assumes nothing.
 use mathlib.Core.Path.{refl}
-use Rattle.plan_writing.specs.Writing.{stepOf}
+use Rattle.plan_writing.specs.Writing.{stepWith}
 use Rattle.plan_writing.proofs.Puts.{followed-writing}
 use borrow.Author.Needs.{needs}
 use Rattle.plan_writing.proofs.Cursor.follow.Statement.{statement}
@@ -24,7 +24,7 @@ same-length c = search needs
 returns : tie.Need-returns
 returns c =
     let args = c .before .before .before .before .before .args in
-    (refl, λ lent b w. followed-writing lent (args .out .now) (c .before .before .put .last .0) (args .self) b (stepOf (args .operation) (args .j) (args .k)) w (c .before .before .put .ensures))
+    (refl, λ lent b w. followed-writing lent (args .out .now) (c .before .before .put .last .0) (args .self) b (stepWith (args .operation) (args .j) (args .k)) w (c .before .before .put .ensures))
 
 pub follow-spec : {M : Type 1} → statement M
 follow-spec = tie.close (tie.spec put-requires add-t10 add-t11 same-length returns)

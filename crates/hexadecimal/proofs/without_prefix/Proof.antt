@@ -1,4 +1,4 @@
--- `hexadecimal::without_mark` meets its contract. Assumes nothing.
+-- `hexadecimal::without_prefix` meets its contract. Assumes nothing.
 use mathlib.Core.Path.{_≡_, sym, _∙_}
 use mathlib.Core.Bool.{true, false}
 use native.Mathlib.Omega.{arith}
@@ -6,10 +6,10 @@ use Prim.Native.Nat.{_-_}
 use lib.ListN.{length, getD, drop, length-drop}
 use lib.Seq.{take-all}
 use borrow.Author.Tests.{eq-eqb, ne-eqb, lt-ltb, le-ltb}
-use Rattle.hexadecimal.specs.Hex.{isMark, unmarked}
+use Rattle.hexadecimal.specs.Hex.{isPrefix, unmarked}
 use borrow.Author.Needs.{needs}
-use Rattle.hexadecimal.proofs.without_mark.Statement.{statement}
-use Rattle.hexadecimal.proofs.without_mark.Tie as tie
+use Rattle.hexadecimal.proofs.without_prefix.Statement.{statement}
+use Rattle.hexadecimal.proofs.without_prefix.Tie as tie
 
 returns : tie.Need-returns
 unfolding unmarked
@@ -22,11 +22,11 @@ returns-2 : tie.Need-returns-2
 unfolding unmarked
 returns-2 c = simp (le-ltb _ _ (c .before .before .if1 .left), ne-eqb _ _ (c .if2 .taken))
 
-shared-slice-read-is-mark : tie.Need-shared-slice-read-is-mark
-shared-slice-read-is-mark c = search needs
+shared-slice-read-is-prefix : tie.Need-shared-slice-read-is-prefix
+shared-slice-read-is-prefix c = search needs
 
-is-mark-requires : tie.Need-is-mark-requires
-is-mark-requires c κs = search needs
+is-prefix-requires : tie.Need-is-prefix-requires
+is-prefix-requires c κs = search needs
 
 sub-result : tie.Need-sub-result
 sub-result c = search needs
@@ -41,25 +41,25 @@ returns-3 : tie.Need-returns-3
 unfolding unmarked
 returns-3 c =
     let word = c .before .before .before .before .before .before .before .before .args .word .now in
-    let mark : isMark (getD (c .before .before .before .before .before .before .before .before .args .word .now) 1 0) ≡ true = sym (c .before .before .is-mark .ensures) ∙ c .before .if3 .taken in
-    simp (le-ltb _ _ (c .before .before .before .before .before .before .if1 .left), eq-eqb _ _ (c .before .before .before .before .if2 .left), mark)
+    let prefix : isPrefix (getD (c .before .before .before .before .before .before .before .before .args .word .now) 1 0) ≡ true = sym (c .before .before .is-prefix .ensures) ∙ c .before .if3 .taken in
+    simp (le-ltb _ _ (c .before .before .before .before .before .before .if1 .left), eq-eqb _ _ (c .before .before .before .before .if2 .left), prefix)
     (take-all (length word - 2) (drop 2 word) (omega (arith, length-drop 2 word)))
 
 returns-4 : tie.Need-returns-4
 unfolding unmarked
 returns-4 c =
-    let mark : isMark (getD (c .before .before .before .before .before .before .before .args .word .now) 1 0) ≡ false = sym (c .before .is-mark .ensures) ∙ c .if3 .left in
-    simp (le-ltb _ _ (c .before .before .before .before .before .if1 .left), eq-eqb _ _ (c .before .before .before .if2 .left), mark)
+    let prefix : isPrefix (getD (c .before .before .before .before .before .before .before .args .word .now) 1 0) ≡ false = sym (c .before .is-prefix .ensures) ∙ c .if3 .left in
+    simp (le-ltb _ _ (c .before .before .before .before .before .if1 .left), eq-eqb _ _ (c .before .before .before .if2 .left), prefix)
 
-pub without-mark-spec : {M : Type 1} → statement M
-without-mark-spec =
+pub without-prefix-spec : {M : Type 1} → statement M
+without-prefix-spec =
     tie.close
     (tie.spec
     returns
     shared-slice-read-if2
     returns-2
-    shared-slice-read-is-mark
-    is-mark-requires
+    shared-slice-read-is-prefix
+    is-prefix-requires
     sub-result
     part-result-start
     part-result-end

@@ -1,14 +1,14 @@
--- `integers::digits_down` meets its contract. Assumes nothing.
+-- `integers::bits_down` meets its contract. Assumes nothing.
 use mathlib.Core.Path.{_≡_}
 use Prim.Native.Nat.{_+_, _*_, _-_, _/_, _%_, _^_}
 use native.Mathlib.Nat.{mod-lt}
 use native.Mathlib.Omega.{arith}
 use lib.Pow.{pow-pos}
 use Rattle.integers.specs.Positional.{wordsValue}
-use Rattle.integers.proofs.Down.{digits-down}
+use Rattle.integers.proofs.Down.{bits-down}
 use borrow.Author.Needs.{needs}
-use Rattle.integers.proofs.digits_down.Statement.{statement}
-use Rattle.integers.proofs.digits_down.Tie as tie
+use Rattle.integers.proofs.bits_down.Statement.{statement}
+use Rattle.integers.proofs.bits_down.Tie as tie
 
 -- the sum of what the two words give
 sum : (c : tie.After-word-under) →
@@ -16,7 +16,7 @@ sum : (c : tie.After-word-under) →
     c .before .word-in .result * 2 ^ (63 - args .n % 64) % 2 ^ 64 + c .word-under .result / 2 ^ (args .n % 64) / 2 ≡ 2 ^ 64 * wordsValue (args .words .now) / 2 ^ (args .n + 1) % 2 ^ 64
 sum c =
     let args = c .before .before .before .args in
-    rw (c .before .word-in .ensures, c .word-under .ensures) (digits-down (args .words .now) (λ i. c .before .before .shared-slice-known .given i .fits) (args .n))
+    rw (c .before .word-in .ensures, c .word-under .ensures) (bits-down (args .words .now) (λ i. c .before .before .shared-slice-known .given i .fits) (args .n))
 
 word-in-requires : tie.Need-word-in-requires
 word-in-requires c κs = search needs
@@ -41,8 +41,8 @@ add-result c =
 returns : tie.Need-returns
 returns c = sum c
 
-pub digits-down-spec : {M : Type 1} → statement M
-digits-down-spec =
+pub bits-down-spec : {M : Type 1} → statement M
+bits-down-spec =
     tie.close
     (tie.spec
     word-in-requires

@@ -1,11 +1,11 @@
--- `integers::subtracted` meets its contract. Assumes nothing.
+-- `integers::subtract_with_borrow` meets its contract. Assumes nothing.
 use native.Mathlib.Omega.{arith}
 use Rattle.integers.proofs.Carry.{difference-law}
 use borrow.Author.Needs.{needs}
-use Rattle.integers.proofs.subtracted.Statement.{statement}
-use Rattle.integers.proofs.subtracted.Tie as tie
-use Rattle.integers.proofs.subtracted.Reads as reads
-use Rattle.integers.proofs.subtracted.Lts as lts
+use Rattle.integers.proofs.subtract_with_borrow.Statement.{statement}
+use Rattle.integers.proofs.subtract_with_borrow.Tie as tie
+use Rattle.integers.proofs.subtract_with_borrow.Reads as reads
+use Rattle.integers.proofs.subtract_with_borrow.Lts as lts
 use Rattle.std.proofs.num.wrapping_sub_u64.Reads as wrapping-sub-u64-reads
 
 cast-less : tie.Need-cast-less
@@ -24,6 +24,6 @@ returns c =
     let word = c .wrapping-sub-u642 in
     difference-law (args .a) (args .b) (args .borrow) (half .result) (word .result) (omega arith) (omega arith) (omega arith) (half .ensures) (word .ensures)
 
-pub subtracted-spec : {M : Type 1} → statement M
-subtracted-spec =
+pub subtract-with-borrow-spec : {M : Type 1} → statement M
+subtract-with-borrow-spec =
     tie.close (tie.spec cast-less wrapping-sub-u64-requires wrapping-sub-u64-requires-2 returns)

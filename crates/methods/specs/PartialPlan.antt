@@ -4,35 +4,35 @@ use mathlib.Core.List.{List, [], _∷_, _++_}
 use lib.ListN.{length}
 use Rattle.chains.specs.Steps.{Step, add, subtract}
 
-pub record Building : Type 0 where
+pub record PartialPlan : Type 0 where
   pub steps : List Step
   pub latest : ℕ
 
 -- no steps: position 0, which holds 1, is the latest
-abbrev pub none : Building
+abbrev pub none : PartialPlan
 none = record { steps = []; latest = 0 }
 
 -- one step more; latest is the position filled last, and step i fills position i
-unfoldable pub followed : Building → Step → Building
+unfoldable pub followed : PartialPlan → Step → PartialPlan
 followed b s = record { steps = b .steps ++ (s ∷ []); latest = length (b .steps) + 1 }
 
 -- "double" means add(latest, latest)
-abbrev pub double : Building → Building
+abbrev pub double : PartialPlan → PartialPlan
 double b = followed b (add (b .latest) (b .latest))
 
 -- add(latest, p) and subtract(latest, p)
-abbrev pub addAt : ℕ → Building → Building
+abbrev pub addAt : ℕ → PartialPlan → PartialPlan
 addAt p b = followed b (add (b .latest) p)
 
-abbrev pub subtractAt : ℕ → Building → Building
+abbrev pub subtractAt : ℕ → PartialPlan → PartialPlan
 subtractAt p b = followed b (subtract (b .latest) p)
 
 -- n times
-unfoldable pub doubled : ℕ → Building → Building
+unfoldable pub doubled : ℕ → PartialPlan → PartialPlan
 doubled zero b = b
 doubled (suc n) b = doubled n (double b)
 
 -- for i = n - 1 down to 0
-unfoldable pub downFrom : (ℕ → Building → Building) → ℕ → Building → Building
+unfoldable pub downFrom : (ℕ → PartialPlan → PartialPlan) → ℕ → PartialPlan → PartialPlan
 downFrom f zero b = b
 downFrom f (suc i) b = downFrom f i (f i b)

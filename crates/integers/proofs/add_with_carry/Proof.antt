@@ -1,11 +1,11 @@
--- `integers::added` meets its contract. Assumes nothing.
+-- `integers::add_with_carry` meets its contract. Assumes nothing.
 use native.Mathlib.Omega.{arith}
 use Rattle.integers.proofs.Carry.{sum-law}
 use borrow.Author.Needs.{needs}
-use Rattle.integers.proofs.added.Statement.{statement}
-use Rattle.integers.proofs.added.Tie as tie
-use Rattle.integers.proofs.added.Reads as reads
-use Rattle.integers.proofs.added.Lts as lts
+use Rattle.integers.proofs.add_with_carry.Statement.{statement}
+use Rattle.integers.proofs.add_with_carry.Tie as tie
+use Rattle.integers.proofs.add_with_carry.Reads as reads
+use Rattle.integers.proofs.add_with_carry.Lts as lts
 use Rattle.std.proofs.num.wrapping_add_u64.Reads as wrapping-add-u64-reads
 
 wrapping-add-u64-requires : tie.Need-wrapping-add-u64-requires
@@ -24,7 +24,7 @@ returns c =
     let word = c .wrapping-add-u642 in
     sum-law (args .a) (args .b) (args .carry) (half .result) (word .result) (omega arith) (omega arith) (half .ensures) (word .ensures)
 
-pub added-spec : {M : Type 1} → statement M
-added-spec =
+pub add-with-carry-spec : {M : Type 1} → statement M
+add-with-carry-spec =
     tie.close
     (tie.spec wrapping-add-u64-requires cast-wrapping-add-u64 wrapping-add-u64-requires-2 returns)

@@ -1,0 +1,43 @@
+-- `numbers::positive_verdict` meets its contract. Assumes nothing.
+use mathlib.Core.Path.{sym, _∙_}
+use Rattle.integers.proofs.Positional.{significant-none, significant-some}
+use Rattle.numbers.specs.Admission.{positiveVerdict, Admitted}
+use Rattle.numbers.proofs.Tests.{is-zero, positive, positive-only, admitted-is}
+use borrow.Author.Needs.{needs}
+use Rattle.numbers.proofs.positive_verdict.Statement.{statement}
+use Rattle.numbers.proofs.positive_verdict.Tie as tie
+
+number-verdict-requires : tie.Need-number-verdict-requires
+number-verdict-requires c κs = search needs
+
+enum-known-refusal : tie.Need-enum-known-refusal
+enum-known-refusal c = search needs
+
+returns : tie.Need-returns
+unfolding positiveVerdict
+returns c = rw (sym (c .before .before .before .number-verdict .ensures) ∙ c .before .refusal .given .1)
+
+enum-told : tie.Need-enum-told
+enum-told c = search needs
+
+significant-requires : tie.Need-significant-requires
+significant-requires c κs = search needs
+
+-- past refusal 1
+passed : (c : tie.After-significant) → Admitted (c .before .before .before .before .before .args .number .now)
+passed c = admitted-is _ .0 (sym (c .before .before .before .number-verdict .ensures) ∙ c .before .enum-told .given .1)
+
+returns-2 : tie.Need-returns-2
+returns-2 c =
+    let n = c .before .significant in
+    sym (positive-only _ (is-zero (passed (c .before)) (significant-none _ (n .result) (n .ensures) (c .if1 .taken))))
+
+returns-3 : tie.Need-returns-3
+returns-3 c =
+    let n = c .before .significant in
+    sym (positive-only _ (positive (record { admitted = passed (c .before); nonzero = significant-some _ (n .result) (n .ensures) (c .if1 .left) })))
+
+pub positive-verdict-spec : {M : Type 1} → statement M
+positive-verdict-spec =
+    tie.close
+    (tie.spec number-verdict-requires enum-known-refusal returns enum-told significant-requires returns-2 returns-3)

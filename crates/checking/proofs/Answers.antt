@@ -5,7 +5,7 @@ use Prim.Native.Nat.{ℕ, _+_, _/_}
 use native.Mathlib.Omega.{arith}
 use lib.ListN.{length}
 use Rattle.rules.specs.Limits.{stepBytes}
-use Rattle.rules.specs.Outcome.{unlessRefused}
+use Rattle.rules.specs.Outcome.{unlessFailed}
 use Rattle.rules.specs.declared.Refusal.{Refusal}
 use Rattle.rules.specs.declared.Counts.{Counts}
 use Rattle.rules.specs.declared.Counted.{Counted}
@@ -20,15 +20,15 @@ use Rattle.checking.specs.Check.{judged, stepsAnswer}
 use Rattle.checking.specs.WorkSpace.{Recording, EndChecked}
 use Rattle.checking.proofs.Judge.{judge-values}
 
-was-refused : (v : Verdict) (c : Counts) (x : Refusal) → Refused x ≡ unlessRefused v (Steps c) → v ≡ Failed x
+was-refused : (v : Verdict) (c : Counts) (x : Refusal) → Refused x ≡ unlessFailed Refused v (Steps c) → v ≡ Failed x
 was-refused Passed c x e = cc
 was-refused (Failed y) c x e = cc
 
-was-fine : (v : Verdict) (c d : Counts) → Steps d ≡ unlessRefused v (Steps c) → (v ≡ Passed) × (d ≡ c)
+was-fine : (v : Verdict) (c d : Counts) → Steps d ≡ unlessFailed Refused v (Steps c) → (v ≡ Passed) × (d ≡ c)
 was-fine Passed c d e = (refl, cc)
 was-fine (Failed y) c d e = (cc, cc)
 
-module _ (number plan : List ℕ) (r : Counted) (came : r ≡ unlessRefused (judged plan .verdict) (Steps (countsOf (stepsOf plan)))) where
+module _ (number plan : List ℕ) (r : Counted) (came : r ≡ unlessFailed Refused (judged plan .verdict) (Steps (countsOf (stepsOf plan)))) where
   pub stopped : (x : Refusal) → r ≡ Refused x → Refused x ≡ stepsAnswer number plan
   unfolding stepsAnswer
   stopped x e = rw (was-refused (judged plan .verdict) (countsOf (stepsOf plan)) x (sym e ∙ came))

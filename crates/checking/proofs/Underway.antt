@@ -6,7 +6,7 @@ use native.Mathlib.Numerals.{add-one}
 use native.Mathlib.Omega.{arith}
 use lib.ListN.{length, drop}
 use Rattle.rules.specs.Limits.{stepBytes}
-use Rattle.rules.specs.Outcome.{unlessRefused}
+use Rattle.rules.specs.Outcome.{unlessFailed}
 use Rattle.rules.specs.declared.Refusal.{Refusal}
 use Rattle.rules.specs.declared.Counted.{Counted}
 use Rattle.rules.specs.declared.Counted.the-variants.{Refused}
@@ -31,10 +31,10 @@ underway-none plan lent here w = record { rest = rw (after-none (stepsOf plan));
 
 -- what all steps come to, once that is known
 abbrev Comes : List ℕ → List ℕ → List ℕ → Counted → Counted → Type 0
-Comes plan lent here all r = (r ≡ unlessRefused (judged plan .verdict) all) × Recording lent here (judged plan .values)
+Comes plan lent here all r = (r ≡ unlessFailed Refused (judged plan .verdict) all) × Recording lent here (judged plan .values)
 
 comes : (plan lent here : List ℕ) (all : Counted) (j : Judged) → judge start (stepsOf plan) ≡ j → Recording lent here (j .values)
-    → Comes plan lent here all (unlessRefused (j .verdict) all)
+    → Comes plan lent here all (unlessFailed Refused (j .verdict) all)
 unfolding judged
 comes plan lent here all j e w = rw e (refl, w)
 

@@ -10,7 +10,7 @@ use Rattle.rules.specs.Limits.{numberBytes, stepBytes, planSteps, valueBound, r
 use Rattle.rules.specs.declared.Refusal.the-variants.{NumberTooLong, NumberIsZero, PlanLength, WorkSpaceTooShort, MalformedStep, ValueIsZero, ValueTooLarge, WrongEnd}
 use Rattle.rules.specs.declared.Counted.{Counted}
 use Rattle.rules.specs.declared.Counted.the-variants.{Steps, Refused}
-use Rattle.rules.specs.Outcome.{unlessRefused}
+use Rattle.rules.specs.Outcome.{unlessFailed}
 use Rattle.integers.specs.Positional.{bytesValue}
 use Rattle.chains.specs.Steps.{Step, stepsOf, subtracting}
 use Rattle.chains.specs.Values.{at, start, stepValue}
@@ -84,7 +84,7 @@ unfoldable pub stepsAnswer : List ℕ → List ℕ → Counted
 stepsAnswer number plan = ended (judged plan .verdict) (at (judged plan .values) (length (stepsOf plan))) number (stepsOf plan)
 
 abbrev pub checkAnswer : List ℕ → List ℕ → ℕ → Counted
-checkAnswer number plan room = unlessRefused (admission number (length plan) room) (stepsAnswer number plan)
+checkAnswer number plan room = unlessFailed Refused (admission number (length plan) room) (stepsAnswer number plan)
 
 -- ---- the work space: untouched at 1, 2, 7 and 8; else the records of the values by then, and the bytes past these stay
 abbrev pub spaceAfter : Verdict → List ℕ → List ℕ → List ℕ

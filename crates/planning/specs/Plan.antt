@@ -5,8 +5,8 @@ use mathlib.Core.List.{List}
 use lib.Dec.{ltb, eqb}
 use lib.ListN.{length}
 use Rattle.rules.specs.Limits.{numberBytes}
-use Rattle.rules.specs.Memory.{fitted, leaves}
-use Rattle.rules.specs.Outcome.{unlessRefused}
+use Rattle.rules.specs.Memory.{written, leaves}
+use Rattle.rules.specs.Outcome.{unlessFailed}
 use Rattle.rules.specs.declared.Refusal.the-variants.{NumberTooLong, NumberIsZero, MethodOrWidth}
 use Rattle.rules.specs.declared.Verdict.{Verdict}
 use Rattle.rules.specs.declared.Verdict.the-variants.{Passed, Failed}
@@ -33,15 +33,11 @@ stepsFor number method width = stepsBy method width (bytesValue number)
 
 -- the forecast: the counts of those steps
 abbrev pub forecastAnswer : List ℕ → ℕ → ℕ → Counted
-forecastAnswer number method width = unlessRefused (request number method width) (Steps (countsOf (stepsFor number method width)))
+forecastAnswer number method width = unlessFailed Refused (request number method width) (Steps (countsOf (stepsFor number method width)))
 
 -- how many bytes of plan are written, or why none
-abbrev pub unlessNo : Verdict → Written → Written
-unlessNo Passed written = written
-unlessNo (Failed r) written = NotWritten r
-
 abbrev pub planWritten : List ℕ → ℕ → ℕ → ℕ → Written
-planWritten number method width room = unlessNo (request number method width) (fitted (planBytesOf (stepsFor number method width)) room)
+planWritten number method width room = written (request number method width) (planBytesOf (stepsFor number method width)) room
 
 -- the plan's answer: the counts in place of the length
 abbrev pub withCounts : Counts → Written → Counted

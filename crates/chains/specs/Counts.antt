@@ -16,6 +16,10 @@ stepCounts s = cond (eqb (s .operation) adding) (cond (eqb (s .first) (s .second
 abbrev pub plus : Counts → Counts → Counts
 plus c d = counts (c .doublings + d .doublings) (c .additions + d .additions) (c .subtractions + d .subtractions)
 
+-- how many steps are counted
+abbrev pub total : Counts → ℕ
+total c = c .doublings + c .additions + c .subtractions
+
 unfoldable pub countsOf : List Step → Counts
 countsOf [] = counts 0 0 0
 countsOf (s ∷ steps) = plus (stepCounts s) (countsOf steps)

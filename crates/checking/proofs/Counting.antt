@@ -12,10 +12,10 @@ use mir.Val.{boolByte}
 use Rattle.rules.specs.Limits.{stepBytes}
 use Rattle.chains.specs.Steps.{Step, add, readStep, stepsOf}
 use Rattle.chains.specs.Sound.{stepAt}
-use Rattle.chains.specs.Counts.{counts, plus, stepCounts, countsOf}
+use Rattle.chains.specs.Counts.{counts, plus, stepCounts, countsOf, total}
 use Rattle.chains.proofs.Bytes.{length-steps, step-at, counts-append}
 use Rattle.rules.specs.declared.Counts.{Counts}
-use Rattle.checking.specs.WorkSpace.{stepsIn}
+use Rattle.checking.specs.WorkSpace.{}
 
 -- whether it is a doubling, an addition or a subtraction
 pub flags-small : (adds same : Bool) → (boolByte (adds && same) ≤ 1) × (boolByte (adds && not same) ≤ 1) × (boolByte (not adds) ≤ 1)
@@ -30,7 +30,7 @@ one-more c true true = refl
 one-more c true false = refl
 one-more c false same = refl
 
-pub one-counted : (c : Counts) (adds same : Bool) → stepsIn (plus c (cond adds (cond same (counts 1 0 0) (counts 0 1 0)) (counts 0 0 1))) ≡ stepsIn c + 1
+pub one-counted : (c : Counts) (adds same : Bool) → total (plus c (cond adds (cond same (counts 1 0 0) (counts 0 1 0)) (counts 0 0 1))) ≡ total c + 1
 one-counted c true true = omega arith
 one-counted c true false = omega arith
 one-counted c false same = omega arith

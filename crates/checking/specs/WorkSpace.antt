@@ -23,10 +23,6 @@ use Rattle.checking.specs.Check.{stepVerdict, isSame}
 abbrev pub asStep : StepFields → Step
 asStep s = record { operation = s .operation; first = s .first; second = s .second }
 
--- how many steps are counted
-abbrev pub stepsIn : Counts → ℕ
-stepsIn c = c .doublings + c .additions + c .subtractions
-
 -- the records of these values from the start of a work space; bytes past these records stay
 abbrev pub recorded : List ℤ → List ℕ → List ℕ
 recorded values space = recordsOf values ++ drop (recordBytes * length values) space

@@ -24,16 +24,16 @@ ghost use Prim.Native.Nat.{ℕ, _+_, _*_, _^_, _<_, _≤_};
 ghost use lib.IntN.{pos};
 ghost use lib.ListN.{length, take, drop};
 ghost use Rattle.rules.specs.Limits.{numberBytes, stepBytes, recordBytes};
-ghost use Rattle.rules.specs.Outcome.{unlessRefused};
-ghost use Rattle.rules.specs.declared.Counted.the-variants.{Steps};
+ghost use Rattle.rules.specs.Outcome.{unlessFailed};
+ghost use Rattle.rules.specs.declared.Counted.the-variants.{Steps, Refused};
 ghost use Rattle.rules.specs.declared.Verdict.the-variants.{Passed};
 ghost use Rattle.integers.specs.Positional.{bytesValue};
 ghost use Rattle.records.specs.Value.{integerOf};
 ghost use Rattle.chains.specs.Steps.{readStep, stepsOf};
 ghost use Rattle.chains.specs.Values.{start};
-ghost use Rattle.chains.specs.Counts.{stepCounts, plus, countsOf};
+ghost use Rattle.chains.specs.Counts.{stepCounts, plus, countsOf, total};
 ghost use Rattle.checking.specs.Check.{roomFor, admission, judged, isSame, stepsAnswer, checkAnswer, checkSpace};
-ghost use Rattle.checking.specs.WorkSpace.{asStep, stepsIn, Recording, StepChecked, EndChecked};
+ghost use Rattle.checking.specs.WorkSpace.{asStep, Recording, StepChecked, EndChecked};
 
 // The tests before the steps: refusals 1, 2, 7 and 8.
 pub fn admit(number: &[u8], plan_length: usize, room: usize) -> Verdict
@@ -118,8 +118,8 @@ pub fn check_step(step: Step, space: &mut [u8], n: usize) -> Verdict
 
 // One step more in the counts.
 pub fn count_step(counts: Counts, step: Step) -> Counts
-    requires { ⌜ stepsIn counts + 1 < 2 ^ 64 ⌝ }
-    ensures { λ r. ⌜ (r ≡ plus counts (stepCounts (asStep step))) × (stepsIn r ≡ stepsIn counts + 1) ⌝ }
+    requires { ⌜ total counts + 1 < 2 ^ 64 ⌝ }
+    ensures { λ r. ⌜ (r ≡ plus counts (stepCounts (asStep step))) × (total r ≡ total counts + 1) ⌝ }
 {
     let adds = step.operation == 0;
     let same = step.first == step.second;
@@ -143,7 +143,7 @@ pub fn begin(space: &mut [u8])
 // All steps in turn, until one is refused; their counts.
 fn check_steps(plan: &[u8], space: &mut [u8]) -> Counted
     requires { ⌜ roomFor (length (now plan)) ≤ length (now space) ⌝ }
-    ensures { λ r. ⌜ ((lent : List ℕ) → Recording lent (now (space .entry)) start → (r ≡ unlessRefused (judged (now (plan .entry)) .verdict) (Steps (countsOf (stepsOf (now (plan .entry)))))) × Recording lent (now (space .exit)) (judged (now (plan .entry)) .values)) ⌝ }
+    ensures { λ r. ⌜ ((lent : List ℕ) → Recording lent (now (space .entry)) start → (r ≡ unlessFailed Refused (judged (now (plan .entry)) .verdict) (Steps (countsOf (stepsOf (now (plan .entry)))))) × Recording lent (now (space .exit)) (judged (now (plan .entry)) .values)) ⌝ }
 {
     let steps = plan.len() / STEP_BYTES;
     let mut counts = Counts {

@@ -17,12 +17,12 @@ use Rattle.integers.specs.Bits.{bit, bitLength}
 use Rattle.integers.proofs.Bits.{quotient-none, bit-length-iff, bytes-length}
 use Rattle.rules.specs.declared.Counts.{Counts}
 use Rattle.chains.specs.Steps.{Step, planBytesOf}
-use Rattle.chains.specs.Counts.{counts, countsOf}
+use Rattle.chains.specs.Counts.{counts, countsOf, total}
 use Rattle.chains.proofs.Bytes.{length-plan}
 use Rattle.methods.specs.PartialPlan.{PartialPlan, none, double, doubled, addAt}
 use Rattle.methods.specs.SlidingWindows.{oddTable, oddPosition, tableLength, longest, windowValue, slide, scanFrom, slidingWindowSteps}
 use Rattle.methods.specs.Forecast.{tableCounts, laterWindows, scanCounts, slidingWindowCounts}
-use Rattle.methods.proofs.Counted.{total, length-counted}
+use Rattle.methods.proofs.Counted.{length-counted}
 use Rattle.methods.proofs.Laws.{length-followed, length-doubled}
 use Rattle.methods.proofs.SlidingWindows.{Entry, scan-fuel, slide-grows, belowWindow, top, longest-window, window-entry, first-window, first-value, whole-entry, entry-whole, entry-or-scan, no-subtractions, length-table, sliding-short, sliding-counts}
 use Rattle.plan_writing.specs.declared.Cursor.{Cursor}

@@ -11,7 +11,7 @@ use lib.Dec.{eqb}
 use lib.ListN.{length}
 use Rattle.rules.specs.declared.Counts.{Counts}
 use Rattle.chains.specs.Steps.{Step, adding, add, subtract}
-use Rattle.chains.specs.Counts.{counts, stepCounts, plus, countsOf}
+use Rattle.chains.specs.Counts.{counts, stepCounts, plus, countsOf, total}
 use Rattle.chains.proofs.Bytes.{counts-append}
 use Rattle.signed_digits.proofs.Parts.{cond-cases}
 use Rattle.methods.specs.PartialPlan.{PartialPlan, followed, double, addAt, subtractAt, doubled}
@@ -54,10 +54,6 @@ not-before b s p h e = omega (arith, latest-followed b s, length-followed b s)
 
 pub not-before-doubled : (n : ℕ) (b : PartialPlan) (p : ℕ) → 1 ≤ n → p ≤ length (b .steps) → doubled n b .latest ≢ p
 not-before-doubled n b p some h e = omega (arith, latest-doubled n b some, length-doubled n b)
-
--- how many steps are counted
-abbrev pub total : Counts → ℕ
-total c = c .doublings + c .additions + c .subtractions
 
 step-once : (s : Step) → total (stepCounts s) ≡ 1
 unfolding stepCounts

@@ -12,13 +12,13 @@ use lib.ListN.{length, length-append}
 use lib.Pow.{pow-pos, shr-shr, shr-mod, split}
 use Rattle.signed_digits.proofs.Parts.{cond-cases}
 use Rattle.chains.specs.Steps.{Step, add}
-use Rattle.chains.specs.Counts.{counts, countsOf}
+use Rattle.chains.specs.Counts.{counts, countsOf, total}
 use Rattle.methods.specs.PartialPlan.{PartialPlan, none, followed, addAt, doubled, downFrom}
 use Rattle.integers.specs.Bits.{bitLength}
 use Rattle.methods.specs.FixedWindows.{multiples, window, topWindow, atFixedWindow, windowSteps, fixedWindowSteps}
 use Rattle.methods.specs.Forecast.{tableCounts, nonzeroWindows}
 use Rattle.integers.proofs.Bits.{bit-length-iff, above-top, quotient-le, quotient-none}
-use Rattle.methods.proofs.Counted.{countsIn, counts-double, counts-add, counts-doubled, counts-cond, not-before-doubled, total, length-counted}
+use Rattle.methods.proofs.Counted.{countsIn, counts-double, counts-add, counts-doubled, counts-cond, not-before-doubled, length-counted}
 use Rattle.methods.proofs.Laws.{value-kept, Small, small-below, Holds, Stands, Made, none-holds, one-stands, stands-followed, stands-doubled, latest-followed, length-followed, length-doubled, latest-doubled, add-holds, doubled-holds, down-from, made}
 
 -- ---- the multiples

@@ -13,14 +13,14 @@ use Rattle.rules.specs.declared.Refusal.the-variants.{NumberTooLong, NumberIsZe
 use Rattle.rules.specs.declared.Verdict.the-variants.{Passed, Failed}
 use Rattle.integers.specs.Positional.{bytesValue}
 use Rattle.integers.proofs.Positional.{Below}
-use Rattle.chains.specs.Counts.{countsOf}
+use Rattle.chains.specs.Counts.{countsOf, total}
 use Rattle.methods.specs.Binary.{binarySteps}
 use Rattle.methods.specs.FixedWindows.{fixedWindowSteps}
 use Rattle.methods.specs.SlidingWindows.{slidingWindowSteps}
 use Rattle.methods.specs.NonAdjacentForm.{nafSteps}
 use Rattle.methods.specs.Method.{isAllowed, stepsBy}
 use Rattle.methods.proofs.Every.{Allowed, binary, fixed, sliding, naf, allowed, every-fit}
-use Rattle.methods.proofs.Counted.{total, length-counted}
+use Rattle.methods.proofs.Counted.{length-counted}
 use Rattle.planning.specs.Plan.{request, stepsFor}
 
 -- none of 1, 2 and 3 holds

@@ -10,9 +10,9 @@ use Rattle.rules.specs.declared.Counts.{Counts}
 use Rattle.rules.specs.declared.Counted.the-variants.{Steps, Refused}
 use Rattle.rules.proofs.Fitted.{too-small, fits}
 use Rattle.chains.specs.Steps.{planBytesOf}
-use Rattle.chains.specs.Counts.{countsOf}
+use Rattle.chains.specs.Counts.{countsOf, total}
 use Rattle.chains.proofs.Bytes.{length-plan}
-use Rattle.methods.proofs.Counted.{total, length-counted}
+use Rattle.methods.proofs.Counted.{length-counted}
 use Rattle.planning.specs.Plan.{request, stepsFor, planAnswer, planBuffer}
 
 module _ (number : List ℕ) (method width : ℕ) (out : List ℕ) (h : request number method width ≡ Passed) (c : Counts) (counted : c ≡ countsOf (stepsFor number method width)) where

@@ -9,9 +9,9 @@ use Rattle.rules.specs.Limits.{stepBytes}
 use Rattle.rules.specs.declared.Counted.the-variants.{Steps}
 use Rattle.chains.specs.Steps.{stepsOf}
 use Rattle.chains.specs.Values.{start}
-use Rattle.chains.specs.Counts.{countsOf}
+use Rattle.chains.specs.Counts.{countsOf, total}
 use Rattle.chains.proofs.Bytes.{length-steps}
-use Rattle.checking.specs.WorkSpace.{asStep, stepsIn, Recording}
+use Rattle.checking.specs.WorkSpace.{asStep, Recording}
 use Rattle.checking.proofs.Counting.{counts-more}
 use Rattle.checking.proofs.Underway.{Underway, underway-none, underway-next, underway-stop, underway-end}
 use borrow.Author.Needs.{needs}
@@ -25,7 +25,7 @@ use Rattle.checking.proofs.read_step.Reads as read-step-reads
 
 abbrev Inv-loop : tie.InvT-loop
 Inv-loop plan space₀ steps counts₀ n₀ space counts n =
-    (n ≤ length plan / stepBytes) × (length space ≡ length space₀) × (stepsIn counts ≡ n) × (counts ≡ countsOf (take n (stepsOf plan)))
+    (n ≤ length plan / stepBytes) × (length space ≡ length space₀) × (total counts ≡ n) × (counts ≡ countsOf (take n (stepsOf plan)))
     × ((lent : List ℕ) → Recording lent space₀ start → Underway plan lent space n)
 
 abbrev μ-loop : tie.MeasureT-loop

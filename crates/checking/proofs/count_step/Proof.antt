@@ -2,8 +2,8 @@
 use mathlib.Core.Path.{ap, _∙_}
 use native.Mathlib.Omega.{arith}
 use lib.Dec.{eqb}
-use Rattle.chains.specs.Counts.{stepCounts}
-use Rattle.checking.specs.WorkSpace.{stepsIn}
+use Rattle.chains.specs.Counts.{stepCounts, total}
+use Rattle.checking.specs.WorkSpace.{}
 use Rattle.checking.proofs.Counting.{flags-small, one-more, one-counted}
 use borrow.Author.Needs.{needs}
 use Rattle.checking.proofs.count_step.Statement.{statement}
@@ -45,7 +45,7 @@ returns c =
     let adds = eqb (args .step .operation) 0 in
     let same = eqb (args .step .first) (args .step .second) in
     let e = one-more (args .counts) adds same in
-    (e, ap stepsIn e ∙ one-counted (args .counts) adds same)
+    (e, ap total e ∙ one-counted (args .counts) adds same)
 
 pub count-step-spec : {M : Type 1} → statement M
 count-step-spec = tie.close (tie.spec cast-t8 add-t9 cast-t10 add-t11 cast-t12 add-t13 returns)

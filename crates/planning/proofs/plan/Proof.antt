@@ -5,7 +5,7 @@ use native.Mathlib.Omega.{arith}
 use Rattle.rules.specs.Limits.{planSteps}
 use Rattle.rules.specs.declared.Verdict.the-variants.{Passed}
 use Rattle.chains.proofs.Bytes.{length-plan}
-use Rattle.methods.proofs.Counted.{total}
+use Rattle.chains.specs.Counts.{total}
 use Rattle.planning.specs.Plan.{request, stepsFor}
 use Rattle.planning.proofs.Granted.{counted-few}
 use Rattle.planning.proofs.Outcomes.{needed, no-room, done}

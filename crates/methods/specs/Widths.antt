@@ -1,0 +1,10 @@
+-- The widths that methods allow, by name. src/lib.rt has the same for the code; the contracts show that the two agree.
+use Prim.Native.Nat.{ℕ}
+
+-- a fixed window has from 1 to so many bits
+abbrev pub fixedWindowBits : ℕ
+fixedWindowBits = 6
+
+-- and so a sliding one
+abbrev pub slidingWindowBits : ℕ
+slidingWindowBits = 6

@@ -1,15 +1,14 @@
 // Every call of document 01 for C and Rust: byte slices and numbers in, structs of numbers out. A
 // slice is passed as a pointer and a length. include/lesmutka.h says what each call takes and
 // leaves.
-mod answers;
-mod kept;
-
-use answers::Length;
-use answers::Limits;
-use answers::Started;
-use answers::Steps;
-use answers::Value;
-use kept::KEPT_WORDS;
+use c_answers::Length;
+use c_answers::Limits;
+use c_answers::Started;
+use c_answers::Steps;
+use c_answers::Value;
+use c_answers::kept::KEPT_WORDS;
+use c_answers::kept::kept_of;
+use c_answers::kept::recoder_of;
 use taking::Recoder;
 use taking::Take;
 ghost use mathlib.Core.Path.{_≡_};
@@ -21,8 +20,8 @@ ghost use Rattle.cleaning.specs.Clean.{cleanAnswer, cleanBuffer};
 ghost use Rattle.reading.specs.ReadBack.{readBackAnswer, readBackBuffer};
 ghost use Rattle.planning.specs.Plan.{forecastAnswer, planAnswer, planBuffer};
 ghost use Rattle.checking.specs.Check.{checkAnswer, checkSpace};
-ghost use Rattle.lesmutka.specs.Answers.{startedFields, writtenFields, readFields, countedFields, limitFields};
-ghost use Rattle.lesmutka.specs.Kept.{keptNumber, IsKeptTake};
+ghost use Rattle.c_answers.specs.Answers.{startedFields, writtenFields, readFields, countedFields, limitFields};
+ghost use Rattle.c_answers.specs.Kept.{keptNumber, IsKeptTake};
 
 // Writes the canonical string of a number.
 #[no_mangle]
@@ -30,7 +29,7 @@ pub extern "C" fn lesmutka_recode(number: &[u8], out: &mut [u8]) -> Length
     ensures answer { λ r. ⌜ r ≡ writtenFields (recodeAnswer (now (number .entry)) (length (now (out .entry)))) ⌝ }
     ensures buffer { λ r. ⌜ now (out .exit) ≡ recodeBuffer (now (number .entry)) (now (out .entry)) ⌝ }
 {
-    answers::of_written(recoding::recode(number, out))
+    c_answers::of_written(recoding::recode(number, out))
 }
 
 // What a take answers where no digit is left: a number above all bytes.
@@ -43,9 +42,9 @@ pub extern "C" fn lesmutka_start(number: &[u8], recoder: &mut [u64; KEPT_WORDS])
     ensures recoder { λ r. ⌜ keptNumber (now (recoder .exit)) ≡ startNumber (now (number .entry)) ⌝ }
 {
     let started = Recoder::start(number);
-    *recoder = kept::kept_of(started.recoder);
+    *recoder = kept_of(started.recoder);
     let answer = started.answer;
-    answers::of_start(answer)
+    c_answers::of_start(answer)
 }
 
 // Takes the lowest digit that is left.
@@ -53,11 +52,11 @@ pub extern "C" fn lesmutka_start(number: &[u8], recoder: &mut [u64; KEPT_WORDS])
 pub extern "C" fn lesmutka_take(recoder: &mut [u64; KEPT_WORDS]) -> u32
     ensures { λ r. ⌜ IsKeptTake (now (recoder .entry)) (now (recoder .exit)) r ⌝ }
 {
-    let taken = kept::recoder_of(*recoder).take();
+    let taken = recoder_of(*recoder).take();
     let answer = taken.answer;
     match answer {
         Take::Digit(digit) => {
-            *recoder = kept::kept_of(taken.next);
+            *recoder = kept_of(taken.next);
             digit as u32
         }
         Take::Done => DONE,
@@ -70,7 +69,7 @@ pub extern "C" fn lesmutka_clean(digits: &[u8], out: &mut [u8]) -> Length
     ensures answer { λ r. ⌜ r ≡ writtenFields (cleanAnswer (now (digits .entry)) (length (now (out .entry)))) ⌝ }
     ensures buffer { λ r. ⌜ now (out .exit) ≡ cleanBuffer (now (digits .entry)) (now (out .entry)) ⌝ }
 {
-    answers::of_written(cleaning::clean(digits, out))
+    c_answers::of_written(cleaning::clean(digits, out))
 }
 
 // Writes the size of a digit string's value.
@@ -79,7 +78,7 @@ pub extern "C" fn lesmutka_read_back(digits: &[u8], out: &mut [u8]) -> Value
     ensures answer { λ r. ⌜ r ≡ readFields (readBackAnswer (now (digits .entry)) (length (now (out .entry)))) ⌝ }
     ensures buffer { λ r. ⌜ now (out .exit) ≡ readBackBuffer (now (digits .entry)) (now (out .entry)) ⌝ }
 {
-    answers::of_read_back(reading::read_back(digits, out))
+    c_answers::of_read_back(reading::read_back(digits, out))
 }
 
 // Writes the plan for a number by a method.
@@ -88,7 +87,7 @@ pub extern "C" fn lesmutka_plan(number: &[u8], method: u32, width: u32, out: &mu
     ensures answer { λ r. ⌜ r ≡ countedFields (planAnswer (now (number .entry)) method width (length (now (out .entry)))) ⌝ }
     ensures buffer { λ r. ⌜ now (out .exit) ≡ planBuffer (now (number .entry)) method width (now (out .entry)) ⌝ }
 {
-    answers::of_counted(planning::plan(number, method, width, out))
+    c_answers::of_counted(planning::plan(number, method, width, out))
 }
 
 // The counts of that plan's steps.
@@ -96,7 +95,7 @@ pub extern "C" fn lesmutka_plan(number: &[u8], method: u32, width: u32, out: &mu
 pub extern "C" fn lesmutka_forecast(number: &[u8], method: u32, width: u32) -> Steps
     ensures { λ r. ⌜ r ≡ countedFields (forecastAnswer (now (number .entry)) method width) ⌝ }
 {
-    answers::of_counted(planning::forecast(number, method, width))
+    c_answers::of_counted(planning::forecast(number, method, width))
 }
 
 // Checks a plan for a number, in a lent work space.
@@ -105,7 +104,7 @@ pub extern "C" fn lesmutka_check(number: &[u8], plan: &[u8], space: &mut [u8]) -
     ensures answer { λ r. ⌜ r ≡ countedFields (checkAnswer (now (number .entry)) (now (plan .entry)) (length (now (space .entry)))) ⌝ }
     ensures space { λ r. ⌜ now (space .exit) ≡ checkSpace (now (number .entry)) (now (plan .entry)) (now (space .entry)) ⌝ }
 {
-    answers::of_counted(checking::check(number, plan, space))
+    c_answers::of_counted(checking::check(number, plan, space))
 }
 
 // The limits that the library keeps: those of document 01.
@@ -113,5 +112,5 @@ pub extern "C" fn lesmutka_check(number: &[u8], plan: &[u8], space: &mut [u8]) -
 pub extern "C" fn lesmutka_limits() -> Limits
     ensures { λ r. ⌜ r ≡ limitFields documented ⌝ }
 {
-    answers::of_limits(rules::current())
+    c_answers::of_limits(rules::current())
 }

@@ -1,13 +1,13 @@
 -- `lesmutka::lesmutka_check` meets its contract. Assumes nothing.
 use mathlib.Core.Path.{ap, _∙_}
-use Rattle.lesmutka.specs.Answers.{countedFields}
+use Rattle.c_answers.specs.Answers.{countedFields}
 use borrow.Author.Needs.{needs}
 use Rattle.lesmutka.proofs.lesmutka_check.Statement.{statement}
 use Rattle.lesmutka.proofs.lesmutka_check.Tie as tie
 use Rattle.lesmutka.proofs.lesmutka_check.Reads as reads
 use Rattle.lesmutka.proofs.lesmutka_check.Lts as lts
 use Rattle.checking.proofs.check.Reads as check-reads
-use Rattle.lesmutka.proofs.answers.of_counted.Reads as of-counted-reads
+use Rattle.c_answers.proofs.of_counted.Reads as of-counted-reads
 
 check-requires : tie.Need-check-requires
 check-requires c κs = search needs

@@ -1,12 +1,12 @@
 -- `lesmutka::lesmutka_forecast` meets its contract. Assumes nothing.
 use mathlib.Core.Path.{ap, _∙_}
-use Rattle.lesmutka.specs.Answers.{countedFields}
+use Rattle.c_answers.specs.Answers.{countedFields}
 use borrow.Author.Needs.{needs}
 use Rattle.lesmutka.proofs.lesmutka_forecast.Statement.{statement}
 use Rattle.lesmutka.proofs.lesmutka_forecast.Tie as tie
 use Rattle.lesmutka.proofs.lesmutka_forecast.Reads as reads
 use Rattle.lesmutka.proofs.lesmutka_forecast.Lts as lts
-use Rattle.lesmutka.proofs.answers.of_counted.Reads as of-counted-reads
+use Rattle.c_answers.proofs.of_counted.Reads as of-counted-reads
 use Rattle.planning.proofs.forecast.Reads as forecast-reads
 
 forecast-requires : tie.Need-forecast-requires

@@ -1,12 +1,12 @@
 -- `lesmutka::lesmutka_plan` meets its contract. Assumes nothing.
 use mathlib.Core.Path.{ap, _∙_}
-use Rattle.lesmutka.specs.Answers.{countedFields}
+use Rattle.c_answers.specs.Answers.{countedFields}
 use borrow.Author.Needs.{needs}
 use Rattle.lesmutka.proofs.lesmutka_plan.Statement.{statement}
 use Rattle.lesmutka.proofs.lesmutka_plan.Tie as tie
 use Rattle.lesmutka.proofs.lesmutka_plan.Reads as reads
 use Rattle.lesmutka.proofs.lesmutka_plan.Lts as lts
-use Rattle.lesmutka.proofs.answers.of_counted.Reads as of-counted-reads
+use Rattle.c_answers.proofs.of_counted.Reads as of-counted-reads
 use Rattle.planning.proofs.plan.Reads as plan-reads
 
 plan-requires : tie.Need-plan-requires

@@ -1,11 +1,13 @@
 // The answers as C takes them: structs of numbers. A refusal is its number and place, and all else
 // is 0; where a call is not refused, both are 0.
+pub mod kept;
+
 use reading::ReadBack;
 use rules::Counted;
 use rules::Written;
 use taking::Start;
 ghost use mathlib.Core.Path.{_≡_};
-ghost use Rattle.lesmutka.specs.Answers.{startedFields, writtenFields, readFields, countedFields, limitFields};
+ghost use Rattle.c_answers.specs.Answers.{startedFields, writtenFields, readFields, countedFields, limitFields};
 
 // What the start of taking answers.
 #[repr(C)]

@@ -12,7 +12,7 @@ use mir.Val.{boolByte}
 use Rattle.rules.specs.Limits.{numberWords}
 use Rattle.integers.specs.Positional.{wordsValue}
 use Rattle.taking.specs.Take.{carried}
-use Rattle.lesmutka.specs.Kept.{carriedBy, keptNumber}
+use Rattle.c_answers.specs.Kept.{carriedBy, keptNumber}
 
 -- one word more
 pub copied-more : (from to : List ℕ) (k : ℕ) → k < length from → k < length to → take k to ≡ take k from →

@@ -12,7 +12,7 @@ use Rattle.signed_digits.proofs.Steps.{naf-zero}
 use Rattle.recoding.specs.Recode.{recoding}
 use Rattle.taking.specs.Take.{startNumber, digitOrDone}
 use Rattle.taking.proofs.Takes.{digits-of, digits-after}
-use Rattle.lesmutka.specs.Kept.{keptNumber, takenNumber, doneNumber, IsKeptTake}
+use Rattle.c_answers.specs.Kept.{keptNumber, takenNumber, doneNumber, IsKeptTake}
 
 -- the k-th answer by the canonical digits of a number
 abbrev digitAt : ℕ → ℕ → ℕ

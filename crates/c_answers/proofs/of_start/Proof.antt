@@ -1,9 +1,9 @@
--- `lesmutka::answers::of_start` meets its contract. Assumes nothing.
+-- `c_answers::of_start` meets its contract. Assumes nothing.
 use borrow.Author.Needs.{needs}
-use Rattle.lesmutka.proofs.answers.of_start.Statement.{statement}
-use Rattle.lesmutka.proofs.answers.of_start.Tie as tie
-use Rattle.lesmutka.proofs.answers.of_start.Reads as reads
-use Rattle.lesmutka.proofs.answers.of_start.Lts as lts
+use Rattle.c_answers.proofs.of_start.Statement.{statement}
+use Rattle.c_answers.proofs.of_start.Tie as tie
+use Rattle.c_answers.proofs.of_start.Reads as reads
+use Rattle.c_answers.proofs.of_start.Lts as lts
 use Rattle.rules.proofs.Refusal.number.Reads as number-reads
 use Rattle.rules.proofs.Refusal.place.Reads as place-reads
 

@@ -1,9 +1,9 @@
--- `lesmutka::answers::of_written` meets its contract. Assumes nothing.
+-- `c_answers::of_written` meets its contract. Assumes nothing.
 use borrow.Author.Needs.{needs}
-use Rattle.lesmutka.proofs.answers.of_written.Statement.{statement}
-use Rattle.lesmutka.proofs.answers.of_written.Tie as tie
-use Rattle.lesmutka.proofs.answers.of_written.Reads as reads
-use Rattle.lesmutka.proofs.answers.of_written.Lts as lts
+use Rattle.c_answers.proofs.of_written.Statement.{statement}
+use Rattle.c_answers.proofs.of_written.Tie as tie
+use Rattle.c_answers.proofs.of_written.Reads as reads
+use Rattle.c_answers.proofs.of_written.Lts as lts
 use Rattle.rules.proofs.Refusal.number.Reads as number-reads
 use Rattle.rules.proofs.Refusal.place.Reads as place-reads
 

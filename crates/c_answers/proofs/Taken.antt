@@ -8,18 +8,11 @@ use Rattle.taking.specs.declared.Take.{Take}
 use Rattle.taking.specs.declared.Take.the-variants.{Digit, Done}
 use Rattle.taking.specs.declared.Taken.{Taken}
 use Rattle.taking.specs.Take.{standsFor, takeAnswer, takeLeaves, IsTake}
-use Rattle.lesmutka.specs.Kept.{keptNumber, takenNumber, IsKeptTake}
-
--- tells done from a digit
-abbrev told : Take → ℕ
-told (Digit d) = 0
-told Done = 1
+use Rattle.c_answers.specs.Kept.{keptNumber, takenNumber, IsKeptTake}
 
 none-left : (n : ℕ) → takeAnswer n ≡ Done → n ≡ 0
 none-left zero e = refl
-none-left (suc n) e =
-    let f : _≡_ {A = ℕ} 0 1 = ap told e in
-    omega (arith, f)
+none-left (suc n) e = let z : _≡_ {A = ℕ} 0 1 = cc in absurd (omega arith)
 
 -- the answer goes by the number that the words stand for
 answers : (before : List ℕ) (r : Recoder) (t : Taken) (a : Take) → standsFor r ≡ keptNumber before → IsTake r t → t .answer ≡ a → takeAnswer (keptNumber before) ≡ a
@@ -33,8 +26,9 @@ taken-digit before after r t d e k h n =
       answer = sym (ap takenNumber a);
       next = n ∙ k .next ∙ ap takeLeaves e;
       done = λ z.
-          let f : _≡_ {A = ℕ} 1 0 = ap told (sym (ap takeAnswer z) ∙ a) in
-          absurd (omega (arith, f));
+          let d : takeAnswer 0 ≡ Digit d = sym (ap takeAnswer z) ∙ a in
+          let y : _≡_ {A = ℕ} 0 1 = cc in
+          absurd (omega arith);
     }
 
 pub taken-done : (words : List ℕ) (r : Recoder) (t : Taken) → standsFor r ≡ keptNumber words → IsTake r t → t .answer ≡ Done → IsKeptTake words words (takenNumber Done)

@@ -5,7 +5,7 @@ ghost use mathlib.Core.Path.{_≡_};
 ghost use lib.ListN.{take};
 ghost use Rattle.rules.specs.Limits.{numberWords};
 ghost use Rattle.taking.specs.Take.{standsFor};
-ghost use Rattle.lesmutka.specs.Kept.{keptNumber};
+ghost use Rattle.c_answers.specs.Kept.{keptNumber};
 
 pub const KEPT_WORDS: usize = NUMBER_WORDS + 1;
 

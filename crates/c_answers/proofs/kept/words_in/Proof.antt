@@ -1,16 +1,16 @@
--- `lesmutka::kept::words_in` meets its contract: after k turns the first k words stand. Assumes nothing.
+-- `c_answers::kept::words_in` meets its contract: after k turns the first k words stand. Assumes nothing.
 use mathlib.Core.Path.{_≡_, sym, _∙_}
 use Prim.Native.Nat.{_-_, _≤_}
 use native.Mathlib.Omega.{arith}
 use lib.ListN.{length, take}
 use lib.Seq.{take-all}
 use Rattle.rules.specs.Limits.{numberWords}
-use Rattle.lesmutka.proofs.Copied.{copied-more}
+use Rattle.c_answers.proofs.Copied.{copied-more}
 use borrow.Author.Needs.{needs}
-use Rattle.lesmutka.proofs.kept.words_in.Statement.{statement}
-use Rattle.lesmutka.proofs.kept.words_in.Tie as tie
-use Rattle.lesmutka.proofs.kept.words_in.Reads as reads
-use Rattle.lesmutka.proofs.kept.words_in.Lts as lts
+use Rattle.c_answers.proofs.kept.words_in.Statement.{statement}
+use Rattle.c_answers.proofs.kept.words_in.Tie as tie
+use Rattle.c_answers.proofs.kept.words_in.Reads as reads
+use Rattle.c_answers.proofs.kept.words_in.Lts as lts
 
 abbrev Inv-loop : tie.InvT-loop
 Inv-loop kept words₀ k₀ words k = (k ≤ numberWords) × (length words ≡ numberWords) × (take k words ≡ take k kept)

@@ -10,11 +10,11 @@ use Rattle.reading.specs.declared.ReadBack.the-variants.{Value as Reads, Refuse
 use Rattle.taking.specs.declared.Start.{Start}
 use Rattle.taking.specs.declared.Start.the-variants.{Ready, Refused as NotStarted}
 use Rattle.rules.specs.declared.Limits.{Limits as Documented}
-use Rattle.lesmutka.specs.declared.answers.Limits.{Limits}
-use Rattle.lesmutka.specs.declared.answers.Started.{Started}
-use Rattle.lesmutka.specs.declared.answers.Length.{Length}
-use Rattle.lesmutka.specs.declared.answers.Value.{Value}
-use Rattle.lesmutka.specs.declared.answers.Steps.{Steps}
+use Rattle.c_answers.specs.declared.Limits.{Limits}
+use Rattle.c_answers.specs.declared.Started.{Started}
+use Rattle.c_answers.specs.declared.Length.{Length}
+use Rattle.c_answers.specs.declared.Value.{Value}
+use Rattle.c_answers.specs.declared.Steps.{Steps}
 
 abbrev pub startedFields : Start → Started
 startedFields Ready = record { refusal = 0; place = 0 }

@@ -1,18 +1,18 @@
--- `lesmutka::kept::recoder_of` meets its contract. Assumes nothing.
+-- `c_answers::kept::recoder_of` meets its contract. Assumes nothing.
 use mathlib.Core.Path.{ap}
 use Prim.Native.Nat.{ℕ, _+_}
 use lib.ListN.{take, getD}
 use Rattle.rules.specs.Limits.{numberWords}
 use Rattle.integers.specs.Positional.{wordsValue}
 use Rattle.taking.specs.Take.{standsFor}
-use Rattle.lesmutka.specs.Kept.{keptNumber}
-use Rattle.lesmutka.proofs.Copied.{carried-from}
+use Rattle.c_answers.specs.Kept.{keptNumber}
+use Rattle.c_answers.proofs.Copied.{carried-from}
 use borrow.Author.Needs.{needs}
-use Rattle.lesmutka.proofs.kept.recoder_of.Statement.{statement}
-use Rattle.lesmutka.proofs.kept.recoder_of.Tie as tie
-use Rattle.lesmutka.proofs.kept.recoder_of.Reads as reads
-use Rattle.lesmutka.proofs.kept.recoder_of.Lts as lts
-use Rattle.lesmutka.proofs.kept.words_in.Reads as words-in-reads
+use Rattle.c_answers.proofs.kept.recoder_of.Statement.{statement}
+use Rattle.c_answers.proofs.kept.recoder_of.Tie as tie
+use Rattle.c_answers.proofs.kept.recoder_of.Reads as reads
+use Rattle.c_answers.proofs.kept.recoder_of.Lts as lts
+use Rattle.c_answers.proofs.kept.words_in.Reads as words-in-reads
 
 words-in-requires : tie.Need-words-in-requires
 words-in-requires c κs = search needs

@@ -14,7 +14,7 @@ use lib.Dec.{eqb, ltb}
 use Rattle.integers.specs.Positional.{positional, bytesValue}
 use Rattle.integers.specs.Tabulate.{tabulate}
 use Rattle.integers.proofs.Positional.{positional-append}
-use Rattle.integers.proofs.Tabulate.{length-tabulate, tabulate-same}
+use Rattle.integers.proofs.Tabulate.{length-tabulate, tabulate-same, positional-tabulate}
 use Rattle.hexadecimal.specs.Hex.{digitValue, placeValue, byteAt, hexValue, isHex, byteCount, parsed, parsedBuffer}
 use Rattle.hexadecimal.specs.declared.Parsed.{Parsed}
 use Rattle.hexadecimal.specs.declared.Parsed.the-variants.{Bytes, NotHex}
@@ -24,17 +24,8 @@ abbrev bytesIn : Parsed → ℕ
 bytesIn (Bytes n) = n
 bytesIn NotHex = 0
 
-abbrev isNumber : Parsed → ℕ
-isNumber (Bytes n) = 1
-isNumber NotHex = 0
-
 no-number : {A : Type 0} {n : ℕ} → NotHex ≡ Bytes n → A
-no-number e = let z : _≡_ {A = ℕ} 0 1 = ap isNumber e in absurd (omega (arith, z))
-
--- one place more
-place-more : (b : ℕ) (f : ℕ → ℕ) (n : ℕ) → positional b (tabulate f (suc n)) ≡ positional b (tabulate f n) + b ^ n * f n
-unfolding positional tabulate
-place-more b f n = rw (positional-append b (tabulate f n) (f n ∷ []), length-tabulate f n, mul-zero, add-zero)
+no-number e = let z : _≡_ {A = ℕ} 0 1 = cc in absurd (omega arith)
 
 -- two digits to a byte
 bytes-are-digits : (text : List ℕ) (n : ℕ) → (positional 256 (tabulate (byteAt text) n) ≡ positional 16 (tabulate (placeValue text) (2 * n))) × (256 ^ n ≡ 16 ^ (2 * n))
@@ -47,7 +38,7 @@ bytes-are-digits text (suc n) =
     let two : 2 * suc n ≡ suc (suc (2 * n)) = omega arith in
     let odd : 2 * n + 1 ≡ suc (2 * n) = omega arith in
     let more : P * (d (2 * n) + 16 * d (suc (2 * n))) ≡ P * d (2 * n) + P * 16 * d (suc (2 * n)) = rw (mul-add, mul-assoc) in (
-      rw (place-more 256 (byteAt text) n, two, place-more 16 d (suc (2 * n)), place-more 16 d (2 * n), pow-suc, odd, ih .0, ih .1) (omega (arith, more)),
+      rw (positional-tabulate 256 (byteAt text) n, two, positional-tabulate 16 d (suc (2 * n)), positional-tabulate 16 d (2 * n), pow-suc, odd, ih .0, ih .1) (omega (arith, more)),
       rw (two, pow-suc, pow-suc, pow-suc, ih .1) (omega arith),
     )
 
@@ -72,14 +63,14 @@ digits-have-value : (text : List ℕ) → positional 16 (tabulate (placeValue te
 unfolding positional tabulate hexValue
 digits-have-value [] = refl
 digits-have-value (c ∷ text) =
-    rw (place-more 16 (placeValue (c ∷ text)) (length text), tabulate-same (placeValue (c ∷ text)) (placeValue text) (length text) (digit-behind c text), digits-have-value text, first-digit c text)
+    rw (positional-tabulate 16 (placeValue (c ∷ text)) (length text), tabulate-same (placeValue (c ∷ text)) (placeValue text) (length text) (digit-behind c text), digits-have-value text, first-digit c text)
     (omega (arith, mul-comm (16 ^ length text) (digitValue c % 16)))
 
 -- zeros above the first digit change nothing
 digits-above : (text : List ℕ) (m : ℕ) → positional 16 (tabulate (placeValue text) (length text + m)) ≡ hexValue text
 digits-above text zero = rw add-zero (digits-have-value text)
 digits-above text (suc m) =
-    rw (add-suc, place-more 16 (placeValue text) (length text + m), above text (length text + m) (omega arith), mul-zero, add-zero) (digits-above text m)
+    rw (add-suc, positional-tabulate 16 (placeValue text) (length text + m), above text (length text + m) (omega arith), mul-zero, add-zero) (digits-above text m)
 
 has-value : (text : List ℕ) (n : ℕ) → length text ≤ 2 * n → bytesValue (tabulate (byteAt text) n) ≡ hexValue text
 has-value text n h =

@@ -3,7 +3,7 @@ use mathlib.Core.Path.{_≡_, refl, sym, ap, _∙_}
 use mathlib.Core.Logic.{_↔_}
 use mathlib.Core.List.{List}
 use Prim.Native.Nat.{ℕ, zero, suc, _+_, _*_, _-_, _/_, _%_, _^_, _<_, _≤_}
-use native.Mathlib.Nat.{pow-zero, pow-suc, mul-zero, mul-suc, mul-comm, div-lt-iff-lt-mul, div-le-self}
+use native.Mathlib.Nat.{pow-suc, mul-comm, div-lt-iff-lt-mul, div-le-self}
 use native.Mathlib.Numerals.{add-one}
 use native.Mathlib.Omega.{arith}
 use lib.Count.{leadingZeros, leading-length}
@@ -11,6 +11,7 @@ use lib.ListN.{length, getD, drop}
 use lib.Pow.{pow-pos, pow-add, shr-shr, split, field, mod-mod-pow}
 use Rattle.integers.specs.Bits.{bit, lengthUpTo, bitLength}
 use Rattle.integers.specs.Positional.{positional, bytesValue, Significant}
+use Rattle.integers.proofs.Powers.{power-of-power}
 use Rattle.integers.proofs.Positional.{Below, positional-drop, positional-lt, positional-div, positional-at}
 
 length-up-to : (f n k : ℕ) → n ≤ f → (lengthUpTo f n ≤ k → n < 2 ^ k) × (n < 2 ^ k → lengthUpTo f n ≤ k)
@@ -89,10 +90,7 @@ places-down e i l = sym (rw (shr-shr e i l) at (split (e / 2 ^ i) l))
 -- ---- bytes
 
 pub power-of-bytes : (k : ℕ) → 256 ^ k ≡ 2 ^ (8 * k)
-power-of-bytes zero = refl
-power-of-bytes (suc k) =
-    let e : 8 * suc k ≡ 8 * k + 8 = omega arith in
-    rw (e, pow-add, pow-suc 256 k, power-of-bytes k)
+power-of-bytes k = power-of-power 2 8 k
 
 -- bits below place 8 depend on the low byte alone
 pub low-bits : (x y j : ℕ) → x % 256 ≡ y % 256 → j < 8 → x / 2 ^ j % 2 ≡ y / 2 ^ j % 2
@@ -124,10 +122,6 @@ length-from v k (suc m) h l p =
 
 -- ---- elements of a power of two
 
-power-of-power : (b q : ℕ) → (2 ^ b) ^ q ≡ 2 ^ (b * q)
-power-of-power b zero = rw (pow-zero, mul-zero)
-power-of-power b (suc q) = rw (pow-suc (2 ^ b) q, power-of-power b q, mul-suc, pow-add)
-
 -- a bit stands in its element, at any base 2 ^ b
 pub bit-of-element : (b : ℕ) (l : List ℕ) (q r : ℕ) → r < b → Below (2 ^ b) l → getD l q 0 / 2 ^ r % 2 ≡ bit (positional (2 ^ b) l) (b * q + r)
 unfolding bit
@@ -135,7 +129,7 @@ bit-of-element b l q r h below =
     let v : ℕ = positional (2 ^ b) l in
     let y : ℕ = v / 2 ^ (b * q) in
     let s : v / 2 ^ (b * q + r) ≡ y / 2 ^ r = sym (shr-shr v (b * q) r) in
-    let e : getD l q 0 ≡ y % 2 ^ b = positional-at (2 ^ b) l q below ∙ ap (λ (p : ℕ). v / p % 2 ^ b) (power-of-power b q) in
+    let e : getD l q 0 ≡ y % 2 ^ b = positional-at (2 ^ b) l q below ∙ ap (λ (p : ℕ). v / p % 2 ^ b) (power-of-power 2 b q) in
     let c : b ≡ (b - 1 - r + 1) + r = omega arith in
     rw (s, e) (ap (λ (n : ℕ). y % 2 ^ n / 2 ^ r % 2) c ∙ ap (λ (n : ℕ). n % 2) (field y (b - 1 - r + 1) r) ∙ mod-mod-pow (y / 2 ^ r) (b - 1 - r) 1)
 

@@ -2,18 +2,13 @@
 use mathlib.Core.Path.{_≡_, refl, sym, ap, _∙_}
 use mathlib.Core.List.{List, _∷_}
 use Prim.Native.Nat.{ℕ, zero, suc, _+_, _*_, _-_, _/_, _%_, _^_, _<_}
-use native.Mathlib.Nat.{pow-suc, mul-add, mul-assoc, mul-comm, mul-mod-left, add-zero, add-mul-div-left, add-mul-mod-self-left}
+use native.Mathlib.Nat.{mul-add, mul-assoc, mul-comm, mul-mod-left, add-zero, add-mul-div-left, add-mul-mod-self-left}
 use native.Mathlib.Omega.{arith}
 use lib.ListN.{getD, drop}
 use lib.Pow.{pow-pos, pow-add, shr-lt, shl-shr, shr-shr, high, low, mod-pow-add}
 use Rattle.integers.specs.Positional.{positional, wordsValue}
+use Rattle.integers.proofs.Powers.{power-of-power}
 use Rattle.integers.proofs.Positional.{Below, positional-drop, positional-div}
-
-power-of-words : (k : ℕ) → (2 ^ 64) ^ k ≡ 2 ^ (64 * k)
-power-of-words zero = refl
-power-of-words (suc k) =
-    let e : 64 * suc k ≡ 64 * k + 64 = omega arith in
-    rw (e, pow-add, pow-suc, power-of-words k)
 
 -- the low j digits of w above k others
 joined : (a w rest j k n : ℕ) → n ≡ j + k → a < 2 ^ k → (a + 2 ^ k * (w + 2 ^ n * rest)) % 2 ^ n ≡ w * 2 ^ k % 2 ^ n + a
@@ -47,7 +42,7 @@ module _ (l : List ℕ) (b : Below (2 ^ 64) l) where
       let p : 2 ^ 64 ≡ 2 ^ j * 2 ^ i = ap (λ (x : ℕ). 2 ^ x) sum ∙ pow-add 2 j i in
       let whole : wordsValue (0 ∷ l) ≡ v = omega arith in
       let q : v / 2 ^ (64 * k) ≡ under + 2 ^ 64 * up =
-      ap (λ (x : ℕ). v / x) (sym (power-of-words k)) ∙ ap (λ (x : ℕ). x / (2 ^ 64) ^ k) (sym whole) ∙ sym (positional-div (2 ^ 64) (0 ∷ l) k below-lifted) ∙ positional-drop (2 ^ 64) (0 ∷ l) k in
+      ap (λ (x : ℕ). v / x) (sym (power-of-power 2 64 k)) ∙ ap (λ (x : ℕ). x / (2 ^ 64) ^ k) (sym whole) ∙ sym (positional-div (2 ^ 64) (0 ∷ l) k below-lifted) ∙ positional-drop (2 ^ 64) (0 ∷ l) k in
       let place : n + 1 ≡ 64 * k + j = omega arith in
       let m : 2 ^ 64 * up ≡ 2 ^ j * (2 ^ i * up) = ap (λ (x : ℕ). x * up) p ∙ mul-assoc (2 ^ j) (2 ^ i) up in
       let s : v / 2 ^ (n + 1) ≡ under / 2 ^ j + 2 ^ i * up =

@@ -1,5 +1,6 @@
 pub mod Positional
 pub mod LowBytes
+pub mod Powers
 pub mod Bits
 pub mod Tabulate
 pub mod Blocks

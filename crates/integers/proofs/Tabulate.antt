@@ -1,14 +1,16 @@
 -- Laws of a table that a loop fills, one store a turn. Assumes nothing.
 use mathlib.Core.Path.{_≡_, refl, sym, _∙_}
 use mathlib.Core.List.{List, [], _∷_, _++_, append-assoc, append-nil}
-use Prim.Native.Nat.{ℕ, zero, suc, _+_, _<_, _≤_}
+use Prim.Native.Nat.{ℕ, zero, suc, _+_, _*_, _^_, _<_, _≤_}
 use native.Mathlib.Decide.{decLt}
-use native.Mathlib.Nat.{add-zero, add-suc}
+use native.Mathlib.Nat.{add-zero, add-suc, mul-zero}
 use native.Mathlib.Numerals.{add-one}
 use native.Mathlib.Omega.{arith}
 use lib.ListN.{length, getD, set, take, drop, length-append, List·getD-append}
 use lib.Seq.{set-at, take-at, drop-at, getD-at, drop-cons, drop-drop, ext-getD}
+use Rattle.integers.specs.Positional.{positional}
 use Rattle.integers.specs.Tabulate.{tabulate}
+use Rattle.integers.proofs.Positional.{positional-append}
 use Rattle.integers.proofs.Blocks.{place-one}
 
 pub length-tabulate : (f : ℕ → ℕ) (n : ℕ) → length (tabulate f n) ≡ n
@@ -60,3 +62,8 @@ getD-tabulate f (suc n) i h = go (decLt i n) (λ l. getD-tabulate f n i l)
 pub tabulate-of : (f : ℕ → ℕ) (l : List ℕ) → ((i : ℕ) → i < length l → getD l i 0 ≡ f i) → l ≡ tabulate f (length l)
 tabulate-of f l h =
     ext-getD 0 l (tabulate f (length l)) (sym (length-tabulate f (length l))) (λ i p. h i p ∙ sym (getD-tabulate f (length l) i p))
+
+-- the value of one entry more
+pub positional-tabulate : (b : ℕ) (f : ℕ → ℕ) (n : ℕ) → positional b (tabulate f (suc n)) ≡ positional b (tabulate f n) + b ^ n * f n
+unfolding positional tabulate
+positional-tabulate b f n = rw (positional-append b (tabulate f n) (f n ∷ []), length-tabulate f n, mul-zero, add-zero)

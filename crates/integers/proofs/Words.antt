@@ -13,9 +13,10 @@ use lib.Pow.{pow-add}
 use lib.Seq.{getD-drop, getD-take, drop-length, drop-drop, length-take-le, take-take, take-all, take-nil, drop-nil, getD-set-same, take-set-le}
 use Rattle.integers.specs.Positional.{positional, bytesValue, wordsValue, lowBytes}
 use Rattle.integers.specs.Tabulate.{tabulate}
+use Rattle.integers.proofs.Powers.{power-of-power}
 use Rattle.integers.proofs.Positional.{Below, below-take, below-drop, positional-drop, positional-take, positional-lt, positional-split, positional-append, positional-div}
 use Rattle.integers.proofs.LowBytes.{low-add, low-above}
-use Rattle.integers.proofs.Tabulate.{length-tabulate}
+use Rattle.integers.proofs.Tabulate.{positional-tabulate, length-tabulate}
 
 -- the count bytes from `from` on
 abbrev pub part : ℕ → ℕ → List ℕ → List ℕ
@@ -50,12 +51,6 @@ module _ (l : List ℕ) (from count : ℕ) (few : count ≤ 8) (fits : from + co
 abbrev pub wordAt : List ℕ → ℕ → ℕ
 wordAt l k = bytesValue (take 8 (drop (8 * k) l))
 
-word-power : (n : ℕ) → (2 ^ 64) ^ n ≡ 256 ^ (8 * n)
-word-power zero = refl
-word-power (suc n) =
-    let e : 8 * suc n ≡ 8 * n + 8 = omega arith in
-    rw (e, pow-add, pow-suc, word-power n)
-
 drop-take : (n m : ℕ) (l : List ℕ) → drop n (take (n + m) l) ≡ take m (drop n l)
 drop-take zero m l = rw zero-add
 drop-take (suc n) m [] = rw (take-nil, drop-nil, take-nil)
@@ -66,11 +61,10 @@ unfolding tabulate positional
 words-value l zero = refl
 words-value l (suc n) =
     let e : 8 * suc n ≡ 8 * n + 8 = omega arith in
-    let top : wordsValue (tabulate (wordAt l) n ++ (wordAt l n ∷ [])) ≡ wordsValue (tabulate (wordAt l) n) + (2 ^ 64) ^ n * wordAt l n =
-    positional-append (2 ^ 64) (tabulate (wordAt l) n) (wordAt l n ∷ []) ∙ rw (length-tabulate (wordAt l) n, add-zero) in
+    let top : wordsValue (tabulate (wordAt l) (suc n)) ≡ wordsValue (tabulate (wordAt l) n) + (2 ^ 64) ^ n * wordAt l n = positional-tabulate (2 ^ 64) (wordAt l) n in
     let low : bytesValue (take (8 * n + 8) l) ≡ bytesValue (take (8 * n) l) + 256 ^ (8 * n) * wordAt l n =
     rw (positional-split 256 (8 * n) (take (8 * n + 8) l), take-take (8 * n) (8 * n + 8) l (omega arith), drop-take (8 * n) 8 l) in
-    rw e (top ∙ ap (λ (v : ℕ). v + (2 ^ 64) ^ n * wordAt l n) (words-value l n) ∙ ap (λ (p : ℕ). bytesValue (take (8 * n) l) + p * wordAt l n) (word-power n) ∙ sym low)
+    rw e (top ∙ ap (λ (v : ℕ). v + (2 ^ 64) ^ n * wordAt l n) (words-value l n) ∙ ap (λ (p : ℕ). bytesValue (take (8 * n) l) + p * wordAt l n) (power-of-power 256 8 n) ∙ sym low)
 
 -- the word at k, and the bytes above it
 pub words-from : (l : List ℕ) (k : ℕ) → bytesValue (drop (8 * k) l) ≡ bytesValue (drop (8 * (k + 1)) l) * 2 ^ 64 + wordAt l k
@@ -96,7 +90,7 @@ words-low words k n h b =
     let above : ℕ = wordsValue (drop (suc k) words) in
     let e : 256 ^ 8 ≡ 256 ^ n * 256 ^ (8 - n) = let f : 8 ≡ n + (8 - n) = omega arith in ap (λ (i : ℕ). 256 ^ i) f ∙ pow-add 256 n (8 - n) in
     let q : wordsValue words / 256 ^ (8 * k) ≡ getD words k 0 + 256 ^ n * (256 ^ (8 - n) * above) =
-    rw (← word-power k, ← positional-div (2 ^ 64) words k b, positional-drop (2 ^ 64) words k, ← mul-assoc (256 ^ n) (256 ^ (8 - n)) above, ← e) in
+    rw (← power-of-power 256 8 k, ← positional-div (2 ^ 64) words k b, positional-drop (2 ^ 64) words k, ← mul-assoc (256 ^ n) (256 ^ (8 - n)) above, ← e) in
     rw (low-add (8 * k) n (wordsValue words), q, low-above n (getD words k 0) (256 ^ (8 - n) * above))
 
 -- ---- whether words hold nothing

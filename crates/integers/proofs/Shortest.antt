@@ -8,12 +8,14 @@ use native.Mathlib.Numerals.{sub-one}
 use native.Mathlib.Omega.{arith}
 use lib.ListN.{length, getD, take}
 use lib.Seq.{length-take-le, getD-take}
+use Rattle.lists.specs.Top.{TopOtherThan}
+use Rattle.lists.proofs.Top.{top-cons}
 use Rattle.integers.specs.Positional.{positional, bytesValue, bytesUpTo, bytesOf, Significant}
 use Rattle.integers.proofs.Positional.{Below, below-take, positional-split, positional-nonzero}
 
 -- the highest element is not 0; the empty list has none
 abbrev pub TopByte : List ℕ → Type 0
-TopByte l = 0 < length l → getD l (length l - 1) 0 ≢ 0
+TopByte l = TopOtherThan 0 l
 
 -- n bytes are enough for n, and more change nothing
 enough : (f g n : ℕ) → n ≤ f → n ≤ g → bytesUpTo f n ≡ bytesUpTo g n
@@ -59,22 +61,11 @@ bytes-below = by-bytes (λ n. Below 256 (bytesOf n)) (λ i. rw bytes-zero (omega
     cons n b zero = omega arith
     cons n b (suc i) = b i
 
--- the highest byte: a 0 has more bytes above it
-top-cons : (x : ℕ) (l : List ℕ) → TopByte (x ∷ l) ↔ ((x ≡ 0 → 0 < length l) × TopByte l)
-top-cons x [] = (
-  λ top. (λ e. absurd (top (omega arith) e), λ l. absurd (omega arith)),
-  λ r l e. omega (arith, r .0 e),
-)
-top-cons x (_ ∷ l) = (
-  λ top. (λ e. omega arith, λ h. simp sub-one (simp sub-one at (top (omega arith)))),
-  λ r h. simp sub-one (simp sub-one at (r .1 (omega arith))),
-)
-
 pub bytes-top : (n : ℕ) → TopByte (bytesOf n)
 unfolding positional
 bytes-top =
     by-bytes (λ n. TopByte (bytesOf n)) (rw bytes-zero (λ h. absurd (omega arith)))
-    (λ n h t. rw (bytes-step n h) (top-cons (n % 256) (bytesOf (n / 256)) .1 (λ z. above n h z (bytesOf (n / 256)) (bytes-value (n / 256)), t)))
+    (λ n h t. rw (bytes-step n h) (top-cons 0 (n % 256) (bytesOf (n / 256)) .1 (λ z. above n h z (bytesOf (n / 256)) (bytes-value (n / 256)), t)))
   where
     above : (n : ℕ) → 0 < n → n % 256 ≡ 0 → (l : List ℕ) → bytesValue l ≡ n / 256 → 0 < length l
     above n h z [] v = absurd (omega arith)
@@ -85,7 +76,7 @@ pub bytes-only : (l : List ℕ) → Below 256 l → TopByte l → l ≡ bytesOf 
 unfolding positional
 bytes-only [] b t = sym bytes-zero
 bytes-only (x ∷ l) b t =
-    let rest = bytes-only l (λ i. b (suc i)) (top-cons x l .0 t .1) in
+    let rest = bytes-only l (λ i. b (suc i)) (top-cons 0 x l .0 t .1) in
     let some : bytesValue (x ∷ l) ≢ 0 = positional-nonzero 256 (x ∷ l) (length (x ∷ l) - 1) (omega arith) (t (omega arith)) in
     let low : (x + 256 * bytesValue l) % 256 ≡ x = omega (arith, b 0) in
     let high : (x + 256 * bytesValue l) / 256 ≡ bytesValue l = omega (arith, b 0) in

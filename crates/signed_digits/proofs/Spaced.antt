@@ -7,6 +7,7 @@ use native.Mathlib.Omega.{arith}
 use native.Mathlib.Numerals.{sub-one}
 use lib.ListN.{length}
 use lib.IntN.{ℤ, pos, natAbs, ℤ-discrete}
+use Rattle.lists.proofs.Top.{top-cons}
 use Rattle.signed_digits.specs.Strings.{digitAt}
 use Rattle.signed_digits.specs.Form.{OddDigit, TopNonzero, NonAdjacent}
 
@@ -16,24 +17,13 @@ pub data Spaced (w : ℕ) : ℕ → List ℤ → Type 0 where
   blank : {g : ℕ} {d : ℤ} {ds : List ℤ} → d ≡ pos 0 → 0 < length ds → Spaced w (g - 1) ds → Spaced w g (d ∷ ds)
   digit : {g : ℕ} {d : ℤ} {ds : List ℤ} → g ≡ 0 → OddDigit w d → Spaced w (w - 1) ds → Spaced w g (d ∷ ds)
 
--- the top digit alone: a 0 has more digits above it
-top-cons : (d : ℤ) (ds : List ℤ) → TopNonzero (d ∷ ds) ↔ ((d ≡ pos 0 → 0 < length ds) × TopNonzero ds)
-top-cons d [] = (
-  λ top. (λ e. absurd (top (omega arith) e), λ l. absurd (omega arith)),
-  λ r l e. omega (arith, r .0 e),
-)
-top-cons d (_ ∷ ds) = (
-  λ top. (λ e. omega arith, λ l. simp sub-one (simp sub-one at (top (omega arith)))),
-  λ r l. simp sub-one (simp sub-one at (r .1 (omega arith))),
-)
-
 -- ---- from the places
 tail-form : (w : ℕ) (d : ℤ) (ds : List ℤ) → NonAdjacent w (d ∷ ds) → NonAdjacent w ds
 tail-form w d ds form =
     record {
       digit = λ i. form .digit (suc i);
       apart = λ i j l h k. omega (arith, form .apart (suc i) (suc j) (omega arith) h k);
-      top = top-cons d ds .0 (form .top) .1;
+      top = top-cons (pos 0) d ds .0 (form .top) .1;
     }
 
 -- the first g places are 0
@@ -45,7 +35,7 @@ from-places w g [] form clear = empty
 from-places w g (d ∷ ds) form clear = go (ℤ-discrete d (pos 0)) (λ g. from-places w g ds (tail-form w d ds form))
   where
     go : Dec (d ≡ pos 0) → ((g : ℕ) → Clear g ds → Spaced w g ds) → Spaced w g (d ∷ ds)
-    go (yes e) tail = blank e (top-cons d ds .0 (form .top) .0 e) (tail (g - 1) (λ i h. omega (arith, clear (suc i) h)))
+    go (yes e) tail = blank e (top-cons (pos 0) d ds .0 (form .top) .0 e) (tail (g - 1) (λ i h. omega (arith, clear (suc i) h)))
     go (no n) tail =
         digit {g = g} (omega (arith, clear 0 n)) (form .digit 0 n) (tail (w - 1) (λ i h. omega (arith, form .apart 0 (suc i) (omega arith) n h)))
 
@@ -72,8 +62,8 @@ places-apart (digit e o s) (suc i) (suc j) l h k = omega (arith, places-apart s 
 
 top-nonzero : {w g : ℕ} {ds : List ℤ} → Spaced w g ds → TopNonzero ds
 top-nonzero empty = λ l. absurd (omega arith)
-top-nonzero (blank {d = d} {ds = ds} e l s) = top-cons d ds .1 (λ _. l, top-nonzero s)
-top-nonzero (digit {d = d} {ds = ds} e o s) = top-cons d ds .1 (λ z. absurd (omega (arith, ap natAbs z)), top-nonzero s)
+top-nonzero (blank {d = d} {ds = ds} e l s) = top-cons (pos 0) d ds .1 (λ _. l, top-nonzero s)
+top-nonzero (digit {d = d} {ds = ds} e o s) = top-cons (pos 0) d ds .1 (λ z. absurd (omega (arith, ap natAbs z)), top-nonzero s)
 
 pub form-of-spaced : (w : ℕ) (ds : List ℤ) → Spaced w 0 ds → NonAdjacent w ds
 form-of-spaced w ds s = record { digit = λ i h. digit-place s i h .1; apart = places-apart s; top = top-nonzero s }

@@ -5,6 +5,7 @@ use mathlib.Core.List.{List}
 use Prim.Native.Nat.{ℕ, _+_, _-_, _<_, _≤_, _^_, _%_}
 use lib.ListN.{length}
 use lib.IntN.{ℤ, pos, natAbs}
+use Rattle.lists.specs.Top.{TopOtherThan}
 use Rattle.signed_digits.specs.Strings.{digitAt}
 
 -- a nonzero digit of width w: odd, of size below 2 ^ (w - 1)
@@ -14,7 +15,7 @@ pub record OddDigit (w : ℕ) (d : ℤ) : Type 0 where
 
 -- the most significant digit is not 0; the empty string has none
 abbrev pub TopNonzero : List ℤ → Type 0
-TopNonzero ds = 0 < length ds → digitAt ds (length ds - 1) ≢ pos 0
+TopNonzero ds = TopOtherThan (pos 0) ds
 
 -- each nonzero digit is odd and small, any two stand at least w places apart, and the top digit is not 0
 pub record NonAdjacent (w : ℕ) (ds : List ℤ) : Type 0 where

@@ -10,4 +10,3 @@ pub mod Places
 pub mod Steps
 pub mod Length
 pub mod Triple
-pub mod Examples

@@ -13,7 +13,6 @@ use mathlib.Core.Bool.{Bool, true, false, cond}
 use lib.Dec.{eqb, ltb}
 use Rattle.integers.specs.Positional.{positional, bytesValue}
 use Rattle.integers.specs.Tabulate.{tabulate}
-use Rattle.integers.proofs.Positional.{positional-append}
 use Rattle.integers.proofs.Tabulate.{length-tabulate, tabulate-same, positional-tabulate}
 use Rattle.hexadecimal.specs.Hex.{digitValue, placeValue, byteAt, hexValue, isHex, byteCount, parsed, parsedBuffer}
 use Rattle.hexadecimal.specs.declared.Parsed.{Parsed}

@@ -1,5 +1,5 @@
 -- The 64 bits from a place down, out of the two words that hold them. Assumes nothing.
-use mathlib.Core.Path.{_≡_, refl, sym, ap, _∙_}
+use mathlib.Core.Path.{_≡_, sym, ap, _∙_}
 use mathlib.Core.List.{List, _∷_}
 use Prim.Native.Nat.{ℕ, zero, suc, _+_, _*_, _-_, _/_, _%_, _^_, _<_}
 use native.Mathlib.Nat.{mul-add, mul-assoc, mul-comm, mul-mod-left, add-zero, add-mul-div-left, add-mul-mod-self-left}

@@ -14,9 +14,9 @@ use lib.Seq.{getD-drop, getD-take, drop-length, drop-drop, length-take-le, take-
 use Rattle.integers.specs.Positional.{positional, bytesValue, wordsValue, lowBytes}
 use Rattle.integers.specs.Tabulate.{tabulate}
 use Rattle.integers.proofs.Powers.{power-of-power}
-use Rattle.integers.proofs.Positional.{Below, below-take, below-drop, positional-drop, positional-take, positional-lt, positional-split, positional-append, positional-div}
+use Rattle.integers.proofs.Positional.{Below, below-take, below-drop, positional-drop, positional-take, positional-lt, positional-split, positional-div}
 use Rattle.integers.proofs.LowBytes.{low-add, low-above}
-use Rattle.integers.proofs.Tabulate.{positional-tabulate, length-tabulate}
+use Rattle.integers.proofs.Tabulate.{positional-tabulate}
 
 -- the count bytes from `from` on
 abbrev pub part : ℕ → ℕ → List ℕ → List ℕ

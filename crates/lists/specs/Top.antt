@@ -1,7 +1,7 @@
 -- The last element of a list, which is the most significant one of bytes and digits.
 use mathlib.Core.Logic.{_≢_}
 use mathlib.Core.List.{List}
-use Prim.Native.Nat.{ℕ, _-_, _<_}
+use Prim.Native.Nat.{_-_, _<_}
 use lib.ListN.{length, getD}
 
 -- it is not this one; the empty list has none

@@ -9,7 +9,7 @@ use Rattle.rules.specs.declared.Refusal.{Refusal}
 use Rattle.rules.specs.declared.Verdict.{Verdict}
 use Rattle.rules.specs.declared.Verdict.the-variants.{Passed, Failed}
 use Rattle.rules.specs.Outcome.{Outcome, refused, answered, refusal, outcomeOf}
-use Rattle.rules.specs.Memory.{fitted, written, leaves}
+use Rattle.rules.specs.Memory.{written, leaves}
 use Rattle.rules.proofs.Fitted.{too-small, fits}
 
 module _ (values : ℕ → List ℕ) (tests : Verdict) (bytes : List ℕ) (room : ℕ) where

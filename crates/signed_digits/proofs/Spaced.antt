@@ -1,10 +1,9 @@
 -- The non-adjacent form by recursion over the string, which is what induction wants, and that it is the form by places.
 use mathlib.Core.Path.{_≡_, refl, ap}
-use mathlib.Core.Logic.{_≢_, _↔_}
+use mathlib.Core.Logic.{_≢_}
 use mathlib.Core.List.{List, [], _∷_}
 use Prim.Native.Nat.{ℕ, zero, suc, _+_, _-_, _<_, _≤_}
 use native.Mathlib.Omega.{arith}
-use native.Mathlib.Numerals.{sub-one}
 use lib.ListN.{length}
 use lib.IntN.{ℤ, pos, natAbs, ℤ-discrete}
 use Rattle.lists.proofs.Top.{top-cons}

@@ -3,7 +3,6 @@ use mathlib.Core.Path.{_≡_}
 use mathlib.Core.Logic.{_⊎_, _≢_}
 use mathlib.Core.List.{List}
 use Prim.Native.Nat.{ℕ, _+_, _-_, _<_, _≤_, _^_, _%_}
-use lib.ListN.{length}
 use lib.IntN.{ℤ, pos, natAbs}
 use Rattle.lists.specs.Top.{TopOtherThan}
 use Rattle.signed_digits.specs.Strings.{digitAt}

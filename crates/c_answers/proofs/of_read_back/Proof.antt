@@ -2,10 +2,6 @@
 use borrow.Author.Needs.{needs}
 use Rattle.c_answers.proofs.of_read_back.Statement.{statement}
 use Rattle.c_answers.proofs.of_read_back.Tie as tie
-use Rattle.c_answers.proofs.of_read_back.Reads as reads
-use Rattle.c_answers.proofs.of_read_back.Lts as lts
-use Rattle.rules.proofs.Refusal.number.Reads as number-reads
-use Rattle.rules.proofs.Refusal.place.Reads as place-reads
 
 enum-known-answer : tie.Need-enum-known-answer
 enum-known-answer c = search needs

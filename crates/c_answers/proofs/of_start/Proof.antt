@@ -2,10 +2,6 @@
 use borrow.Author.Needs.{needs}
 use Rattle.c_answers.proofs.of_start.Statement.{statement}
 use Rattle.c_answers.proofs.of_start.Tie as tie
-use Rattle.c_answers.proofs.of_start.Reads as reads
-use Rattle.c_answers.proofs.of_start.Lts as lts
-use Rattle.rules.proofs.Refusal.number.Reads as number-reads
-use Rattle.rules.proofs.Refusal.place.Reads as place-reads
 
 enum-told : tie.Need-enum-told
 enum-told c = search needs

@@ -4,9 +4,6 @@ use Rattle.integers.proofs.Carry.{sum-law}
 use borrow.Author.Needs.{needs}
 use Rattle.integers.proofs.add_with_carry.Statement.{statement}
 use Rattle.integers.proofs.add_with_carry.Tie as tie
-use Rattle.integers.proofs.add_with_carry.Reads as reads
-use Rattle.integers.proofs.add_with_carry.Lts as lts
-use Rattle.std.proofs.num.wrapping_add_u64.Reads as wrapping-add-u64-reads
 
 wrapping-add-u64-requires : tie.Need-wrapping-add-u64-requires
 wrapping-add-u64-requires c κs = search needs

@@ -3,9 +3,6 @@ use Rattle.integers.proofs.Bits.{bit-of-byte}
 use borrow.Author.Needs.{needs}
 use Rattle.integers.proofs.bit_at.Statement.{statement}
 use Rattle.integers.proofs.bit_at.Tie as tie
-use Rattle.integers.proofs.bit_at.Reads as reads
-use Rattle.integers.proofs.bit_at.Lts as lts
-use Rattle.integers.proofs.byte_at.Reads as byte-at-reads
 
 byte-at-requires : tie.Need-byte-at-requires
 byte-at-requires c κs = search needs

@@ -6,10 +6,6 @@ use Rattle.integers.proofs.Bits.{zero-length, length-by-top}
 use borrow.Author.Needs.{needs}
 use Rattle.integers.proofs.bit_length.Statement.{statement}
 use Rattle.integers.proofs.bit_length.Tie as tie
-use Rattle.integers.proofs.bit_length.Reads as reads
-use Rattle.integers.proofs.bit_length.Lts as lts
-use Rattle.integers.proofs.byte_at.Reads as byte-at-reads
-use Rattle.integers.proofs.significant.Reads as significant-reads
 
 significant-requires : tie.Need-significant-requires
 significant-requires c κs = search needs

@@ -10,8 +10,6 @@ use Rattle.integers.proofs.Words.{Halved, halved-none, halved-more, hal
 use borrow.Author.Needs.{needs}
 use Rattle.integers.proofs.halved.Statement.{statement}
 use Rattle.integers.proofs.halved.Tie as tie
-use Rattle.integers.proofs.halved.Reads as reads
-use Rattle.integers.proofs.halved.Lts as lts
 
 abbrev Inv-loop : tie.InvT-loop
 Inv-loop words half₀ k₀ half k = (k + 1 ≤ numberWords) × (length half ≡ numberWords) × Halved k words half

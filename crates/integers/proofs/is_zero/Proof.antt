@@ -11,8 +11,6 @@ use Rattle.integers.proofs.Words.{zero-more}
 use borrow.Author.Needs.{needs}
 use Rattle.integers.proofs.is_zero.Statement.{statement}
 use Rattle.integers.proofs.is_zero.Tie as tie
-use Rattle.integers.proofs.is_zero.Reads as reads
-use Rattle.integers.proofs.is_zero.Lts as lts
 
 abbrev Inv-loop : tie.InvT-loop
 Inv-loop words none₀ k₀ none k = (k ≤ length words) × (none ≡ eqb (wordsValue (take k words)) 0)

@@ -10,9 +10,6 @@ use Rattle.integers.proofs.Counting.{ones-word}
 use borrow.Author.Needs.{needs}
 use Rattle.integers.proofs.ones.Statement.{statement}
 use Rattle.integers.proofs.ones.Tie as tie
-use Rattle.integers.proofs.ones.Reads as reads
-use Rattle.integers.proofs.ones.Lts as lts
-use Rattle.integers.proofs.word_at.Reads as word-at-reads
 
 abbrev Inv-loop : tie.InvT-loop
 Inv-loop number total₀ k₀ total k = (k ≤ numberWords) × (total ≤ 64 * k) × (total + ones (bytesValue (drop (8 * k) number)) ≡ ones (bytesValue number))

@@ -9,8 +9,6 @@ use Rattle.integers.proofs.Positional.{positional-drop}
 use borrow.Author.Needs.{needs}
 use Rattle.integers.proofs.significant.Statement.{statement}
 use Rattle.integers.proofs.significant.Tie as tie
-use Rattle.integers.proofs.significant.Reads as reads
-use Rattle.integers.proofs.significant.Lts as lts
 
 abbrev Inv-loop : tie.InvT-loop
 Inv-loop number n₀ n = (n ≤ length number) × (bytesValue (drop n number) ≡ 0)

@@ -11,8 +11,6 @@ use Rattle.integers.proofs.LowBytes.{length-low, low-add}
 use borrow.Author.Needs.{needs}
 use Rattle.integers.proofs.store_word.Statement.{statement}
 use Rattle.integers.proofs.store_word.Tie as tie
-use Rattle.integers.proofs.store_word.Reads as reads
-use Rattle.integers.proofs.store_word.Lts as lts
 
 abbrev Inv-loop : tie.InvT-loop
 Inv-loop bytes₀ at word rest₀ i₀ bytes rest i =

@@ -4,9 +4,6 @@ use Rattle.integers.proofs.Carry.{difference-law}
 use borrow.Author.Needs.{needs}
 use Rattle.integers.proofs.subtract_with_borrow.Statement.{statement}
 use Rattle.integers.proofs.subtract_with_borrow.Tie as tie
-use Rattle.integers.proofs.subtract_with_borrow.Reads as reads
-use Rattle.integers.proofs.subtract_with_borrow.Lts as lts
-use Rattle.std.proofs.num.wrapping_sub_u64.Reads as wrapping-sub-u64-reads
 
 cast-less : tie.Need-cast-less
 cast-less c = search needs

@@ -7,10 +7,6 @@ use Rattle.integers.specs.Positional.{positional}
 use borrow.Author.Needs.{needs}
 use Rattle.integers.proofs.word_at.Statement.{statement}
 use Rattle.integers.proofs.word_at.Tie as tie
-use Rattle.integers.proofs.word_at.Reads as reads
-use Rattle.integers.proofs.word_at.Lts as lts
-use Rattle.integers.proofs.whole_word_at.Reads as whole-word-at-reads
-use Rattle.integers.proofs.word_of.Reads as word-of-reads
 
 returns : tie.Need-returns
 unfolding positional

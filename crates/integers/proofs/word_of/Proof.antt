@@ -8,8 +8,6 @@ use Rattle.integers.specs.Positional.{bytesValue}
 use Rattle.integers.proofs.Words.{part, word-step, word-room, word-none}
 use Rattle.integers.proofs.word_of.Statement.{statement}
 use Rattle.integers.proofs.word_of.Tie as tie
-use Rattle.integers.proofs.word_of.Reads as reads
-use Rattle.integers.proofs.word_of.Lts as lts
 
 abbrev Inv-loop : tie.InvT-loop
 Inv-loop bytes from count word₀ i₀ word i =

@@ -12,9 +12,6 @@ use Rattle.integers.proofs.Words.{wordAt, words-value}
 use borrow.Author.Needs.{needs}
 use Rattle.integers.proofs.words_of.Statement.{statement}
 use Rattle.integers.proofs.words_of.Tie as tie
-use Rattle.integers.proofs.words_of.Reads as reads
-use Rattle.integers.proofs.words_of.Lts as lts
-use Rattle.integers.proofs.word_at.Reads as word-at-reads
 
 abbrev Inv-loop : tie.InvT-loop
 Inv-loop number words₀ k₀ words k = (k ≤ numberWords) × (length words ≡ numberWords) × (words ≡ tabulate (wordAt number) k ++ drop k words₀)

@@ -4,10 +4,6 @@ use Rattle.c_answers.specs.Answers.{countedFields}
 use borrow.Author.Needs.{needs}
 use Rattle.lesmutka.proofs.lesmutka_check.Statement.{statement}
 use Rattle.lesmutka.proofs.lesmutka_check.Tie as tie
-use Rattle.lesmutka.proofs.lesmutka_check.Reads as reads
-use Rattle.lesmutka.proofs.lesmutka_check.Lts as lts
-use Rattle.checking.proofs.check.Reads as check-reads
-use Rattle.c_answers.proofs.of_counted.Reads as of-counted-reads
 
 check-requires : tie.Need-check-requires
 check-requires c κs = search needs

@@ -4,10 +4,6 @@ use Rattle.c_answers.specs.Answers.{writtenFields}
 use borrow.Author.Needs.{needs}
 use Rattle.lesmutka.proofs.lesmutka_clean.Statement.{statement}
 use Rattle.lesmutka.proofs.lesmutka_clean.Tie as tie
-use Rattle.lesmutka.proofs.lesmutka_clean.Reads as reads
-use Rattle.lesmutka.proofs.lesmutka_clean.Lts as lts
-use Rattle.cleaning.proofs.clean.Reads as clean-reads
-use Rattle.c_answers.proofs.of_written.Reads as of-written-reads
 
 clean-requires : tie.Need-clean-requires
 clean-requires c κs = search needs

@@ -4,10 +4,6 @@ use Rattle.c_answers.specs.Answers.{countedFields}
 use borrow.Author.Needs.{needs}
 use Rattle.lesmutka.proofs.lesmutka_forecast.Statement.{statement}
 use Rattle.lesmutka.proofs.lesmutka_forecast.Tie as tie
-use Rattle.lesmutka.proofs.lesmutka_forecast.Reads as reads
-use Rattle.lesmutka.proofs.lesmutka_forecast.Lts as lts
-use Rattle.c_answers.proofs.of_counted.Reads as of-counted-reads
-use Rattle.planning.proofs.forecast.Reads as forecast-reads
 
 forecast-requires : tie.Need-forecast-requires
 forecast-requires c κs = search needs

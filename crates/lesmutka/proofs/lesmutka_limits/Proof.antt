@@ -4,10 +4,6 @@ use Rattle.c_answers.specs.Answers.{limitFields}
 use borrow.Author.Needs.{needs}
 use Rattle.lesmutka.proofs.lesmutka_limits.Statement.{statement}
 use Rattle.lesmutka.proofs.lesmutka_limits.Tie as tie
-use Rattle.lesmutka.proofs.lesmutka_limits.Reads as reads
-use Rattle.lesmutka.proofs.lesmutka_limits.Lts as lts
-use Rattle.c_answers.proofs.of_limits.Reads as of-limits-reads
-use Rattle.rules.proofs.current.Reads as current-reads
 
 current-requires : tie.Need-current-requires
 current-requires c κs = search needs

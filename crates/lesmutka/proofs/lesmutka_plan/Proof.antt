@@ -4,10 +4,6 @@ use Rattle.c_answers.specs.Answers.{countedFields}
 use borrow.Author.Needs.{needs}
 use Rattle.lesmutka.proofs.lesmutka_plan.Statement.{statement}
 use Rattle.lesmutka.proofs.lesmutka_plan.Tie as tie
-use Rattle.lesmutka.proofs.lesmutka_plan.Reads as reads
-use Rattle.lesmutka.proofs.lesmutka_plan.Lts as lts
-use Rattle.c_answers.proofs.of_counted.Reads as of-counted-reads
-use Rattle.planning.proofs.plan.Reads as plan-reads
 
 plan-requires : tie.Need-plan-requires
 plan-requires c κs = search needs

@@ -4,10 +4,6 @@ use Rattle.c_answers.specs.Answers.{readFields}
 use borrow.Author.Needs.{needs}
 use Rattle.lesmutka.proofs.lesmutka_read_back.Statement.{statement}
 use Rattle.lesmutka.proofs.lesmutka_read_back.Tie as tie
-use Rattle.lesmutka.proofs.lesmutka_read_back.Reads as reads
-use Rattle.lesmutka.proofs.lesmutka_read_back.Lts as lts
-use Rattle.c_answers.proofs.of_read_back.Reads as of-read-back-reads
-use Rattle.reading.proofs.read_back.Reads as read-back-reads
 
 read-back-requires : tie.Need-read-back-requires
 read-back-requires c κs = search needs

@@ -4,10 +4,6 @@ use Rattle.c_answers.specs.Answers.{writtenFields}
 use borrow.Author.Needs.{needs}
 use Rattle.lesmutka.proofs.lesmutka_recode.Statement.{statement}
 use Rattle.lesmutka.proofs.lesmutka_recode.Tie as tie
-use Rattle.lesmutka.proofs.lesmutka_recode.Reads as reads
-use Rattle.lesmutka.proofs.lesmutka_recode.Lts as lts
-use Rattle.c_answers.proofs.of_written.Reads as of-written-reads
-use Rattle.recoding.proofs.recode.Reads as recode-reads
 
 recode-requires : tie.Need-recode-requires
 recode-requires c κs = search needs

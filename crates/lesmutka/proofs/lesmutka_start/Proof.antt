@@ -4,11 +4,6 @@ use Rattle.c_answers.specs.Answers.{startedFields}
 use borrow.Author.Needs.{needs}
 use Rattle.lesmutka.proofs.lesmutka_start.Statement.{statement}
 use Rattle.lesmutka.proofs.lesmutka_start.Tie as tie
-use Rattle.lesmutka.proofs.lesmutka_start.Reads as reads
-use Rattle.lesmutka.proofs.lesmutka_start.Lts as lts
-use Rattle.c_answers.proofs.of_start.Reads as of-start-reads
-use Rattle.c_answers.proofs.kept.kept_of.Reads as kept-of-reads
-use Rattle.taking.proofs.Recoder.start.Reads as start-reads
 
 start-requires : tie.Need-start-requires
 start-requires c κs = search needs

@@ -3,11 +3,6 @@ use Rattle.c_answers.proofs.Taken.{taken-digit, taken-done}
 use borrow.Author.Needs.{needs}
 use Rattle.lesmutka.proofs.lesmutka_take.Statement.{statement}
 use Rattle.lesmutka.proofs.lesmutka_take.Tie as tie
-use Rattle.lesmutka.proofs.lesmutka_take.Reads as reads
-use Rattle.lesmutka.proofs.lesmutka_take.Lts as lts
-use Rattle.c_answers.proofs.kept.kept_of.Reads as kept-of-reads
-use Rattle.c_answers.proofs.kept.recoder_of.Reads as recoder-of-reads
-use Rattle.taking.proofs.Recoder.take.Reads as take-reads
 
 recoder-of-requires : tie.Need-recoder-of-requires
 recoder-of-requires c κs = search needs

@@ -1,6 +1,5 @@
 -- `numbers::number_verdict` meets its contract. Assumes nothing.
 use mathlib.Core.Path.{sym}
-use borrow.Author.Needs.{needs}
 use Rattle.numbers.proofs.Tests.{too-long, admitted, number-only}
 use Rattle.numbers.proofs.number_verdict.Statement.{statement}
 use Rattle.numbers.proofs.number_verdict.Tie as tie

@@ -9,8 +9,6 @@ use Rattle.c_answers.proofs.Copied.{copied-more, stored}
 use borrow.Author.Needs.{needs}
 use Rattle.c_answers.proofs.kept.kept_of.Statement.{statement}
 use Rattle.c_answers.proofs.kept.kept_of.Tie as tie
-use Rattle.c_answers.proofs.kept.kept_of.Reads as reads
-use Rattle.c_answers.proofs.kept.kept_of.Lts as lts
 
 abbrev Inv-loop : tie.InvT-loop
 Inv-loop words carry kept₀ k₀ kept k = (k ≤ numberWords) × (length kept ≡ numberWords + 1) × (take k kept ≡ take k words)

@@ -10,9 +10,6 @@ use Rattle.c_answers.proofs.Copied.{carried-from}
 use borrow.Author.Needs.{needs}
 use Rattle.c_answers.proofs.kept.recoder_of.Statement.{statement}
 use Rattle.c_answers.proofs.kept.recoder_of.Tie as tie
-use Rattle.c_answers.proofs.kept.recoder_of.Reads as reads
-use Rattle.c_answers.proofs.kept.recoder_of.Lts as lts
-use Rattle.c_answers.proofs.kept.words_in.Reads as words-in-reads
 
 words-in-requires : tie.Need-words-in-requires
 words-in-requires c κs = search needs

@@ -9,8 +9,6 @@ use Rattle.c_answers.proofs.Copied.{copied-more}
 use borrow.Author.Needs.{needs}
 use Rattle.c_answers.proofs.kept.words_in.Statement.{statement}
 use Rattle.c_answers.proofs.kept.words_in.Tie as tie
-use Rattle.c_answers.proofs.kept.words_in.Reads as reads
-use Rattle.c_answers.proofs.kept.words_in.Lts as lts
 
 abbrev Inv-loop : tie.InvT-loop
 Inv-loop kept words₀ k₀ words k = (k ≤ numberWords) × (length words ≡ numberWords) × (take k words ≡ take k kept)

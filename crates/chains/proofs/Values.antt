@@ -5,11 +5,11 @@ use Prim.Native.Nat.{ℕ, suc, _+_, _<_, _≤_}
 use native.Mathlib.Nat.{add-zero}
 use native.Mathlib.Omega.{arith}
 use lib.IntN.{ℤ, pos}
-use lib.ListN.{length, take, drop, length-append, List·getD-append, take-append-drop}
+use lib.ListN.{length, take, drop, length-append, take-append-drop}
 use lib.Seq.{length-take-le, take-all, take-length, take-take, take-append-seam, take-suc, getD-take, getD-at}
 use Rattle.chains.specs.Steps.{Step, add}
 use Rattle.chains.specs.Values.{at, stepValue, extend, start, valuesOf}
-use Rattle.chains.specs.Sound.{stepAt, WellFormed}
+use Rattle.chains.specs.Sound.{stepAt}
 
 -- ---- from any values on
 
@@ -34,11 +34,6 @@ extend-prefix values (s ∷ steps) =
 
 pub extend-keeps : (values : List ℤ) (steps : List Step) (i : ℕ) → i < length values → at (extend values steps) i ≡ at values i
 extend-keeps values steps i h = sym (getD-take (length values) (extend values steps) i (pos 0) h) ∙ ap (λ (l : List ℤ). at l i) (extend-prefix values steps)
-
--- a step that names positions below its own reads nothing above them
-pub step-value-more : (values more : List ℤ) (s : Step) → WellFormed (length values) s → stepValue values s ≡ stepValue (values ++ more) s
-unfolding stepValue
-step-value-more values more s n = rw (List·getD-append values more (pos 0) (s .first) (n .first), List·getD-append values more (pos 0) (s .second) (n .second))
 
 -- ---- from position 0 on
 

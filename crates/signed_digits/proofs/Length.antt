@@ -5,10 +5,10 @@ use Prim.Native.Nat.{ℕ, zero, suc, _+_, _*_, _-_, _<_, _≤_, _^_, _%_, _/_}
 use native.Mathlib.Omega.{arith}
 use native.Mathlib.Numerals.{add-one}
 use native.Mathlib.Nat.{suc-le-suc-iff, pow-succ'}
-use lib.ListN.{length, length-map}
+use lib.ListN.{length}
 use lib.Pow.{pow-pos}
-use lib.IntN.{pos, negsuc, negℤ}
-use Rattle.signed_digits.specs.Naf.{rest, digitsOf, naf, canonical}
+use lib.IntN.{pos}
+use Rattle.signed_digits.specs.Naf.{rest, canonical}
 use Rattle.signed_digits.proofs.Steps.{naf-zero, naf-step, rest-2, by-four}
 
 -- a power of two is no multiple of 3: where 2 p is 3 k, p is 3 (p - k)
@@ -32,7 +32,3 @@ length-at-most e n = go n e
     go (suc n) (suc e) =
         let bound : 3 * rest 2 (suc e) < 2 ^ (n + 1) ↔ 3 * suc e < 2 ^ (suc n + 1) = simp (add-one, pow-succ') (rest-bound (2 ^ n) (no-multiple-of-3 n) (suc e)) in
         rw (naf-step 2 (suc e) (omega arith) (omega arith)) (Iff·trans suc-le-suc-iff (Iff·trans (go n (rest 2 (suc e))) bound))
-
-pub length-opposite : (w n : ℕ) → length (naf w (negsuc n)) ≡ length (naf w (pos (suc n)))
-unfolding naf
-length-opposite w n = length-map (digitsOf w (suc n) (suc n)) negℤ

@@ -49,7 +49,7 @@
  *    7  LESMUTKA_PLAN_LENGTH                 plan bytes not a multiple of 5,           0
  *                                            or more than 3,200
  *    8  LESMUTKA_WORK_SPACE_TOO_SHORT        work space shorter than 34 (r + 1)        0
- *    9  LESMUTKA_MALFORMED_STEP                unknown operation, or j or k not below i  i
+ *    9  LESMUTKA_MALFORMED_STEP              unknown operation, or j or k not below i  i
  *   10  LESMUTKA_VALUE_IS_ZERO               the value at step i is zero               i
  *   11  LESMUTKA_VALUE_TOO_LARGE             the value at step i has size 2^264        i
  *                                            or more

@@ -1,4 +1,4 @@
--- Records of a work space (document 01, "Check"): a sign byte (0, or 1 below zero), then the bytes of the size.
+-- Records of a work space (docs/RULES.md, 7.4): a sign byte (0, or 1 below zero), then the bytes of the size.
 use Prim.Native.Nat.{ℕ}
 use mathlib.Core.List.{List, [], _∷_, _++_}
 use lib.IntN.{ℤ, natAbs}

@@ -10,7 +10,7 @@ unfoldable pub positional : ℕ → List ℕ → ℕ
 positional base [] = 0
 positional base (d ∷ ds) = d + base * positional base ds
 
--- document 01's number: no bytes mean zero, and high zero bytes change nothing
+-- a number (docs/RULES.md, 1.2 and 1.3): no bytes mean zero, and high zero bytes change nothing
 abbrev pub bytesValue : List ℕ → ℕ
 bytesValue bytes = positional 256 bytes
 

@@ -1,4 +1,4 @@
-// Every call of document 01 for C and Rust: byte slices and numbers in, structs of numbers out. A
+// Every call (docs/RULES.md, 4.1) for C and Rust: byte slices and numbers in, structs of numbers out. A
 // slice is passed as a pointer and a length. include/lesmutka.h says what each call takes and
 // leaves.
 use c_answers::Length;
@@ -107,7 +107,7 @@ pub extern "C" fn lesmutka_check(number: &[u8], plan: &[u8], space: &mut [u8]) -
     c_answers::of_counted(checking::check(number, plan, space))
 }
 
-// The limits that the library keeps: those of document 01.
+// The limits that the library keeps.
 #[no_mangle]
 pub extern "C" fn lesmutka_limits() -> Limits
     ensures { λ r. ⌜ r ≡ limitFields documented ⌝ }

@@ -1,4 +1,4 @@
--- What every call of document 01 shares.
+-- What every call shares.
 pub mod Limits
 pub mod Refusals
 pub mod Outcome

@@ -1,4 +1,4 @@
--- Every limit of document 01, by name. No other file writes one as a number, but for the constants of src/lib.rt, which `current` shows to be these.
+-- Every limit, by name (docs/RULES.md, 8.1). No other file writes one as a number, but for the constants of src/lib.rt, which `current` shows to be these.
 use Prim.Native.Nat.{ℕ, _+_, _*_, _/_, _^_}
 use Rattle.rules.specs.declared.Limits.{Limits}
 

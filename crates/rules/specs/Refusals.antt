@@ -1,4 +1,4 @@
--- Document 01's table "When a call says no": the number and the place of each refusal.
+-- docs/RULES.md, 6.1: the number and the place of each refusal.
 use Prim.Native.Nat.{ℕ}
 use Rattle.rules.specs.declared.Refusal.{Refusal}
 use Rattle.rules.specs.declared.Refusal.the-variants.{NumberTooLong, NumberIsZero, MethodOrWidth, NotADigit, StringTooLong, RoomTooSmall, PlanLength, WorkSpaceTooShort, MalformedStep, ValueIsZero, ValueTooLarge, WrongEnd}

@@ -1,4 +1,4 @@
-// What every call of document 01 shares: the limits, the refusals, and the forms of an answer.
+// What every call shares (docs/RULES.md): the limits, the refusals, and the forms of an answer.
 //
 // A limit is written here and in specs/Limits.antt, and nowhere else: `current` shows that the two
 // agree.
@@ -52,7 +52,7 @@ pub fn current() -> Limits
     }
 }
 
-// Why a call says no. A case holds its place where document 01 gives it one other than 0.
+// Why a call says no. A case holds its place where that is not always 0.
 pub enum Refusal {
     // Number longer than the limit.
     NumberTooLong,
@@ -81,7 +81,7 @@ pub enum Refusal {
 }
 
 impl Refusal {
-    // Document 01's number of a refusal.
+    // The number of a refusal (docs/RULES.md, 6.1).
     pub fn number(self) -> u8
         ensures { λ r. ⌜ r ≡ refusalNumber self ⌝ }
     {
@@ -101,7 +101,7 @@ impl Refusal {
         }
     }
 
-    // Document 01's place of a refusal.
+    // Its place.
     pub fn place(self) -> usize
         ensures { λ r. ⌜ r ≡ refusalPlace self ⌝ }
     {

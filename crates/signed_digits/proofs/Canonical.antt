@@ -1,4 +1,4 @@
--- Document 01's canonical string, in its words, is the non-adjacent form of width 2: each integer has exactly one.
+-- The canonical string, by its neighbouring digits (docs/RULES.md, 2.3), is the non-adjacent form of width 2: each integer has exactly one.
 use mathlib.Core.Path.{_≡_, ap}
 use mathlib.Core.Logic.{_⊎_, inl, inr, _≢_, _↔_}
 use mathlib.Core.List.{List}

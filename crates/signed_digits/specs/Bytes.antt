@@ -1,4 +1,4 @@
--- A digit string in a buffer: one byte a digit, in two's complement, so 00 is 0, 01 is 1 and FF is -1 (document 01, "Digit string"). Digits from -128 to 127 have a byte of their own.
+-- A digit string in a buffer: one byte a digit, in two's complement, so 00 is 0, 01 is 1 and FF is -1 (docs/RULES.md, 2.1). Digits from -128 to 127 have a byte of their own.
 use mathlib.Core.Bool.{cond}
 use mathlib.Core.List.{List, map}
 use lib.Dec.{ltb}

@@ -1,4 +1,4 @@
--- The non-adjacent form of width w, and the canonical string (document 01), which is the case w = 2.
+-- The non-adjacent form of width w, and the canonical string (docs/RULES.md, 2.3), which is the case w = 2.
 use mathlib.Core.Path.{_≡_}
 use mathlib.Core.Logic.{_⊎_, _≢_}
 use mathlib.Core.List.{List}
@@ -26,7 +26,7 @@ pub record NonAdjacent (w : ℕ) (ds : List ℤ) : Type 0 where
 abbrev pub SignedBits : List ℤ → Type 0
 SignedBits ds = (i : ℕ) → natAbs (digitAt ds i) ≤ 1
 
--- document 01's canonical string, in its words: of any two neighbouring digits at least one is 0, and the most significant digit is not 0
+-- the canonical string: of any two neighbouring digits at least one is 0, and the most significant digit is not 0
 pub record Canonical (ds : List ℤ) : Type 0 where
   pub digits : SignedBits ds
   pub neighbours : (i : ℕ) → (digitAt ds i ≡ pos 0) ⊎ (digitAt ds (i + 1) ≡ pos 0)

@@ -29,6 +29,6 @@ unfoldable pub naf : ℕ → ℤ → List ℤ
 naf w (pos n) = digitsOf w n n
 naf w (negsuc n) = map negℤ (digitsOf w (suc n) (suc n))
 
--- document 01's canonical string of an integer
+-- the canonical string of an integer
 abbrev pub canonical : ℤ → List ℤ
 canonical z = naf 2 z

@@ -1,4 +1,4 @@
--- Signed digit strings and their value (document 01, "Digit string"; demand 3's strings of every length).
+-- Signed digit strings and their value (docs/RULES.md, 2.2), of every length.
 use mathlib.Core.List.{List, [], _∷_}
 use Prim.Native.Nat.{ℕ, suc, _^_}
 use lib.ListN.{getD}

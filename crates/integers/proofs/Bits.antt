@@ -102,7 +102,7 @@ low-bits x y j h l = sym (seen x) ∙ ap (λ (v : ℕ). v / 2 ^ j % 2) h ∙ see
     seen : (v : ℕ) → v % 256 / 2 ^ j % 2 ≡ v / 2 ^ j % 2
     seen v = ap (λ (n : ℕ). v % 2 ^ n / 2 ^ j % 2) e ∙ ap (λ (n : ℕ). n % 2) (field v (7 - j + 1) j) ∙ mod-mod-pow (v / 2 ^ j) (7 - j) 1
 
-power-positive : (k : ℕ) → 0 < 256 ^ k
+pub power-positive : (k : ℕ) → 0 < 256 ^ k
 power-positive k = rw (power-of-bytes k) (pow-pos (8 * k))
 
 -- a bound on the bytes from k on

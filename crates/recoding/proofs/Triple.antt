@@ -9,15 +9,11 @@ use lib.IntN.{pos}
 use lib.ListN.{length}
 use lib.Pow.{shr-shr}
 use Rattle.integers.specs.Bits.{bit, bitLength}
-use Rattle.integers.proofs.Bits.{power-of-bytes, low-bits, bit-length-iff}
+use Rattle.integers.proofs.Bits.{power-of-bytes, power-positive, low-bits, bit-length-iff}
 use Rattle.signed_digits.specs.Naf.{canonical}
 use Rattle.signed_digits.proofs.Length.{length-at-most}
 use Rattle.signed_digits.proofs.Triple.{digit-byte-at}
 use Rattle.recoding.specs.Internal.{placeByte, tripleCarry, difference}
-
-power-positive : (k : ℕ) → 0 < 256 ^ k
-power-positive zero = omega arith
-power-positive (suc k) = rw pow-suc (omega (arith, power-positive k))
 
 -- the quotient of the triple: the triple of the quotient, and what is carried
 pub triple-div : (e k : ℕ) → 3 * e / 256 ^ k ≡ 3 * (e / 256 ^ k) + tripleCarry e k

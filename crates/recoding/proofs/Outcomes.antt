@@ -4,24 +4,17 @@ use mathlib.Core.List.{List, _++_}
 use Prim.Native.Nat.{ℕ, _<_, _≤_}
 use borrow.Author.Tests.{lt-ltb, le-ltb}
 use lib.IntN.{pos}
-use lib.ListN.{length, drop, List·getD-map}
+use lib.ListN.{length, drop}
 use Rattle.rules.specs.Limits.{numberBytes}
 use Rattle.rules.specs.declared.Refusal.the-variants.{NumberTooLong, RoomTooSmall}
 use Rattle.integers.specs.Positional.{bytesValue}
 use Rattle.integers.specs.Tabulate.{tabulate}
-use Rattle.integers.proofs.Tabulate.{tabulate-of}
 use Rattle.signed_digits.specs.Naf.{canonical}
-use Rattle.signed_digits.specs.Bytes.{digitByte}
+use Rattle.digit_strings.specs.Places.{placeByte}
+use Rattle.digit_strings.proofs.Places.{bytes-table}
 use Rattle.rules.specs.declared.Written.the-variants.{Length, Refused}
 use Rattle.rules.proofs.Fitted.{too-small, fits}
 use Rattle.recoding.specs.Recode.{recoding, recodeAnswer, recodeBuffer}
-use Rattle.recoding.specs.Internal.{placeByte}
-
--- the string by its places
-pub recoding-table : (number : List ℕ) → recoding number ≡ tabulate (placeByte (bytesValue number)) (length (recoding number))
-unfolding recoding placeByte
-recoding-table number =
-    tabulate-of (placeByte (bytesValue number)) (recoding number) (λ i h. List·getD-map digitByte (canonical (pos (bytesValue number))) i (pos 0))
 
 module _ (number out : List ℕ) where
   pub too-long : numberBytes < length number → (recodeAnswer number (length out) ≡ Refused NumberTooLong) × (recodeBuffer number out ≡ out)
@@ -35,8 +28,9 @@ module _ (number out : List ℕ) where
       (rw (t, u, e), rw (t, u))
 
   pub done : (n : ℕ) → n ≡ length (recoding number) → length number ≤ numberBytes → n ≤ length out
-      → (recodeAnswer number (length out) ≡ Length n) × (recodeBuffer number out ≡ tabulate (placeByte (bytesValue number)) n ++ drop n out)
+      → (recodeAnswer number (length out) ≡ Length n) × (recodeBuffer number out ≡ tabulate (placeByte (canonical (pos (bytesValue number)))) n ++ drop n out)
+  unfolding recoding
   done n e h l =
       let t = le-ltb numberBytes (length number) h in
       let u = fits (recoding number) (length out) (rw e at l) in
-      (rw (t, u, e), rw (t, u, e) (ap (λ (s : List ℕ). s ++ drop (length (recoding number)) out) (recoding-table number)))
+      (rw (t, u, e), rw (t, u, e) (ap (λ (s : List ℕ). s ++ drop (length (recoding number)) out) (bytes-table (canonical (pos (bytesValue number))))))

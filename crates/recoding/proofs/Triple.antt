@@ -13,7 +13,8 @@ use Rattle.integers.proofs.Bits.{power-of-bytes, power-positive, low-bits, bit-
 use Rattle.signed_digits.specs.Naf.{canonical}
 use Rattle.signed_digits.proofs.Length.{length-at-most}
 use Rattle.signed_digits.proofs.Triple.{digit-byte-at}
-use Rattle.recoding.specs.Internal.{placeByte, tripleCarry, difference}
+use Rattle.digit_strings.specs.Places.{placeByte}
+use Rattle.recoding.specs.Internal.{tripleCarry, difference}
 
 -- the quotient of the triple: the triple of the quotient, and what is carried
 pub triple-div : (e k : ℕ) → 3 * e / 256 ^ k ≡ 3 * (e / 256 ^ k) + tripleCarry e k
@@ -80,7 +81,7 @@ half-more q c =
 half-less : (q : ℕ) → (q % 256 / 2 + 128 * (q / 256 % 256)) % 256 ≡ q / 2 % 256
 half-less q = omega arith
 
-pub byte-digit : (e k j : ℕ) → j < 8 → placeByte e (8 * k + j) ≡ difference (moreOf e k) (lessOf e k) j
+pub byte-digit : (e k j : ℕ) → j < 8 → placeByte (canonical (pos e)) (8 * k + j) ≡ difference (moreOf e k) (lessOf e k) j
 unfolding placeByte difference bit
 byte-digit e k j h =
     let q : ℕ = e / 256 ^ k in

@@ -6,13 +6,16 @@ use integers::significant;
 ghost use mathlib.Core.Path.{_≡_};
 ghost use mathlib.Core.List.{_++_};
 ghost use Prim.Native.Nat.{_+_, _*_, _≤_};
+ghost use lib.IntN.{pos};
 ghost use lib.ListN.{length, take, drop};
 ghost use Rattle.rules.specs.Limits.{numberBytes};
 ghost use Rattle.integers.specs.Bits.{bit};
 ghost use Rattle.integers.specs.Positional.{bytesValue};
 ghost use Rattle.integers.specs.Tabulate.{tabulate};
+ghost use Rattle.signed_digits.specs.Naf.{canonical};
+ghost use Rattle.digit_strings.specs.Places.{placeByte};
 ghost use Rattle.recoding.specs.Recode.{recoding};
-ghost use Rattle.recoding.specs.Internal.{placeByte, tripleCarry, difference};
+ghost use Rattle.recoding.specs.Internal.{tripleCarry, difference};
 
 // What three times the low n bytes carry into byte n.
 fn carry_into(number: &[u8], n: usize) -> u64
@@ -78,7 +81,7 @@ fn write_byte(number: &[u8], out: &mut [u8], k: usize, count: usize, carry: u64)
     requires { ⌜ 8 * k + count ≤ length (now out) ⌝ }
     requires { ⌜ carry ≡ tripleCarry (bytesValue (now number)) k ⌝ }
     ensures carried { λ r. ⌜ r ≡ tripleCarry (bytesValue (now (number .entry))) (k + 1) ⌝ }
-    ensures buffer { λ r. ⌜ now (out .exit) ≡ take (8 * k) (now (out .entry)) ++ (tabulate (λ j. placeByte (bytesValue (now (number .entry))) (8 * k + j)) count ++ drop (8 * k + count) (now (out .entry))) ⌝ }
+    ensures buffer { λ r. ⌜ now (out .exit) ≡ take (8 * k) (now (out .entry)) ++ (tabulate (λ j. placeByte (canonical (pos (bytesValue (now (number .entry))))) (8 * k + j)) count ++ drop (8 * k + count) (now (out .entry))) ⌝ }
 {
     let byte = byte_at(number, k);
     let next = byte_at(number, k + 1);
@@ -96,7 +99,7 @@ fn write_byte(number: &[u8], out: &mut [u8], k: usize, count: usize, carry: u64)
 // Writes the first `count` canonical digits.
 pub fn write(number: &[u8], out: &mut [u8], count: usize)
     requires { ⌜ count ≤ length (now out) ⌝ }
-    ensures { λ _. ⌜ now (out .exit) ≡ tabulate (placeByte (bytesValue (now (number .entry)))) count ++ drop count (now (out .entry)) ⌝ }
+    ensures { λ _. ⌜ now (out .exit) ≡ tabulate (placeByte (canonical (pos (bytesValue (now (number .entry)))))) count ++ drop count (now (out .entry)) ⌝ }
 {
     let mut carry: u64 = 0;
     let mut k = 0;

@@ -3,22 +3,22 @@ use mathlib.Core.Path.{_≡_, refl, sym, _∙_}
 use mathlib.Core.List.{_++_}
 use Prim.Native.Nat.{ℕ, _≤_, _-_, _+_, _*_}
 use native.Mathlib.Omega.{arith}
+use lib.IntN.{pos}
 use lib.ListN.{length, drop}
 use Rattle.integers.specs.Positional.{bytesValue}
 use Rattle.integers.specs.Tabulate.{tabulate}
 use Rattle.integers.proofs.Tabulate.{tabulate-join}
-use Rattle.recoding.specs.Internal.{placeByte, tripleCarry}
+use Rattle.signed_digits.specs.Naf.{canonical}
+use Rattle.digit_strings.specs.Places.{placeByte}
+use Rattle.recoding.specs.Internal.{tripleCarry}
 use Rattle.recoding.proofs.Triple.{carry-none}
 use borrow.Author.Needs.{needs}
 use Rattle.recoding.proofs.digits.write.Statement.{statement}
 use Rattle.recoding.proofs.digits.write.Tie as tie
-use Rattle.recoding.proofs.digits.write.Reads as reads
-use Rattle.recoding.proofs.digits.write.Lts as lts
-use Rattle.recoding.proofs.digits.write_byte.Reads as write-byte-reads
 
 abbrev Inv-loop : tie.InvT-loop
 Inv-loop number out₀ count carry₀ k₀ out carry k =
-    (8 * k ≤ count) × (length out ≡ length out₀) × (carry ≡ tripleCarry (bytesValue number) k) × (out ≡ tabulate (placeByte (bytesValue number)) (8 * k) ++ drop (8 * k) out₀)
+    (8 * k ≤ count) × (length out ≡ length out₀) × (carry ≡ tripleCarry (bytesValue number) k) × (out ≡ tabulate (placeByte (canonical (pos (bytesValue number)))) (8 * k) ++ drop (8 * k) out₀)
 
 abbrev μ-loop : tie.MeasureT-loop
 μ-loop number out₀ count carry₀ k₀ out carry k = count - 8 * k
@@ -46,13 +46,13 @@ loop-again : tie.Need-loop-again Inv-loop μ-loop
 loop-again c =
     let loop = c .before .before .before .before .before .loop in
     let args = c .before .before .before .before .before .before .before .before .args in
-    let digit = placeByte (bytesValue (args .number .now)) in
+    let digit = placeByte (canonical (pos (bytesValue (args .number .now)))) in
     let call = c .before .before .write-byte in
     let e : 8 * (loop .k + 1) ≡ 8 * loop .k + 8 = omega arith in (
       omega arith,
       search needs,
       call .ensures .0,
-      rw e ((rw (loop .inv .3) at (call .ensures .1)) ∙ tabulate-join digit (args .out .now) (8 * loop .k) 8 (search needs)),
+      rw e (rw (loop .inv .3, tabulate-join digit (args .out .now) (8 * loop .k) 8 (search needs)) at (call .ensures .1)),
     )
 
 mul-write-byte : tie.Need-mul-write-byte Inv-loop μ-loop
@@ -71,10 +71,10 @@ returns : tie.Need-returns Inv-loop μ-loop
 returns c =
     let loop = c .before .before .before .before .before .loop in
     let args = c .before .before .before .before .before .before .before .before .args in
-    let digit = placeByte (bytesValue (args .number .now)) in
+    let digit = placeByte (canonical (pos (bytesValue (args .number .now)))) in
     let rest : ℕ = args .count - 8 * loop .k in
     let e : 8 * loop .k + rest ≡ args .count = omega arith in
-    (rw (loop .inv .3) at (c .before .before .write-byte2 .ensures .1)) ∙ tabulate-join digit (args .out .now) (8 * loop .k) rest (search needs) ∙ rw e
+    rw (loop .inv .3, tabulate-join digit (args .out .now) (8 * loop .k) rest (search needs), e) at (c .before .before .write-byte2 .ensures .1)
 
 pub write-spec : {M : Type 1} → statement M
 write-spec =

@@ -2,19 +2,18 @@
 use mathlib.Core.Path.{_≡_, sym, _∙_}
 use Prim.Native.Nat.{ℕ, _+_, _*_, _/_, _%_, _^_}
 use native.Mathlib.Omega.{arith}
+use lib.IntN.{pos}
 use Rattle.integers.specs.Positional.{bytesValue}
 use Rattle.integers.specs.Tabulate.{tabulate}
 use Rattle.integers.proofs.Positional.{Below, positional-at}
 use Rattle.integers.proofs.Tabulate.{tabulate-same}
-use Rattle.recoding.specs.Internal.{placeByte, difference}
+use Rattle.signed_digits.specs.Naf.{canonical}
+use Rattle.digit_strings.specs.Places.{placeByte}
+use Rattle.recoding.specs.Internal.{difference}
 use Rattle.recoding.proofs.Triple.{carry-small, carry-step, byte-digit, moreOf, lessOf}
 use borrow.Author.Needs.{needs}
 use Rattle.recoding.proofs.digits.write_byte.Statement.{statement}
 use Rattle.recoding.proofs.digits.write_byte.Tie as tie
-use Rattle.recoding.proofs.digits.write_byte.Reads as reads
-use Rattle.recoding.proofs.digits.write_byte.Lts as lts
-use Rattle.integers.proofs.byte_at.Reads as byte-at-reads
-use Rattle.recoding.proofs.digits.write_differences.Reads as write-differences-reads
 
 byte-at-requires : tie.Need-byte-at-requires
 byte-at-requires c κs = search needs
@@ -68,8 +67,8 @@ returns c =
     let n : next .result ≡ e / 256 ^ (k + 1) % 256 = next .ensures .0 ∙ positional-at 256 number (k + 1) bytes in
     let more : (3 * byte .result + start .args .carry) / 2 + 128 * next .result ≡ moreOf e k = rw (b, n, start .pre .1 .1) in
     let less : byte .result / 2 + 128 * next .result ≡ lessOf e k = rw (b, n) in
-    let table : tabulate (difference (moreOf e k) (lessOf e k)) count ≡ tabulate (λ j. placeByte e (8 * k + j)) count =
-    tabulate-same (difference (moreOf e k) (lessOf e k)) (λ j. placeByte e (8 * k + j)) count (λ j h. sym (byte-digit e k j (omega arith))) in
+    let table : tabulate (difference (moreOf e k) (lessOf e k)) count ≡ tabulate (λ j. placeByte (canonical (pos e)) (8 * k + j)) count =
+    tabulate-same (difference (moreOf e k) (lessOf e k)) (λ j. placeByte (canonical (pos e)) (8 * k + j)) count (λ j h. sym (byte-digit e k j (omega arith))) in
     (rw (b, start .pre .1 .1) (sym (carry-step e k)), rw (more, less, table) at (c .before .before .write-differences .ensures))
 
 pub write-byte-spec : {M : Type 1} → statement M

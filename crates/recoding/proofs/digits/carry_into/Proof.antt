@@ -9,9 +9,6 @@ use Rattle.recoding.proofs.Triple.{carry-none, carry-step}
 use borrow.Author.Needs.{needs}
 use Rattle.recoding.proofs.digits.carry_into.Statement.{statement}
 use Rattle.recoding.proofs.digits.carry_into.Tie as tie
-use Rattle.recoding.proofs.digits.carry_into.Reads as reads
-use Rattle.recoding.proofs.digits.carry_into.Lts as lts
-use Rattle.integers.proofs.byte_at.Reads as byte-at-reads
 
 abbrev Inv-loop : tie.InvT-loop
 Inv-loop number n carry₀ k₀ carry k = (k ≤ n) × (carry ≤ 2) × (carry ≡ tripleCarry (bytesValue number) k)

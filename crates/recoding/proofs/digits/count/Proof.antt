@@ -11,11 +11,6 @@ use Rattle.recoding.proofs.Count.{count-is, count-zero}
 use borrow.Author.Needs.{needs}
 use Rattle.recoding.proofs.digits.count.Statement.{statement}
 use Rattle.recoding.proofs.digits.count.Tie as tie
-use Rattle.recoding.proofs.digits.count.Reads as reads
-use Rattle.recoding.proofs.digits.count.Lts as lts
-use Rattle.integers.proofs.byte_at.Reads as byte-at-reads
-use Rattle.recoding.proofs.digits.carry_into.Reads as carry-into-reads
-use Rattle.integers.proofs.significant.Reads as significant-reads
 
 -- at the end: the count is right, and the subtraction in it does not wrap
 counted : (c : tie.After-carry-into)

@@ -4,9 +4,6 @@ use Rattle.recoding.proofs.Spread.{fits, below, differences-are}
 use borrow.Author.Needs.{needs}
 use Rattle.recoding.proofs.digits.differences.Statement.{statement}
 use Rattle.recoding.proofs.digits.differences.Tie as tie
-use Rattle.recoding.proofs.digits.differences.Reads as reads
-use Rattle.recoding.proofs.digits.differences.Lts as lts
-use Rattle.recoding.proofs.digits.spread.Reads as spread-reads
 
 spread-requires : tie.Need-spread-requires
 spread-requires c κs = search needs

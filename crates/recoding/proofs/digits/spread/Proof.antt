@@ -3,8 +3,6 @@ use Rattle.recoding.proofs.Spread.{spread-is}
 use borrow.Author.Needs.{needs}
 use Rattle.recoding.proofs.digits.spread.Statement.{statement}
 use Rattle.recoding.proofs.digits.spread.Tie as tie
-use Rattle.recoding.proofs.digits.spread.Reads as reads
-use Rattle.recoding.proofs.digits.spread.Lts as lts
 
 mul-halves : tie.Need-mul-halves
 mul-halves c = search needs

@@ -12,9 +12,6 @@ use Rattle.recoding.proofs.Spread.{stored}
 use borrow.Author.Needs.{needs}
 use Rattle.recoding.proofs.digits.write_differences.Statement.{statement}
 use Rattle.recoding.proofs.digits.write_differences.Tie as tie
-use Rattle.recoding.proofs.digits.write_differences.Reads as reads
-use Rattle.recoding.proofs.digits.write_differences.Lts as lts
-use Rattle.recoding.proofs.digits.differences.Reads as differences-reads
 
 abbrev Inv-loop : tie.InvT-loop
 Inv-loop out₀ at count more less bytes j₀ out j = (j ≤ count) × (length out ≡ length out₀) × (out ≡ take at out₀ ++ (tabulate (difference more less) j ++ drop (at + j) out₀))

@@ -17,7 +17,7 @@ use Rattle.signed_digits.proofs.Steps.{rests, Low, even, plus as plus-one, minu
 use Rattle.signed_digits.proofs.Triple.{digit-left}
 use Rattle.recoding.specs.Recode.{recoding, recodeAnswer, recodeBuffer}
 use Rattle.recoding.proofs.Count.{length-recoding}
-use Rattle.recoding.proofs.Outcomes.{done}
+use Rattle.recoding.proofs.Outcomes.{length-answered}
 use Rattle.recoding.proofs.Promises.{recoding-length}
 use Rattle.methods.specs.Forecast.{isPlus, isMinus}
 use Rattle.method_naf.specs.Digits.{mostDigits, lengthIn, Digit, nought, plus, minus, Recoded}
@@ -40,7 +40,7 @@ digit-byte e i = rw (digit-left i e) (go (low (rests 2 i e)))
 module _ (number out : List ℕ) (bytes : Below 256 number) (h : length number ≤ numberBytes) (room : mostDigits ≤ length out) where
   -- so many digits are answered
   all-answered : recodeAnswer number (length out) ≡ Length (length (recoding number))
-  all-answered = done number out (length (recoding number)) refl h (omega (arith, recoding-length number bytes)) .0
+  all-answered = length-answered number out (record { short = h }) (omega (arith, recoding-length number bytes))
 
   pub recoded-there : (after : List ℕ) (n : ℕ) → after ≡ recodeBuffer number out → n ≡ lengthIn (recodeAnswer number (length out)) → Recoded number after n
   unfolding recoding

@@ -1,24 +1,23 @@
--- What document 01 promises of recode, as theorems about the definitions that its statement cites. Assumes nothing.
+-- What the rules promise of recode, as theorems about the definitions that its statement cites. Assumes nothing.
 use mathlib.Core.Path.{_≡_, refl, ap, _∙_}
 use mathlib.Core.Logic.{_↔_}
-use mathlib.Core.Bool.{Bool, true, false}
 use mathlib.Core.List.{List, [], _∷_, _++_}
 use Prim.Native.Nat.{ℕ, _+_, _*_, _<_, _≤_, _^_}
-use borrow.Author.Tests.{lt-ltb, le-ltb, ltb-true, ltb-false}
 use native.Mathlib.Omega.{arith}
-use lib.Dec.{ltb}
 use lib.IntN.{ℤ, pos}
 use lib.ListN.{length, drop, replicate}
 use lib.Pow.{pow-add}
 use Rattle.rules.specs.Limits.{numberBytes}
-use Rattle.rules.specs.Outcome.{Outcome, refused, answered, writtenOutcome}
-use Rattle.rules.specs.Memory.{fitted, leaves}
-use Rattle.rules.specs.declared.Written.{Written}
-use Rattle.rules.specs.declared.Written.the-variants.{Length, Refused}
-use Rattle.rules.proofs.Fitted.{too-small, fits, Fitting, small, fine, fitting}
+use Rattle.rules.specs.declared.Refusal.{Refusal}
+use Rattle.rules.specs.declared.Verdict.the-variants.{Failed}
+use Rattle.rules.specs.Outcome.{Outcome, refused, answered, refusal, writtenOutcome}
+use Rattle.rules.proofs.Memory as memory
+use Rattle.rules.proofs.Memory.{Writes, stopped, no-room, all-fits, writes-only, writes-one}
 use Rattle.integers.specs.Positional.{positional, bytesValue}
 use Rattle.integers.proofs.Positional.{Below, positional-lt, positional-zeros}
 use Rattle.integers.proofs.Bits.{power-of-bytes}
+use Rattle.numbers.specs.Admission.{numberVerdict, Admitted}
+use Rattle.numbers.proofs.Tests.{NumberTest, too-long, number-only, number-test, admitted-is}
 use Rattle.signed_digits.specs.Strings.{value}
 use Rattle.signed_digits.specs.Form.{Canonical}
 use Rattle.signed_digits.specs.Naf.{canonical, naf, digitsOf}
@@ -30,54 +29,55 @@ use Rattle.recoding.proofs.Count.{length-recoding}
 
 -- ---- each refusal is given exactly when the rules say, and no other
 
+-- the value that goes with the length: the length itself
+abbrev values : ℕ → List ℕ
+values n = n ∷ []
+
 module _ (number : List ℕ) (room : ℕ) where
-  -- the outcome, in document 01's numbers
+  -- the outcome, in the rules' numbers
   abbrev pub outcome : Outcome
   outcome = writtenOutcome (recodeAnswer number room)
 
-  data Case : Type 0 where
-    long : numberBytes < length number → outcome ≡ refused 1 0 → Case
-    short : length number ≤ numberBytes → outcome ≡ writtenOutcome (fitted (recoding number) room) → Case
+  -- each outcome, with what led there
+  pub data Given : Outcome → Type 0 where
+    one : numberBytes < length number → Given (refused 1 0)
+    six : {p : ℕ} → Admitted number → room < length (recoding number) → p ≡ length (recoding number) → Given (refused 6 p)
+    fits : {vs : List ℕ} → Admitted number → length (recoding number) ≤ room → vs ≡ length (recoding number) ∷ [] → Given (answered vs)
 
-  case : Case
-  case = go (ltb numberBytes (length number)) refl
+  only : {o : Outcome} → Writes values (numberVerdict number) (recoding number) room o → outcome ≡ o
+  only = writes-only values (numberVerdict number) (recoding number) room
+
+  given-only : {o : Outcome} → Given o → outcome ≡ o
+  given-only (one h) = only (stopped (number-only number (too-long h)))
+  given-only (six a h e) = rw e (only (no-room (admitted-is number .1 a) h))
+  given-only (fits a h e) = rw e (only (all-fits (admitted-is number .1 a) h))
+
+  stops : {r : Refusal} → NumberTest number (Failed r) → Given (refusal r)
+  stops (too-long h) = one h
+
+  -- every outcome is one of these
+  pub no-other : Given outcome
+  no-other = go (writes-one values (numberVerdict number) (recoding number) room)
     where
-      go : (t : Bool) → ltb numberBytes (length number) ≡ t → Case
-      go true e = long (ltb-true _ _ e) (rw e)
-      go false e = short (ltb-false _ _ e) (rw e)
+      go : {o : Outcome} → Writes values (numberVerdict number) (recoding number) room o → Given o
+      go (stopped t) = stops (rw t at (number-test number))
+      go (no-room t h) = six (admitted-is number .0 t) h refl
+      go (all-fits t h) = fits (admitted-is number .0 t) h refl
+
+  given : {o : Outcome} → outcome ≡ o → Given o
+  given e = rw e at no-other
 
   -- 1, place 0: the number is longer than the limit
   pub refuses-1 : outcome ≡ refused 1 0 ↔ numberBytes < length number
-  refuses-1 = (λ e. to case (fitting (recoding number) room) e, λ h. rw (lt-ltb numberBytes (length number) h))
-    where
-      to : Case → Fitting (recoding number) room → outcome ≡ refused 1 0 → numberBytes < length number
-      to (long h o) f e = h
-      to (short h o) (small l p) e = let z : _≡_ {A = ℕ} 6 1 = cc in absurd (omega arith)
-      to (short h o) (fine l p) e = let z : _≡_ {A = ℕ} 6 1 = cc in absurd (omega arith)
+  refuses-1 = (λ e. elim (given e) [ one h ↦ h ], λ h. given-only (one h))
 
   -- 6, place the bytes needed: the digits are more than the bytes lent
-  pub refuses-6 : (p : ℕ) → outcome ≡ refused 6 p ↔ (length number ≤ numberBytes) × (room < length (recoding number)) × (p ≡ length (recoding number))
-  refuses-6 p = (λ e. to case (fitting (recoding number) room) e, λ h. from (h .0) (h .1) (h .2))
-    where
-      to : Case → Fitting (recoding number) room → outcome ≡ refused 6 p → (length number ≤ numberBytes) × (room < length (recoding number)) × (p ≡ length (recoding number))
-      to (long h o) f e = let z : _≡_ {A = ℕ} 6 1 = cc in absurd (omega arith)
-      to (short h o) (small l q) e = (h, l, cc)
-      to (short h o) (fine l q) e = let z : _≡_ {A = ℕ} 6 1 = cc in absurd (omega arith)
-
-      from : length number ≤ numberBytes → room < length (recoding number) → p ≡ length (recoding number) → outcome ≡ refused 6 p
-      from h l e = rw (le-ltb numberBytes (length number) h, too-small (recoding number) room l, e)
+  pub refuses-6 : (p : ℕ) → outcome ≡ refused 6 p ↔ Admitted number × (room < length (recoding number)) × (p ≡ length (recoding number))
+  refuses-6 p = (λ e. elim (given e) [ six a h q ↦ (a, h, q) ], λ h. given-only (six (h .0) (h .1) (h .2)))
 
   -- otherwise the length is answered
-  pub answers : (vs : List ℕ) → outcome ≡ answered vs ↔ (length number ≤ numberBytes) × (length (recoding number) ≤ room) × (vs ≡ length (recoding number) ∷ [])
-  answers vs = (λ e. to case (fitting (recoding number) room) e, λ h. from (h .0) (h .1) (h .2))
-    where
-      to : Case → Fitting (recoding number) room → outcome ≡ answered vs → (length number ≤ numberBytes) × (length (recoding number) ≤ room) × (vs ≡ length (recoding number) ∷ [])
-      to (long h o) f e = let z : _≡_ {A = ℕ} 6 1 = cc in absurd (omega arith)
-      to (short h o) (small l q) e = let z : _≡_ {A = ℕ} 6 1 = cc in absurd (omega arith)
-      to (short h o) (fine l q) e = (h, l, cc)
-
-      from : length number ≤ numberBytes → length (recoding number) ≤ room → vs ≡ length (recoding number) ∷ [] → outcome ≡ answered vs
-      from h l e = rw (le-ltb numberBytes (length number) h, fits (recoding number) room l, e)
+  pub answers : (vs : List ℕ) → outcome ≡ answered vs ↔ Admitted number × (length (recoding number) ≤ room) × (vs ≡ length (recoding number) ∷ [])
+  answers vs = (λ e. elim (given e) [ fits a h q ↦ (a, h, q) ], λ h. given-only (fits (h .0) (h .1) (h .2)))
 
 -- ---- what is written
 
@@ -114,15 +114,9 @@ recoding-length number b =
 
 -- a refusal changes nothing
 pub refused-leaves : (number out : List ℕ) (n p : ℕ) → outcome number (length out) ≡ refused n p → recodeBuffer number out ≡ out
-refused-leaves number out n p e = go (recodeAnswer number (length out)) e
-  where
-    go : (w : Written) → writtenOutcome w ≡ refused n p → leaves w (recoding number) out ≡ out
-    go (Length k) e = let z : _≡_ {A = ℕ} 0 1 = cc in absurd (omega arith)
-    go (Refused r) e = refl
+refused-leaves number out = memory.refused-leaves values (numberVerdict number) (recoding number) out
 
 -- on success the string stands at the start of the buffer, and the bytes above stay
 pub answered-leaves : (number out : List ℕ) (vs : List ℕ) → outcome number (length out) ≡ answered vs
     → recodeBuffer number out ≡ recoding number ++ drop (length (recoding number)) out
-answered-leaves number out vs e =
-    let a = answers number (length out) vs .0 e in
-    rw (le-ltb numberBytes (length number) (a .0), fits (recoding number) (length out) (a .1))
+answered-leaves number out = memory.answered-leaves values (numberVerdict number) (recoding number) out

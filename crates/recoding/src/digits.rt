@@ -8,10 +8,10 @@ ghost use mathlib.Core.List.{_++_};
 ghost use Prim.Native.Nat.{_+_, _*_, _≤_};
 ghost use lib.IntN.{pos};
 ghost use lib.ListN.{length, take, drop};
-ghost use Rattle.rules.specs.Limits.{numberBytes};
 ghost use Rattle.integers.specs.Bits.{bit};
 ghost use Rattle.integers.specs.Positional.{bytesValue};
 ghost use Rattle.integers.specs.Tabulate.{tabulate};
+ghost use Rattle.numbers.specs.Admission.{Admitted};
 ghost use Rattle.signed_digits.specs.Naf.{canonical};
 ghost use Rattle.digit_strings.specs.Places.{placeByte};
 ghost use Rattle.recoding.specs.Recode.{recoding};
@@ -33,7 +33,7 @@ fn carry_into(number: &[u8], n: usize) -> u64
 
 // How many digits the canonical string has: one less than three times the number has in binary.
 pub fn count(number: &[u8]) -> usize
-    requires { ⌜ length (now number) ≤ numberBytes ⌝ }
+    requires { ⌜ Admitted (now number) ⌝ }
     ensures { λ r. ⌜ r ≡ length (recoding (now (number .entry))) ⌝ }
 {
     let n = significant(number);

@@ -1,8 +1,9 @@
 // Recoding a number into its canonical string, the non-adjacent form.
 mod digits;
 
-use rules::NUMBER_BYTES;
+use numbers::number_verdict;
 use rules::Refusal;
+use rules::Verdict;
 use rules::Written;
 ghost use mathlib.Core.Path.{_≡_};
 ghost use lib.ListN.{length};
@@ -13,8 +14,8 @@ pub fn recode(number: &[u8], out: &mut [u8]) -> Written
     ensures answer { λ r. ⌜ r ≡ recodeAnswer (now (number .entry)) (length (now (out .entry))) ⌝ }
     ensures buffer { λ r. ⌜ now (out .exit) ≡ recodeBuffer (now (number .entry)) (now (out .entry)) ⌝ }
 {
-    if NUMBER_BYTES < number.len() {
-        return Written::Refused(Refusal::NumberTooLong);
+    if let Verdict::Failed(refusal) = number_verdict(number) {
+        return Written::Refused(refusal);
     }
     let length = digits::count(number);
     if out.len() < length {

@@ -5,7 +5,6 @@ use mathlib.Core.Bool.{Bool, true, false, not, _&&_}
 use mathlib.Core.List.{List, [], _∷_}
 use Prim.Native.Nat.{ℕ, zero, suc, _+_, _*_, _/_, _%_, _^_, _<_, _≤_}
 use borrow.Author.Tests.{lt-ltb, le-ltb, ne-eqb}
-use native.Mathlib.Nat.{add-mul-mod-self-left}
 use native.Mathlib.Omega.{arith}
 use lib.Dec.{leb, eqb}
 use lib.ListN.{length, getD, take}
@@ -21,7 +20,7 @@ use Rattle.signed_digits.proofs.Steps.{low-digit-2, rest-2, by-four}
 use Rattle.taking.specs.declared.Recoder.{Recoder}
 use Rattle.taking.specs.declared.Start.the-variants.{Ready, Refused}
 use Rattle.taking.specs.declared.Take.the-variants.{Digit, Done}
-use Rattle.taking.specs.Take.{carried, standsFor, takeAnswer, takeLeaves, IsStart, IsTake}
+use Rattle.taking.specs.Take.{standsFor, takeAnswer, takeLeaves, IsStart, IsTake}
 
 -- ---- the byte of the lowest digit, by the remainder modulo 4
 pub byte-at : (n : ℕ) → getD (0 ∷ 1 ∷ 0 ∷ 255 ∷ []) (n % 4) 0 ≡ digitByte (lowDigit 2 n)
@@ -33,12 +32,12 @@ byte-at = by-four _ (λ q. (
 ))
 
 -- the digit depends on that remainder alone
-pub same-digit : (a b : ℕ) → a % 4 ≡ b % 4 → lowDigit 2 a ≡ lowDigit 2 b
+same-digit : (a b : ℕ) → a % 4 ≡ b % 4 → lowDigit 2 a ≡ lowDigit 2 b
 unfolding lowDigit residue
 same-digit a b h = let e : a % 2 ≡ b % 2 = omega arith in rw (e, h)
 
 -- ---- what is left, with the next carry
-pub moved : (v c : ℕ) → c ≤ 1 → rest 2 (v + c) ≡ v / 2 + (v % 4 % 2 + v % 4 / 2 + c) / 2
+moved : (v c : ℕ) → c ≤ 1 → rest 2 (v + c) ≡ v / 2 + (v % 4 % 2 + v % 4 / 2 + c) / 2
 moved v c h = go (v + c) v c refl h
   where
     go : (n v c : ℕ) → v + c ≡ n → c ≤ 1 → rest 2 n ≡ v / 2 + (v % 4 % 2 + v % 4 / 2 + c) / 2
@@ -49,16 +48,12 @@ moved v c h = go (v + c) v c refl h
       λ v c e h. omega (arith, rest-2 q),
     ))
 
-pub carried-half : (m : ℕ) → m ≤ 3 → carried (leb 2 m) ≡ m / 2
-carried-half zero h = refl
-carried-half (suc zero) h = refl
-carried-half (suc (suc zero)) h = refl
-carried-half (suc (suc (suc zero))) h = refl
-carried-half (suc (suc (suc (suc m)))) h = absurd (omega arith)
-
-pub carried-byte : (b : Bool) → boolByte b ≡ carried b
-carried-byte true = refl
-carried-byte false = refl
+carry-half : (m : ℕ) → m ≤ 3 → boolByte (leb 2 m) ≡ m / 2
+carry-half zero h = refl
+carry-half (suc zero) h = refl
+carry-half (suc (suc zero)) h = refl
+carry-half (suc (suc (suc zero))) h = refl
+carry-half (suc (suc (suc (suc m)))) h = absurd (omega arith)
 
 pub one-small : (b : Bool) → boolByte b ≤ 1
 one-small true = omega arith
@@ -69,22 +64,22 @@ low-word : (words : List ℕ) → getD words 0 0 % 4 ≡ wordsValue words % 4
 low-word words = omega (arith, positional-drop (2 ^ 64) words 0)
 
 -- ---- the definitions of a take, where something is left
-pub answer-some : (n : ℕ) → n ≢ 0 → takeAnswer n ≡ Digit (digitByte (lowDigit 2 n))
+answer-some : (n : ℕ) → n ≢ 0 → takeAnswer n ≡ Digit (digitByte (lowDigit 2 n))
 answer-some zero h = absurd (h refl)
 answer-some (suc n) h = refl
 
-pub leaves-some : (n : ℕ) → n ≢ 0 → takeLeaves n ≡ rest 2 n
+leaves-some : (n : ℕ) → n ≢ 0 → takeLeaves n ≡ rest 2 n
 leaves-some zero h = absurd (h refl)
 leaves-some (suc n) h = refl
 
 -- ---- whether a recoder is done
 
-ended : (v : ℕ) (b : Bool) → (eqb v 0 && not b) ≡ true → v + carried b ≡ 0
+ended : (v : ℕ) (b : Bool) → (eqb v 0 && not b) ≡ true → v + boolByte b ≡ 0
 ended zero false h = refl
 ended zero true h = let z : _≡_ {A = ℕ} 0 1 = cc in absurd (omega arith)
 ended (suc v) b h = let z : _≡_ {A = ℕ} 0 1 = cc (rw (ne-eqb (suc v) 0 (λ y. omega arith)) at h) in absurd (omega arith)
 
-going : (v : ℕ) (b : Bool) → (eqb v 0 && not b) ≡ false → v + carried b ≢ 0
+going : (v : ℕ) (b : Bool) → (eqb v 0 && not b) ≡ false → v + boolByte b ≢ 0
 going zero false h z = let y : _≡_ {A = ℕ} 0 1 = cc in omega arith
 going zero true h z = omega arith
 going (suc v) b h z = omega arith
@@ -95,7 +90,7 @@ module _ (r : Recoder) (none : Bool) (is-none : none ≡ eqb (wordsValue (r .wor
   unfolding standsFor
   done-is h =
       let v : ℕ = wordsValue (r .words) in
-      let z : v + carried (r .carry) ≡ 0 = ended v (r .carry) (sym (ap (λ (t : Bool). t && not (r .carry)) is-none) ∙ h) in
+      let z : v + boolByte (r .carry) ≡ 0 = ended v (r .carry) (sym (ap (λ (t : Bool). t && not (r .carry)) is-none) ∙ h) in
       record { answer = rw z; next = rw z; done = λ h. refl }
 
   pub move-is : (digit : ℕ) (half : List ℕ) → let word = getD (r .words) 0 0 in let ones = word % 2 + word / 2 % 2 + boolByte (r .carry) in
@@ -105,18 +100,17 @@ module _ (r : Recoder) (none : Bool) (is-none : none ≡ eqb (wordsValue (r .wor
   unfolding standsFor
   move-is digit half left halves byte =
       let v : ℕ = wordsValue (r .words) in
-      let c : ℕ = carried (r .carry) in
+      let c : ℕ = boolByte (r .carry) in
       let word : ℕ = getD (r .words) 0 0 in
       let ones : ℕ = word % 2 + word / 2 % 2 + c in
-      let e : boolByte (r .carry) ≡ c = carried-byte (r .carry) in
       let small : c ≤ 1 = omega (arith, one-small (r .carry)) in
       let some : v + c ≢ 0 = going v (r .carry) (sym (ap (λ (t : Bool). t && not (r .carry)) is-none) ∙ left) in
       let w : word % 4 ≡ v % 4 = low-word (r .words) in
       let d : lowDigit 2 (word % 4 + c) ≡ lowDigit 2 (v + c) = same-digit (word % 4 + c) (v + c) (omega arith) in
       let m : rest 2 (v + c) ≡ v / 2 + ones / 2 = moved v c small ∙ ap (λ (k : ℕ). v / 2 + k / 2) (sum v c word w) in
       record {
-        answer = rw (byte, e, d) (sym (answer-some (v + c) some));
-        next = rw (e, halves, carried-half ones (omega arith), leaves-some (v + c) some) (sym m);
+        answer = rw (byte, d) (sym (answer-some (v + c) some));
+        next = rw (halves, carry-half ones (omega arith), leaves-some (v + c) some) (sym m);
         done = λ z. absurd (some z);
       }
     where

@@ -1,11 +1,12 @@
 -- Taking digits singly (document 01, "The calls").
 use mathlib.Core.Path.{_≡_}
-use mathlib.Core.Bool.{Bool, true, false, cond}
+use mathlib.Core.Bool.{cond}
 use mathlib.Core.List.{List, [], _∷_}
 use Prim.Native.Nat.{ℕ, zero, suc, _+_}
 use lib.Dec.{ltb}
 use lib.IntN.{pos}
 use lib.ListN.{length}
+use mir.Val.{boolByte}
 use Rattle.rules.specs.Limits.{numberBytes}
 use Rattle.rules.specs.Outcome.{Outcome, answered, refusal}
 use Rattle.rules.specs.declared.Refusal.the-variants.{NumberTooLong}
@@ -22,12 +23,8 @@ use Rattle.taking.specs.declared.Taken.{Taken}
 
 -- The number that a recoder stands for: the value of its words, plus one where it carries. Every recoder stands for one, also one put together by hand:
 -- its digits to come are those of the canonical string of that number.
-abbrev pub carried : Bool → ℕ
-carried true = 1
-carried false = 0
-
 unfoldable pub standsFor : Recoder → ℕ
-standsFor r = wordsValue (r .words) + carried (r .carry)
+standsFor r = wordsValue (r .words) + boolByte (r .carry)
 
 -- the answer at the start, and the number that the recoder handed back stands for: zero after a refusal
 abbrev pub startAnswer : List ℕ → Start

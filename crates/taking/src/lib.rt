@@ -8,7 +8,7 @@ use rules::Refusal;
 ghost use mathlib.Core.Path.{_≡_};
 ghost use Rattle.signed_digits.specs.Naf.{lowDigit};
 ghost use Rattle.signed_digits.specs.Bytes.{digitByte};
-ghost use Rattle.taking.specs.Take.{standsFor, IsStart, IsTake};
+ghost use Rattle.taking.specs.Take.{IsStart, IsTake};
 
 // A recoder stands for the value of its words, least significant first, plus one where it carries.
 pub struct Recoder {
@@ -88,7 +88,7 @@ impl Recoder {
 }
 
 // The byte of the lowest digit of a number: 0, 1, 0, minus 1 by the remainder modulo 4.
-pub fn digit_byte(number: u64) -> u8
+fn digit_byte(number: u64) -> u8
     ensures { λ r. ⌜ r ≡ digitByte (lowDigit 2 number) ⌝ }
 {
     let bytes = [0, 1, 0, 255];

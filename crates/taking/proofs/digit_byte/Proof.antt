@@ -3,8 +3,6 @@ use Rattle.taking.proofs.Moves.{byte-at}
 use borrow.Author.Needs.{needs}
 use Rattle.taking.proofs.digit_byte.Statement.{statement}
 use Rattle.taking.proofs.digit_byte.Tie as tie
-use Rattle.taking.proofs.digit_byte.Reads as reads
-use Rattle.taking.proofs.digit_byte.Lts as lts
 
 array-read-result : tie.Need-array-read-result
 array-read-result c = search needs

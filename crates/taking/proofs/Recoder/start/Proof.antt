@@ -7,9 +7,6 @@ use Rattle.taking.proofs.Moves.{refused-is, ready-is}
 use borrow.Author.Needs.{needs}
 use Rattle.taking.proofs.Recoder.start.Statement.{statement}
 use Rattle.taking.proofs.Recoder.start.Tie as tie
-use Rattle.taking.proofs.Recoder.start.Reads as reads
-use Rattle.taking.proofs.Recoder.start.Lts as lts
-use Rattle.integers.proofs.words_of.Reads as words-of-reads
 
 returns : tie.Need-returns
 unfolding positional

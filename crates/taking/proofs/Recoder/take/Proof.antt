@@ -4,11 +4,6 @@ use Rattle.taking.proofs.Moves.{done-is, move-is, one-small}
 use borrow.Author.Needs.{needs}
 use Rattle.taking.proofs.Recoder.take.Statement.{statement}
 use Rattle.taking.proofs.Recoder.take.Tie as tie
-use Rattle.taking.proofs.Recoder.take.Reads as reads
-use Rattle.taking.proofs.Recoder.take.Lts as lts
-use Rattle.integers.proofs.halved.Reads as halved-reads
-use Rattle.integers.proofs.is_zero.Reads as is-zero-reads
-use Rattle.taking.proofs.digit_byte.Reads as digit-byte-reads
 
 slice-aggregate-is-zero : tie.Need-slice-aggregate-is-zero
 slice-aggregate-is-zero c = search needs

@@ -3,17 +3,20 @@ use mathlib.Core.Path.{_≡_, refl, sym, ap, _∙_}
 use mathlib.Core.Logic.{_≢_}
 use mathlib.Core.Bool.{Bool, true, false, not, _&&_}
 use mathlib.Core.List.{List, [], _∷_}
-use Prim.Native.Nat.{ℕ, zero, suc, _+_, _*_, _/_, _%_, _^_, _<_, _≤_}
-use borrow.Author.Tests.{lt-ltb, le-ltb, ne-eqb}
+use Prim.Native.Nat.{ℕ, zero, suc, _+_, _*_, _/_, _%_, _^_, _≤_}
+use borrow.Author.Tests.{ne-eqb}
 use native.Mathlib.Omega.{arith}
 use lib.Dec.{leb, eqb}
-use lib.ListN.{length, getD, take}
+use lib.ListN.{getD, take}
 use lib.Seq.{take-all}
 use mir.Val.{boolByte}
 use Rattle.rules.specs.Limits.{numberBytes}
-use Rattle.rules.specs.declared.Refusal.the-variants.{NumberTooLong}
+use Rattle.rules.specs.declared.Refusal.{Refusal}
+use Rattle.rules.specs.declared.Verdict.the-variants.{Failed}
 use Rattle.integers.specs.Positional.{bytesValue, wordsValue}
 use Rattle.integers.proofs.Positional.{positional-drop}
+use Rattle.numbers.specs.Admission.{numberVerdict, Admitted}
+use Rattle.numbers.proofs.Tests.{number-only, admitted}
 use Rattle.signed_digits.specs.Naf.{residue, lowDigit, rest}
 use Rattle.signed_digits.specs.Bytes.{digitByte}
 use Rattle.signed_digits.proofs.Steps.{low-digit-2, rest-2, by-four}
@@ -118,16 +121,14 @@ module _ (r : Recoder) (none : Bool) (is-none : none ≡ eqb (wordsValue (r .wor
       sum v c word w = omega arith
 
 -- ---- the two returns of the start
-pub refused-is : (number : List ℕ) (words : List ℕ) → numberBytes < length number → wordsValue words ≡ 0
-    → IsStart number (record { recoder = record { words = words; carry = false }; answer = Refused NumberTooLong })
+pub refused-is : (number words : List ℕ) {r : Refusal} → numberVerdict number ≡ Failed r → wordsValue words ≡ 0
+    → IsStart number (record { recoder = record { words = words; carry = false }; answer = Refused r })
 unfolding standsFor
-refused-is number words h z =
-    let t = lt-ltb numberBytes (length number) h in
-    record { answer = rw t; recoder = rw (t, z) }
+refused-is number words t z = record { answer = rw t; recoder = rw (t, z) }
 
-pub ready-is : (number words : List ℕ) → length number ≤ numberBytes → wordsValue words ≡ bytesValue (take numberBytes number)
+pub ready-is : (number words : List ℕ) → Admitted number → wordsValue words ≡ bytesValue (take numberBytes number)
     → IsStart number (record { recoder = record { words = words; carry = false }; answer = Ready })
 unfolding standsFor
-ready-is number words h e =
-    let t = le-ltb numberBytes (length number) h in
-    record { answer = rw t; recoder = rw t (omega (arith, e, ap bytesValue (take-all numberBytes number h))) }
+ready-is number words a e =
+    let t = number-only number (admitted a) in
+    record { answer = rw t; recoder = rw t (omega (arith, e, ap bytesValue (take-all numberBytes number (a .short)))) }

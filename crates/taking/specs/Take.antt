@@ -1,16 +1,12 @@
--- Taking digits singly (document 01, "The calls").
+-- Taking digits singly (docs/RULES.md, "Calls").
 use mathlib.Core.Path.{_≡_}
-use mathlib.Core.Bool.{cond}
 use mathlib.Core.List.{List, [], _∷_}
 use Prim.Native.Nat.{ℕ, zero, suc, _+_}
-use lib.Dec.{ltb}
 use lib.IntN.{pos}
-use lib.ListN.{length}
 use mir.Val.{boolByte}
-use Rattle.rules.specs.Limits.{numberBytes}
-use Rattle.rules.specs.Outcome.{Outcome, answered, refusal}
-use Rattle.rules.specs.declared.Refusal.the-variants.{NumberTooLong}
+use Rattle.rules.specs.Outcome.{Outcome, answered, done, refusal, unlessFailed}
 use Rattle.integers.specs.Positional.{bytesValue, wordsValue}
+use Rattle.numbers.specs.Admission.{numberVerdict}
 use Rattle.signed_digits.specs.Naf.{lowDigit, rest, canonical}
 use Rattle.signed_digits.specs.Bytes.{digitByte, digitBytes}
 use Rattle.taking.specs.declared.Recoder.{Recoder}
@@ -28,10 +24,10 @@ standsFor r = wordsValue (r .words) + boolByte (r .carry)
 
 -- the answer at the start, and the number that the recoder handed back stands for: zero after a refusal
 abbrev pub startAnswer : List ℕ → Start
-startAnswer number = cond (ltb numberBytes (length number)) (Refused NumberTooLong) Ready
+startAnswer number = unlessFailed Refused (numberVerdict number) Ready
 
 abbrev pub startNumber : List ℕ → ℕ
-startNumber number = cond (ltb numberBytes (length number)) 0 (bytesValue number)
+startNumber number = unlessFailed (λ _. 0) (numberVerdict number) (bytesValue number)
 
 -- what a take answers where the recoder stands for n: the lowest digit, or done where nothing is left
 abbrev pub takeAnswer : ℕ → Take
@@ -54,14 +50,14 @@ pub record IsTake (r : Recoder) (t : Taken) : Type 0 where
   pub next : standsFor (t .next) ≡ takeLeaves (standsFor r)
   pub done : standsFor r ≡ 0 → t .next ≡ r
 
--- the answers in document 01's numbers
+-- the answers in the rules' numbers: ready has no values, a digit has its byte, and done is neither
 abbrev pub startOutcome : Start → Outcome
 startOutcome Ready = answered []
 startOutcome (Refused r) = refusal r
 
 abbrev pub takeOutcome : Take → Outcome
 takeOutcome (Digit d) = answered (d ∷ [])
-takeOutcome Done = answered []
+takeOutcome Done = done
 
 -- takes one after the other: each after the first is of the recoder that the one before handed back
 pub record Run (r : Recoder) (t : ℕ → Taken) : Type 0 where
@@ -73,11 +69,11 @@ unfoldable pub before : Recoder → (ℕ → Taken) → ℕ → Recoder
 before r t zero = r
 before r t (suc k) = t k .next
 
--- what the k-th take answers, by the bytes of a digit string: its digits, lowest first, then done
-abbrev pub digitOrDone : List ℕ → ℕ → Take
-digitOrDone [] k = Done
-digitOrDone (d ∷ ds) zero = Digit d
-digitOrDone (d ∷ ds) (suc k) = digitOrDone ds k
+-- the outcome of the k-th take, by the bytes of a digit string: its digits, lowest first, then done
+abbrev pub digitOutcome : List ℕ → ℕ → Outcome
+digitOutcome [] k = done
+digitOutcome (d ∷ ds) zero = answered (d ∷ [])
+digitOutcome (d ∷ ds) (suc k) = digitOutcome ds k
 
 -- the digits that a recoder stands for, in bytes
 unfoldable pub digitsToCome : Recoder → List ℕ

@@ -2,9 +2,10 @@
 use integers::halved;
 use integers::is_zero;
 use integers::words_of;
-use rules::NUMBER_BYTES;
+use numbers::number_verdict;
 use rules::NUMBER_WORDS;
 use rules::Refusal;
+use rules::Verdict;
 ghost use mathlib.Core.Path.{_≡_};
 ghost use Rattle.signed_digits.specs.Naf.{lowDigit};
 ghost use Rattle.signed_digits.specs.Bytes.{digitByte};
@@ -43,13 +44,13 @@ impl Recoder {
     pub fn start(number: &[u8]) -> Started
         ensures { λ r. ⌜ IsStart (now (number .entry)) r ⌝ }
     {
-        if NUMBER_BYTES < number.len() {
+        if let Verdict::Failed(refusal) = number_verdict(number) {
             return Started {
                 recoder: Recoder {
                     words: [0; NUMBER_WORDS],
                     carry: false,
                 },
-                answer: Start::Refused(Refusal::NumberTooLong),
+                answer: Start::Refused(refusal),
             };
         }
         Started {

@@ -40,7 +40,7 @@ digit-byte e i = rw (digit-left i e) (go (low (rests 2 i e)))
 module _ (number out : List ℕ) (bytes : Below 256 number) (h : length number ≤ numberBytes) (room : mostDigits ≤ length out) where
   -- so many digits are answered
   all-answered : recodeAnswer number (length out) ≡ Length (length (recoding number))
-  all-answered = length-answered number out (record { short = h }) (omega (arith, recoding-length number bytes))
+  all-answered = length-answered number (length out) (record { short = h }) (omega (arith, recoding-length number bytes))
 
   pub recoded-there : (after : List ℕ) (n : ℕ) → after ≡ recodeBuffer number out → n ≡ lengthIn (recodeAnswer number (length out)) → Recoded number after n
   unfolding recoding

@@ -1,8 +1,10 @@
 -- `recoding::digits::write_byte` meets its contract. Assumes nothing.
 use mathlib.Core.Path.{_≡_, sym, _∙_}
+use mathlib.Core.List.{_++_}
 use Prim.Native.Nat.{ℕ, _+_, _*_, _/_, _%_, _^_}
 use native.Mathlib.Omega.{arith}
 use lib.IntN.{pos}
+use lib.ListN.{take, drop}
 use Rattle.integers.specs.Positional.{bytesValue}
 use Rattle.integers.specs.Tabulate.{tabulate}
 use Rattle.integers.proofs.Positional.{Below, positional-at}
@@ -69,7 +71,11 @@ returns c =
     let less : byte .result / 2 + 128 * next .result ≡ lessOf e k = rw (b, n) in
     let table : tabulate (difference (moreOf e k) (lessOf e k)) count ≡ tabulate (λ j. placeByte (canonical (pos e)) (8 * k + j)) count =
     tabulate-same (difference (moreOf e k) (lessOf e k)) (λ j. placeByte (canonical (pos e)) (8 * k + j)) count (λ j h. sym (byte-digit e k j (omega arith))) in
-    (rw (b, start .pre .1 .1) (sym (carry-step e k)), rw (more, less, table) at (c .before .before .write-differences .ensures))
+    let out = start .args .out .now in
+    let written : c .before .before .write-differences .last .0 ≡ take (8 * k) out
+    ++ (tabulate (difference ((3 * byte .result + start .args .carry) / 2 + 128 * next .result) (byte .result / 2 + 128 * next .result)) count ++ drop (8 * k + count) out) =
+    c .before .before .write-differences .ensures in
+    (rw (b, start .pre .1 .1) (sym (carry-step e k)), rw (more, less, table) at written)
 
 pub write-byte-spec : {M : Type 1} → statement M
 write-byte-spec =

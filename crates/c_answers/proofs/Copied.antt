@@ -11,7 +11,6 @@ use lib.Seq.{take-suc, take-suc-set, take-set-le, take-all, getD-set-same}
 use mir.Val.{boolByte}
 use Rattle.rules.specs.Limits.{numberWords}
 use Rattle.integers.specs.Positional.{wordsValue}
-use Rattle.taking.specs.Take.{carried}
 use Rattle.c_answers.specs.Kept.{carriedBy, keptNumber}
 
 -- one word more
@@ -20,18 +19,18 @@ pub copied-more : (from to : List ℕ) (k : ℕ) → k < length from → k < len
 copied-more from to k h l e =
     rw add-one (take-suc-set to k (getD from k 0) l ∙ ap (λ (r : List ℕ). r ++ (getD from k 0 ∷ [])) e ∙ sym (take-suc from k 0 h))
 
-pub carried-from : (n : ℕ) → carried (not (eqb n 0)) ≡ carriedBy n
+pub carried-from : (n : ℕ) → boolByte (not (eqb n 0)) ≡ carriedBy n
 carried-from zero = refl
 carried-from (suc n) = rw (eqb·suc-zero n)
 
-pub carried-by : (b : Bool) → carriedBy (boolByte b) ≡ carried b
+pub carried-by : (b : Bool) → carriedBy (boolByte b) ≡ boolByte b
 carried-by true = refl
 carried-by false = refl
 
 -- the words copied and the last one set
 pub stored : (kept words : List ℕ) (carry : Bool) → length kept ≡ numberWords + 1 → length words ≡ numberWords →
     take numberWords kept ≡ take numberWords words →
-    keptNumber (set kept numberWords (boolByte carry)) ≡ wordsValue words + carried carry
+    keptNumber (set kept numberWords (boolByte carry)) ≡ wordsValue words + boolByte carry
 unfolding keptNumber
 stored kept words carry l m e =
     rw (

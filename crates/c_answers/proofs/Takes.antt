@@ -1,43 +1,48 @@
 -- Takes of a kept recoder one after the other give the canonical digits, lowest first, then done; shown from what the exported calls promise alone.
-use mathlib.Core.Path.{_≡_, sym, ap, _∙_}
-use mathlib.Core.List.{List}
-use Prim.Native.Nat.{ℕ, zero, suc, _<_, _≤_}
-use borrow.Author.Tests.{le-ltb, lt-ltb}
+-- Assumes nothing.
+use mathlib.Core.Path.{_≡_, refl, sym, ap, _∙_}
+use mathlib.Core.List.{List, [], _∷_}
+use Prim.Native.Nat.{ℕ, zero, suc}
 use lib.IntN.{pos}
-use lib.ListN.{length}
-use Rattle.rules.specs.Limits.{numberBytes}
-use Rattle.signed_digits.specs.Naf.{canonical}
-use Rattle.signed_digits.specs.Bytes.{digitBytes}
-use Rattle.signed_digits.proofs.Steps.{naf-zero}
+use Rattle.rules.specs.Outcome.{Outcome, refused, answered, done}
+use Rattle.numbers.specs.Admission.{Admitted}
+use Rattle.signed_digits.specs.Naf.{lowDigit, canonical}
+use Rattle.signed_digits.specs.Bytes.{digitByte, digitBytes}
+use Rattle.signed_digits.proofs.Steps.{naf-zero, low-digit-2, by-four}
 use Rattle.recoding.specs.Recode.{recoding}
-use Rattle.taking.specs.Take.{startNumber, digitOrDone}
+use Rattle.taking.specs.Take.{startAnswer, startNumber, startOutcome, takeAnswer, takeOutcome, digitOutcome}
 use Rattle.taking.proofs.Takes.{digits-of, digits-after}
-use Rattle.c_answers.specs.Kept.{keptNumber, takenNumber, doneNumber, IsKeptTake}
+use Rattle.taking.proofs.Promises.{start-number, refused-number}
+use Rattle.c_answers.specs.Kept.{keptNumber, takenNumber, takenOutcome, IsKeptTake}
 
--- the k-th answer by the canonical digits of a number
-abbrev digitAt : ℕ → ℕ → ℕ
-digitAt n k = takenNumber (digitOrDone (digitBytes (canonical (pos n))) k)
+-- no digit's byte is the number of done
+a-digit : (n : ℕ) → takenOutcome (digitByte (lowDigit 2 n)) ≡ answered (digitByte (lowDigit 2 n) ∷ [])
+a-digit = by-four _ (λ q. (rw (low-digit-2 q .0), rw (low-digit-2 q .1), rw (low-digit-2 q .2), rw (low-digit-2 q .3)))
+
+told : (n : ℕ) → takenOutcome (takenNumber (takeAnswer n)) ≡ takeOutcome (takeAnswer n)
+told zero = refl
+told (suc n) = a-digit (suc n)
+
+-- the k-th outcome by the canonical digits of a number
+abbrev outcomeAt : ℕ → ℕ → Outcome
+outcomeAt n k = digitOutcome (digitBytes (canonical (pos n))) k
 
 -- take k finds the words w k, leaves w (k + 1) and answers a k; also from words put together by hand
 pub kept-takes : (w : ℕ → List ℕ) (a : ℕ → ℕ) → ((k : ℕ) → IsKeptTake (w k) (w (suc k)) (a k)) → (k : ℕ)
-    → a k ≡ takenNumber (digitOrDone (digitBytes (canonical (pos (keptNumber (w 0))))) k)
-kept-takes w a run zero = run 0 .answer ∙ ap takenNumber (sym (digits-of (keptNumber (w 0))))
+    → takenOutcome (a k) ≡ digitOutcome (digitBytes (canonical (pos (keptNumber (w 0))))) k
+kept-takes w a run zero = ap takenOutcome (run 0 .answer) ∙ told (keptNumber (w 0)) ∙ sym (digits-of (keptNumber (w 0)))
 kept-takes w a run (suc k) =
     kept-takes (λ i. w (suc i)) (λ i. a (suc i)) (λ i. run (suc i)) k
-    ∙ ap (λ (n : ℕ). digitAt n k) (run 0 .next)
-    ∙ ap takenNumber (sym (digits-after (keptNumber (w 0)) k))
+    ∙ ap (λ (n : ℕ). outcomeAt n k) (run 0 .next)
+    ∙ sym (digits-after (keptNumber (w 0)) k)
 
 module _ (number : List ℕ) (w : ℕ → List ℕ) (a : ℕ → ℕ) (start : keptNumber (w 0) ≡ startNumber number) (run : (k : ℕ) → IsKeptTake (w k) (w (suc k)) (a k)) where
   -- from lesmutka_start on: the number's digits, then done
-  pub kept-takes-number : length number ≤ numberBytes → (k : ℕ) → a k ≡ takenNumber (digitOrDone (recoding number) k)
+  pub kept-takes-number : Admitted number → (k : ℕ) → takenOutcome (a k) ≡ digitOutcome (recoding number) k
   unfolding recoding
-  kept-takes-number h k =
-      let e = le-ltb numberBytes (length number) h in
-      kept-takes w a run k ∙ ap (λ (n : ℕ). digitAt n k) (start ∙ rw e)
+  kept-takes-number h k = kept-takes w a run k ∙ ap (λ (n : ℕ). outcomeAt n k) (start ∙ start-number number h)
 
   -- after its refusal: done, and nothing else
-  pub kept-takes-refused : numberBytes < length number → (k : ℕ) → a k ≡ doneNumber
-  kept-takes-refused h k =
-      let e = lt-ltb numberBytes (length number) h in
-      let z : keptNumber (w 0) ≡ 0 = start ∙ rw e in
-      kept-takes w a run k ∙ ap (λ (n : ℕ). digitAt n k) z ∙ rw (naf-zero 2)
+  pub kept-takes-refused : (n p : ℕ) → startOutcome (startAnswer number) ≡ refused n p → (k : ℕ) → takenOutcome (a k) ≡ done
+  kept-takes-refused n p e k =
+      kept-takes w a run k ∙ ap (λ (n : ℕ). outcomeAt n k) (start ∙ refused-number number n p e) ∙ rw (naf-zero 2)

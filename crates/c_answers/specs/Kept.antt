@@ -1,9 +1,12 @@
 -- A recoder in words that the caller keeps: the number that it stands for, whatever they hold, and what start and take do to it.
 use Prim.Native.Nat.{ℕ, zero, suc, _+_}
 use mathlib.Core.Path.{_≡_}
-use mathlib.Core.List.{List}
+use mathlib.Core.Bool.{cond}
+use mathlib.Core.List.{List, [], _∷_}
+use lib.Dec.{eqb}
 use lib.ListN.{take, getD}
 use Rattle.rules.specs.Limits.{numberWords}
+use Rattle.rules.specs.Outcome.{Outcome, answered, done}
 use Rattle.integers.specs.Positional.{wordsValue}
 use Rattle.taking.specs.declared.Take.{Take}
 use Rattle.taking.specs.declared.Take.the-variants.{Digit, Done}
@@ -25,6 +28,10 @@ doneNumber = 256
 abbrev pub takenNumber : Take → ℕ
 takenNumber (Digit d) = d
 takenNumber Done = doneNumber
+
+-- the same number as an outcome
+abbrev pub takenOutcome : ℕ → Outcome
+takenOutcome n = cond (eqb n doneNumber) done (answered (n ∷ []))
 
 -- A take of a kept recoder: the answer and the number left go by the number that it stood for, and done leaves every word unchanged.
 pub record IsKeptTake (before after : List ℕ) (r : ℕ) : Type 0 where

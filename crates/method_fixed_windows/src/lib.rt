@@ -4,6 +4,8 @@ use integers::bits_at;
 use integers::byte_at;
 use integers::power_of_two;
 use plan_writing::Cursor;
+use plan_writing::tables::table_counts;
+use plan_writing::tables::write_table;
 use rules::Counts;
 ghost use mathlib.Core.Path.{_≡_};
 ghost use mathlib.Core.Logic.{_≢_};
@@ -17,8 +19,9 @@ ghost use Rattle.integers.specs.Positional.{bytesValue};
 ghost use Rattle.chains.specs.Steps.{planBytesOf};
 ghost use Rattle.chains.specs.Counts.{countsOf};
 ghost use Rattle.methods.specs.PartialPlan.{PartialPlan};
-ghost use Rattle.methods.specs.FixedWindows.{multiples, window, topWindow, atFixedWindow, windowSteps, fixedWindowSteps};
-ghost use Rattle.methods.specs.Forecast.{tableCounts, nonzeroWindows};
+ghost use Rattle.methods.specs.Widths.{fixedWindowBits};
+ghost use Rattle.methods.specs.FixedWindows.{window, topWindow, atFixedWindow, windowSteps, fixedWindowSteps};
+ghost use Rattle.methods.specs.Forecast.{nonzeroWindows};
 ghost use Rattle.plan_writing.specs.Writing.{Writing};
 
 // The value of window i.
@@ -56,24 +59,6 @@ fn table_length(width: usize) -> usize
     power_of_two(width) as usize - 2
 }
 
-// The counts of the first n steps of a table.
-fn table_counts(n: usize) -> Counts
-    ensures { λ r. ⌜ (r ≡ tableCounts n) × (r .doublings ≤ 1) × (r .additions ≤ n) ⌝ }
-{
-    if n == 0 {
-        return Counts {
-            doublings: 0,
-            additions: 0,
-            subtractions: 0,
-        };
-    }
-    Counts {
-        doublings: 1,
-        additions: n - 1,
-        subtractions: 0,
-    }
-}
-
 // The additions of a window of value v: none for zero.
 fn additions_for(v: usize) -> usize
     ensures { λ r. ⌜ (r ≡ cond (eqb v 0) 0 1) × (r ≤ 1) ⌝ }
@@ -100,7 +85,7 @@ fn nonzero_windows(number: &[u8], width: usize, n: usize) -> usize
 pub fn counts(number: &[u8], width: usize) -> Counts
     requires { ⌜ length (now number) ≤ numberBytes ⌝ }
     requires { ⌜ bytesValue (now number) ≢ 0 ⌝ }
-    requires { ⌜ (1 ≤ width) × (width ≤ 6) ⌝ }
+    requires { ⌜ (1 ≤ width) × (width ≤ fixedWindowBits) ⌝ }
     ensures { λ r. ⌜ r ≡ countsOf (fixedWindowSteps (bytesValue (now (number .entry))) width) ⌝ }
 {
     let top = top_window(number, width);
@@ -112,19 +97,6 @@ pub fn counts(number: &[u8], width: usize) -> Counts
         doublings: table.doublings + width * top,
         additions: table.additions + nonzero_windows(number, width, top),
         subtractions: 0,
-    }
-}
-
-// Writes the steps add(i-1, 0) for i = 1 to n.
-fn write_multiples(out: &mut [u8], n: usize)
-    requires { ⌜ stepBytes * n ≤ length (now out) ⌝ }
-    ensures { λ _. ⌜ now (out .exit) ≡ planBytesOf (multiples n) ++ drop (stepBytes * n) (now (out .entry)) ⌝ }
-{
-    let mut c = Cursor::first();
-    let mut i = 0;
-    while i < n {
-        c = c.add_at(out, 0);
-        i += 1;
     }
 }
 
@@ -149,10 +121,9 @@ fn write_windows(number: &[u8], width: usize, top: usize, out: &mut [u8])
     requires { ⌜ stepBytes * length (windowSteps (bytesValue (now number)) width) ≤ length (now out) ⌝ }
     ensures { λ _. ⌜ now (out .exit) ≡ planBytesOf (windowSteps (bytesValue (now (number .entry))) width) ++ drop (length (planBytesOf (windowSteps (bytesValue (now (number .entry))) width))) (now (out .entry)) ⌝ }
 {
-    let table = table_length(width);
-    write_multiples(out, table);
+    let table = write_table(out, table_length(width), 0);
     let mut c = Cursor {
-        steps: table,
+        steps: table.steps,
         latest: window_at(number, width, top) - 1,
     };
     let mut i = top;
@@ -166,7 +137,7 @@ fn write_windows(number: &[u8], width: usize, top: usize, out: &mut [u8])
 pub fn write(number: &[u8], width: usize, out: &mut [u8])
     requires { ⌜ length (now number) ≤ numberBytes ⌝ }
     requires { ⌜ bytesValue (now number) ≢ 0 ⌝ }
-    requires { ⌜ (1 ≤ width) × (width ≤ 6) ⌝ }
+    requires { ⌜ (1 ≤ width) × (width ≤ fixedWindowBits) ⌝ }
     requires { ⌜ stepBytes * length (fixedWindowSteps (bytesValue (now number)) width) ≤ length (now out) ⌝ }
     ensures { λ _. ⌜ now (out .exit) ≡ planBytesOf (fixedWindowSteps (bytesValue (now (number .entry))) width) ++ drop (length (planBytesOf (fixedWindowSteps (bytesValue (now (number .entry))) width))) (now (out .entry)) ⌝ }
 {
@@ -174,6 +145,6 @@ pub fn write(number: &[u8], width: usize, out: &mut [u8])
     if 0 < top {
         write_windows(number, width, top, out);
     } else {
-        write_multiples(out, small_value(number) - 1);
+        write_table(out, small_value(number) - 1, 0);
     }
 }

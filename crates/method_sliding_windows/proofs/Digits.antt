@@ -10,6 +10,7 @@ use lib.Count.{leadingZeros, leading-length}
 use lib.Pow.{pow-pos, pow-add, shr-shr, shl-shr, field, mod-mod-pow}
 use Rattle.integers.specs.Bits.{bit, bitLength}
 use Rattle.integers.proofs.Bits.{bit-length-iff, top-bit, place-down, bit-small, length-from}
+use Rattle.methods.specs.Widths.{slidingWindowBits}
 use Rattle.methods.specs.SlidingWindows.{longest, windowValue}
 use Rattle.methods.proofs.SlidingWindows.{longest-window}
 use Rattle.method_sliding_windows.specs.declared.Window.{Window}
@@ -29,11 +30,11 @@ above-length x j h = rw (div-eq-of-lt {n = x} {m = 2 ^ j} (bit-length-iff x j .0
 pub top-one : (x : ℕ) → 0 < x → bit x (bitLength x - 1) ≡ 1
 top-one x some = omega (arith, place-down x (bitLength x - 1), top-bit x some, bit-small x (bitLength x - 1))
 
--- 64 needs seven digits
-pub seven-digits : (x : ℕ) → 64 ≤ x → 7 ≤ bitLength x
-seven-digits x h = elim (decLe 7 (bitLength x)) [
-  | yes l ↦ l
-  | no l ↦ absurd (omega (arith, bit-length-iff x 6 .0 (omega arith)))
+-- a number with more values below it than a window has, has more bits
+pub more-bits : (x : ℕ) → 2 ^ slidingWindowBits ≤ x → slidingWindowBits < bitLength x
+more-bits x h = elim (decLe (bitLength x) slidingWindowBits) [
+  | yes l ↦ absurd (omega (arith, bit-length-iff x slidingWindowBits .0 l))
+  | no l ↦ omega arith
 ]
 
 module _ (e p : ℕ) where
@@ -107,12 +108,12 @@ module _ (e p : ℕ) where
     pub zeros : (j : ℕ) → suc place ≤ j → j < suc p → bit e j ≡ 0
     pub window : firstIn x d ≡ record { bits = 64 - bitLength x + longest e place d; value = windowValue e place (longest e place d) }
 
-  pub first-in : (d : ℕ) → 1 ≤ d → d ≤ 6 → 64 ≤ x → First d
+  pub first-in : (d : ℕ) → 1 ≤ d → d ≤ slidingWindowBits → 2 ^ slidingWindowBits ≤ x → First d
   first-in d wide narrow big =
       let m : ℕ = bitLength x - 1 in
       let one : bit x m ≡ 1 = top-one x (omega arith) in
       let length : bitLength x ≤ 64 = bit-length-iff x 64 .1 digits-small in
-      let long : 7 ≤ bitLength x = seven-digits x big in
+      let long : slidingWindowBits < bitLength x = more-bits x big in
       let reached : 63 ≤ p + m = reach m one (omega arith) in
       let n : ℕ = p + m - 63 in
       let at : p + m ≡ n + 63 = omega arith in
@@ -133,7 +134,7 @@ module _ (e p : ℕ) where
       ]
 
 -- from the top bit down the digits begin with a window
-module _ (e d : ℕ) (some : 0 < e) (wide : 1 ≤ d) (narrow : d ≤ 6) where
+module _ (e d : ℕ) (some : 0 < e) (wide : 1 ≤ d) (narrow : d ≤ slidingWindowBits) where
   abbrev n : ℕ
   n = bitLength e - 1
 
@@ -144,7 +145,7 @@ module _ (e d : ℕ) (some : 0 < e) (wide : 1 ≤ d) (narrow : d ≤ 6) where
   unfolding bit
   high = omega (arith, bit-above e n 63 n (omega arith) (omega arith) ∙ top-one e some)
 
-  pub start-large : 64 ≤ y
+  pub start-large : 2 ^ slidingWindowBits ≤ y
   start-large = omega (arith, high)
 
   full : bitLength y ≡ 64

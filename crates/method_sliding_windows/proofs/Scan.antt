@@ -2,7 +2,7 @@
 use mathlib.Core.Path.{_≡_, refl, sym, ap, subst, _∙_}
 use mathlib.Core.Logic.{_≢_}
 use mathlib.Core.List.{List, _++_}
-use Prim.Native.Nat.{ℕ, zero, suc, _+_, _*_, _-_, _%_, _<_, _≤_}
+use Prim.Native.Nat.{ℕ, zero, suc, _+_, _*_, _-_, _%_, _^_, _<_, _≤_}
 use borrow.Author.Tests.{eq-eqb, ne-eqb}
 use native.Mathlib.Decide.{ℕ-discrete}
 use native.Mathlib.Nat.{zero-add, add-zero, suc-add, lt-of-lt-of-le}
@@ -20,11 +20,16 @@ use Rattle.chains.specs.Steps.{Step, planBytesOf}
 use Rattle.chains.specs.Counts.{counts, countsOf, total}
 use Rattle.chains.proofs.Bytes.{length-plan}
 use Rattle.methods.specs.PartialPlan.{PartialPlan, none, double, doubled, addAt}
-use Rattle.methods.specs.SlidingWindows.{oddTable, oddPosition, tableLength, longest, windowValue, slide, scanFrom, slidingWindowSteps}
-use Rattle.methods.specs.Forecast.{tableCounts, laterWindows, scanCounts, slidingWindowCounts}
+use Rattle.methods.specs.Widths.{slidingWindowBits}
+use Rattle.methods.specs.Tables.{tableCounts}
+use Rattle.methods.specs.OddMultiples.{oddTable, oddPosition, tableLength}
+use Rattle.methods.specs.SlidingWindows.{longest, windowValue, slide, scanFrom, slidingWindowSteps}
+use Rattle.methods.specs.Forecast.{laterWindows, scanCounts, slidingWindowCounts}
 use Rattle.methods.proofs.Counted.{length-counted}
 use Rattle.methods.proofs.Laws.{length-followed, length-doubled}
-use Rattle.methods.proofs.SlidingWindows.{Entry, scan-fuel, slide-grows, belowWindow, top, longest-window, window-entry, first-window, first-value, whole-entry, entry-whole, entry-or-scan, no-subtractions, length-table, sliding-short, sliding-counts}
+use Rattle.methods.proofs.Tables.{no-subtractions}
+use Rattle.methods.proofs.OddMultiples.{odd-length, Entry}
+use Rattle.methods.proofs.SlidingWindows.{scan-fuel, slide-grows, belowWindow, top, longest-window, window-entry, first-window, first-value, whole-entry, entry-whole, entry-or-scan, sliding-short, sliding-counts}
 use Rattle.plan_writing.specs.declared.Cursor.{Cursor}
 use Rattle.plan_writing.specs.Writing.{Writing}
 use Rattle.method_sliding_windows.specs.declared.Window.{Window}
@@ -97,9 +102,9 @@ module _ (e d : ℕ) (wide : 1 ≤ d) where
         let same = scan-fuel e d wide n (suc n - l) (suc n - l) (addAt (oddPosition v) (doubled l b)) (omega arith) (omega arith) in
         rw (eq-eqb (bit e n) 1 one) (same .1, ap suc (same .0))
 
-    turn-window : (z : ℕ) → Zeros e (suc n) (suc n + z) → d ≤ 6 → Turn e d (suc n + z) (record { bits = z + l; value = v })
+    turn-window : (z : ℕ) → Zeros e (suc n) (suc n + z) → Turn e d (suc n + z) (record { bits = z + l; value = v })
     unfolding atSlidingWindow
-    turn-window z zeros narrow =
+    turn-window z zeros =
         let w = longest-window e n d one wide in
         let entry = window-entry w in
         let left : suc n + z - (z + l) ≡ suc n - l = omega (arith, w .within) in
@@ -107,7 +112,6 @@ module _ (e d : ℕ) (wide : 1 ≤ d) where
         record {
           some = omega (arith, w .some);
           within = omega (arith, w .within);
-          small = lt-of-lt-of-le (entry .narrow) (pow-mono {j = 6} narrow);
           steps = λ b. rw (left, ne-eqb (v % 2) 0 odd, ← doubled-more z l b) (over-zeros z (suc n) zeros b .0 ∙ at-one (doubled z b) .0);
           windows = rw left (omega (arith, over-zeros z (suc n) zeros none .1, at-one none .1, entry .odd));
         }
@@ -120,24 +124,23 @@ module _ (e d : ℕ) (wide : 1 ≤ d) where
       record {
         some = some;
         within = within;
-        small = omega arith;
         steps = λ b. rw s at (over b .0);
         windows = omega (arith, rw s at (over none .1));
       }
 
   -- the same of the 64 digits x from place i - 1 down
-  module _ (narrow : d ≤ 6) (i : ℕ) (more : 1 ≤ i) (x : ℕ) (digits : x ≡ bitsDown e (i - 1)) where
-    pub next-zeros : (k : ℕ) → x < 64 → 1 ≤ k → k ≤ i → k ≤ 58 → Turn e d i (record { bits = k; value = 0 })
+  module _ (narrow : d ≤ slidingWindowBits) (i : ℕ) (more : 1 ≤ i) (x : ℕ) (digits : x ≡ bitsDown e (i - 1)) where
+    pub next-zeros : (k : ℕ) → x < 2 ^ slidingWindowBits → 1 ≤ k → k ≤ i → k ≤ 64 - slidingWindowBits → Turn e d i (record { bits = k; value = 0 })
     next-zeros k low some within few =
-        turn-zeros i k some within (λ j h l. digits-zero e (i - 1) j (j + 63 - (i - 1)) (omega arith) (omega arith) (bit-length-iff (bitsDown e (i - 1)) (j + 63 - (i - 1)) .1 (lt-of-lt-of-le (rw digits at low) (pow-mono {i = 6} (omega arith)))))
+        turn-zeros i k some within (λ j h l. digits-zero e (i - 1) j (j + 63 - (i - 1)) (omega arith) (omega arith) (bit-length-iff (bitsDown e (i - 1)) (j + 63 - (i - 1)) .1 (lt-of-lt-of-le (rw digits at low) (pow-mono {i = slidingWindowBits} (omega arith)))))
 
-    pub next-window : 64 ≤ x → Turn e d i (firstIn x d)
+    pub next-window : 2 ^ slidingWindowBits ≤ x → Turn e d i (firstIn x d)
     next-window big =
         let f = first-in e (i - 1) d wide narrow (rw digits at big) in
         let n : ℕ = f .place in
         let z : ℕ = 64 - bitLength (bitsDown e (i - 1)) in
         let s : i ≡ suc n + z = omega (arith, f .below) in
-        let t = turn-window n (f .one) z (λ j h l. f .zeros j h (omega arith)) narrow in
+        let t = turn-window n (f .one) z (λ j h l. f .zeros j h (omega arith)) in
         rw (digits, f .window) (subst (λ (k : ℕ). Turn e d k (record { bits = z + longest e n d; value = windowValue e n (longest e n d) })) (sym s) t)
 
 -- ---- a loop that writes: what is written so far, and that the places below i will give the rest
@@ -214,7 +217,7 @@ module _ (e d : ℕ) (some : 0 < e) (wide : 1 ≤ d) where
     -- the table is among all steps
     pub table-room : s .table ≤ length (slidingWindowSteps e d)
     table-room =
-        omega (arith, slide-grows e d wide (s .below) (s .below) (begun s) (omega arith), ap length steps-start, length-table (s .table))
+        omega (arith, slide-grows e d wide (s .below) (s .below) (begun s) (omega arith), ap length steps-start, odd-length (s .table))
 
     -- a loop that writes from here on writes all
     pub sliding-all : (lent here : List ℕ) (c : Cursor) (i : ℕ) → Sliding lent here c e d i (steps-from e d s) → Sliding lent here c e d i (slidingWindowSteps e d)
@@ -225,6 +228,6 @@ module _ (e d : ℕ) (some : 0 < e) (wide : 1 ≤ d) where
       pub counted : counts (t .doublings + s .below) (t .additions + windows) 0 ≡ countsOf (slidingWindowSteps e d)
       counted = sym (sliding-counts e d some wide ∙ rw (table, later, start ∙ started) (by-start .1))
 
-      pub few : (n : ℕ) → bitLength e ≤ n → d ≤ 6 → (t .doublings + s .below) + (t .additions + windows) ≤ 64 + 2 * n
+      pub few : (n : ℕ) → bitLength e ≤ n → d ≤ slidingWindowBits → (t .doublings + s .below) + (t .additions + windows) ≤ 2 ^ slidingWindowBits + 2 * n
       few n h narrow =
-          omega (arith, ap total counted, length-counted (slidingWindowSteps e d), sliding-short e d some wide, pow-mono {i = d} {j = 6} narrow)
+          omega (arith, ap total counted, length-counted (slidingWindowSteps e d), sliding-short e d some wide, pow-mono {i = d} {j = slidingWindowBits} narrow)

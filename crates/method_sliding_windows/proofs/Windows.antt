@@ -11,10 +11,11 @@ use lib.Count.{leadingZeros, trailingZeros}
 use lib.Pow.{shr-lt, shr-shr, field}
 use Rattle.integers.specs.Bits.{bit, bitLength}
 use Rattle.integers.proofs.Bits.{bit-small, bit-length-iff}
+use Rattle.methods.specs.Widths.{slidingWindowBits}
 use Rattle.methods.specs.SlidingWindows.{longest, windowValue}
 use Rattle.methods.proofs.SlidingWindows.{low-bit}
 use Rattle.method_sliding_windows.specs.Scan.{firstIn}
-use Rattle.method_sliding_windows.proofs.Digits.{leading-bits, top-one, seven-digits}
+use Rattle.method_sliding_windows.proofs.Digits.{leading-bits, top-one, more-bits}
 
 module _ (e n : ℕ) where
   -- the t trailing zeros of l bits are not in the window
@@ -80,7 +81,7 @@ module _ (e n d b : ℕ) (one : bit e n ≡ 1) (wide : 1 ≤ d) (few : d ≤ 64)
   window-value = ap (λ (x : ℕ). x / 2 ^ trailingZeros 64 b) read ∙ all .value ∙ ap (λ (l : ℕ). windowValue e n l) (sym window-bits)
 
 -- of 64 digits, by their leading zeros
-module _ (x d : ℕ) (big : 64 ≤ x) (small : x < 2 ^ 64) (wide : 1 ≤ d) (narrow : d ≤ 6) where
+module _ (x d : ℕ) (big : 2 ^ slidingWindowBits ≤ x) (small : x < 2 ^ 64) (wide : 1 ≤ d) (narrow : d ≤ slidingWindowBits) where
   abbrev zeros : ℕ
   zeros = leadingZeros 64 x
 
@@ -90,8 +91,8 @@ module _ (x d : ℕ) (big : 64 ≤ x) (small : x < 2 ^ 64) (wide : 1 ≤ d) (nar
   abbrev trailing : ℕ
   trailing = trailingZeros 64 read
 
-  pub zeros-few : (zeros + bitLength x ≡ 64) × (7 ≤ bitLength x)
-  zeros-few = (leading-bits x (omega arith) small, seven-digits x big)
+  pub zeros-few : (zeros + bitLength x ≡ 64) × (slidingWindowBits < bitLength x)
+  zeros-few = (leading-bits x (omega arith) small, more-bits x big)
 
   reads : read ≡ windowValue x (bitLength x - 1) d
   reads =

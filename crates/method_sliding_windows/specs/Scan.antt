@@ -1,12 +1,13 @@
 -- Method 3 as a scan takes it: the zeros from a place down and the window below them at once.
 use mathlib.Core.Path.{_≡_}
-use Prim.Native.Nat.{ℕ, suc, _+_, _*_, _-_, _/_, _%_, _^_, _<_, _≤_}
+use Prim.Native.Nat.{ℕ, suc, _+_, _*_, _-_, _/_, _%_, _^_, _≤_}
 use mathlib.Core.Bool.{cond}
 use lib.Dec.{eqb}
 use Rattle.integers.specs.Bits.{bitLength}
 use Rattle.methods.specs.PartialPlan.{PartialPlan, doubled, addAt}
 use Rattle.methods.specs.Forecast.{laterWindows}
-use Rattle.methods.specs.SlidingWindows.{oddPosition, tableLength, longest, windowValue, slide}
+use Rattle.methods.specs.OddMultiples.{oddPosition, tableLength}
+use Rattle.methods.specs.SlidingWindows.{longest, windowValue, slide}
 use Rattle.method_sliding_windows.specs.declared.Window.{Window}
 use Rattle.method_sliding_windows.specs.declared.Start.{Start}
 
@@ -30,7 +31,6 @@ atSlidingWindow w b = cond (eqb (w .value % 2) 0) (doubled (w .bits) b) (addAt (
 pub record Turn (e d i : ℕ) (w : Window) : Type 0 where
   pub some : 1 ≤ w .bits
   pub within : w .bits ≤ i
-  pub small : w .value < 64
   pub steps : (b : PartialPlan) → slide e d i i b ≡ slide e d (i - w .bits) (i - w .bits) (atSlidingWindow w b)
   pub windows : laterWindows e d i i ≡ w .value % 2 + laterWindows e d (i - w .bits) (i - w .bits)
 

@@ -1,14 +1,18 @@
 // Method 3, sliding windows of at most `width` bits: its steps counted, and written.
 use integers::bit_length;
 use integers::bits_down;
-use integers::power_of_two;
 use integers::words_of;
+use methods::SLIDING_WINDOW_BITS;
 use plan_writing::Cursor;
+use plan_writing::tables::position;
+use plan_writing::tables::table_counts;
+use plan_writing::tables::table_length;
+use plan_writing::tables::write_table;
 use rules::Counts;
 ghost use mathlib.Core.Path.{_≡_};
 ghost use mathlib.Core.Logic.{_≢_};
 ghost use mathlib.Core.List.{List, _++_};
-ghost use Prim.Native.Nat.{ℕ, _+_, _*_, _-_, _%_, _≤_, _<_};
+ghost use Prim.Native.Nat.{ℕ, _+_, _*_, _-_, _%_, _^_, _≤_, _<_};
 ghost use lib.ListN.{length, drop};
 ghost use Rattle.rules.specs.Limits.{numberBytes, stepBytes};
 ghost use Rattle.integers.specs.Bits.{bitLength};
@@ -16,10 +20,17 @@ ghost use Rattle.integers.specs.Positional.{bytesValue, wordsValue};
 ghost use Rattle.chains.specs.Steps.{planBytesOf};
 ghost use Rattle.chains.specs.Counts.{countsOf};
 ghost use Rattle.methods.specs.PartialPlan.{PartialPlan};
-ghost use Rattle.methods.specs.SlidingWindows.{tableStep, oddTable, oddPosition, tableLength, slidingWindowSteps};
-ghost use Rattle.methods.specs.Forecast.{tableCounts, laterWindows};
+ghost use Rattle.methods.specs.Widths.{slidingWindowBits};
+ghost use Rattle.methods.specs.SlidingWindows.{slidingWindowSteps};
+ghost use Rattle.methods.specs.Forecast.{laterWindows};
 ghost use Rattle.plan_writing.specs.Writing.{Writing};
 ghost use Rattle.method_sliding_windows.specs.Scan.{firstIn, atSlidingWindow, Turn, tableSteps, startOf};
+
+// As many values have the bits of a widest window.
+const WINDOW_VALUES: u64 = 1 << SLIDING_WINDOW_BITS;
+
+// Of the 64 digits that are read at once, those above the lowest such window.
+const DIGITS_ABOVE: usize = 64 - SLIDING_WINDOW_BITS;
 
 // What the scan takes at once: the zeros from a place down and the window below them, with its
 // value; or zeros alone, and 0.
@@ -39,8 +50,8 @@ struct Start {
 // Of the 64 digits from a place down, the zeros down to the highest 1 and the window that begins
 // there. A window ends in 1: the zeros below its last 1 are not in it.
 fn window_in(digits: u64, width: usize) -> Window
-    requires { ⌜ 64 ≤ digits ⌝ }
-    requires { ⌜ (1 ≤ width) × (width ≤ 6) ⌝ }
+    requires { ⌜ 2 ^ slidingWindowBits ≤ digits ⌝ }
+    requires { ⌜ (1 ≤ width) × (width ≤ slidingWindowBits) ⌝ }
     ensures { λ r. ⌜ r ≡ firstIn digits width ⌝ }
 {
     let zeros = u64::leading_zeros(digits) as usize;
@@ -55,19 +66,23 @@ fn window_in(digits: u64, width: usize) -> Window
 // As many zeros as are seen where no window is whole: of 64 digits, all but those of a window.
 fn zeros_above(place: usize) -> usize
     requires { ⌜ 1 ≤ place ⌝ }
-    ensures { λ r. ⌜ (1 ≤ r) × (r ≤ place) × (r ≤ 58) ⌝ }
+    ensures { λ r. ⌜ (1 ≤ r) × (r ≤ place) × (r ≤ 64 - slidingWindowBits) ⌝ }
 {
-    if place < 58 { place } else { 58 }
+    if place < DIGITS_ABOVE {
+        place
+    } else {
+        DIGITS_ABOVE
+    }
 }
 
 // What the scan takes below a place.
 fn next_window(words: &[u64], place: usize, width: usize) -> Window
     requires { ⌜ 1 ≤ place ⌝ }
-    requires { ⌜ (1 ≤ width) × (width ≤ 6) ⌝ }
+    requires { ⌜ (1 ≤ width) × (width ≤ slidingWindowBits) ⌝ }
     ensures { λ r. ⌜ Turn (wordsValue (now (words .entry))) width place r ⌝ }
 {
     let digits = bits_down(words, place - 1);
-    if digits < 64 {
+    if digits < WINDOW_VALUES {
         return Window {
             bits: zeros_above(place),
             value: 0,
@@ -76,34 +91,10 @@ fn next_window(words: &[u64], place: usize, width: usize) -> Window
     window_in(digits, width)
 }
 
-// The position at which the table holds an odd value.
-fn position(value: u64) -> usize
-    requires { ⌜ value < 64 ⌝ }
-    ensures { λ r. ⌜ r ≡ oddPosition value ⌝ }
-{
-    if value == 1 {
-        0
-    } else {
-        ((value + 1) / 2) as usize
-    }
-}
-
-// How many steps the whole table has.
-fn table_length(width: usize) -> usize
-    requires { ⌜ width ≤ 6 ⌝ }
-    ensures { λ r. ⌜ r ≡ tableLength width ⌝ }
-{
-    if width < 2 {
-        0
-    } else {
-        power_of_two(width - 1) as usize
-    }
-}
-
 // How many steps of the table come before the scan. With nothing below the first window, the number
 // is odd and below 2 to the power of the width, and the table stops at it.
 fn table_steps(below: usize, at: usize, width: usize) -> usize
-    requires { ⌜ width ≤ 6 ⌝ }
+    requires { ⌜ width ≤ slidingWindowBits ⌝ }
     ensures { λ r. ⌜ r ≡ tableSteps below at width ⌝ }
 {
     if below == 0 { at } else { table_length(width) }
@@ -114,7 +105,7 @@ fn start_of(words: &[u64], n: usize, width: usize) -> Start
     requires { ⌜ wordsValue (now words) ≢ 0 ⌝ }
     requires { ⌜ n ≡ bitLength (wordsValue (now words)) - 1 ⌝ }
     requires { ⌜ n < 8 * numberBytes ⌝ }
-    requires { ⌜ (1 ≤ width) × (width ≤ 6) ⌝ }
+    requires { ⌜ (1 ≤ width) × (width ≤ slidingWindowBits) ⌝ }
     ensures { λ r. ⌜ r ≡ startOf (wordsValue (now (words .entry))) width ⌝ }
 {
     let window = window_in(bits_down(words, n), width);
@@ -129,7 +120,7 @@ fn start_of(words: &[u64], n: usize, width: usize) -> Start
 
 // How many windows the scan meets below a place.
 fn later_windows(words: &[u64], below: usize, width: usize) -> usize
-    requires { ⌜ (1 ≤ width) × (width ≤ 6) ⌝ }
+    requires { ⌜ (1 ≤ width) × (width ≤ slidingWindowBits) ⌝ }
     ensures { λ r. ⌜ r ≡ laterWindows (wordsValue (now (words .entry))) width below below ⌝ }
 {
     let mut windows: usize = 0;
@@ -142,31 +133,12 @@ fn later_windows(words: &[u64], below: usize, width: usize) -> usize
     windows
 }
 
-// The counts of the first steps of the table.
-fn table_counts(size: usize) -> Counts
-    ensures { λ r. ⌜ r ≡ tableCounts size ⌝ }
-{
-    if size == 0 {
-        Counts {
-            doublings: 0,
-            additions: 0,
-            subtractions: 0,
-        }
-    } else {
-        Counts {
-            doublings: 1,
-            additions: size - 1,
-            subtractions: 0,
-        }
-    }
-}
-
 // The counts of the steps for a number above zero: those of the table, a doubling for each bit
 // below the first window, an addition for each later window.
 pub fn counts(number: &[u8], width: usize) -> Counts
     requires { ⌜ length (now number) ≤ numberBytes ⌝ }
     requires { ⌜ bytesValue (now number) ≢ 0 ⌝ }
-    requires { ⌜ (1 ≤ width) × (width ≤ 6) ⌝ }
+    requires { ⌜ (1 ≤ width) × (width ≤ slidingWindowBits) ⌝ }
     ensures { λ r. ⌜ r ≡ countsOf (slidingWindowSteps (bytesValue (now (number .entry))) width) ⌝ }
 {
     let words = words_of(number);
@@ -180,30 +152,8 @@ pub fn counts(number: &[u8], width: usize) -> Counts
     }
 }
 
-// What step i of the table, counted from 0, adds to the latest.
-fn second(i: usize) -> usize
-    ensures { λ r. ⌜ r ≡ tableStep i .second ⌝ }
-{
-    if i < 2 { 0 } else { 1 }
-}
-
-// Writes the first steps of the table.
-fn write_table(out: &mut [u8], size: usize) -> Cursor
-    requires { ⌜ stepBytes * size ≤ length (now out) ⌝ }
-    ensures { λ r. ⌜ Writing (now (out .entry)) (now (out .exit)) r (record { steps = oddTable size; latest = size }) ⌝ }
-{
-    let mut c = Cursor::first();
-    let mut i: usize = 0;
-    while i < size {
-        c = c.add_at(out, second(i));
-        i += 1;
-    }
-    c
-}
-
 // The steps of what the scan takes at a place.
 fn at_window(c: Cursor, out: &mut [u8], w: Window) -> Cursor
-    requires { ⌜ w .value < 64 ⌝ }
     requires { ⌜ stepBytes * (c .steps + w .bits + w .value % 2) ≤ length (now out) ⌝ }
     ensures { λ r. ⌜ (r .steps ≡ c .steps + w .bits + w .value % 2) × ((lent : List ℕ) (b : PartialPlan) → Writing lent (now (out .entry)) c b → Writing lent (now (out .exit)) r (atSlidingWindow w b)) ⌝ }
 {
@@ -220,13 +170,13 @@ fn at_window(c: Cursor, out: &mut [u8], w: Window) -> Cursor
 pub fn write(number: &[u8], width: usize, out: &mut [u8])
     requires { ⌜ length (now number) ≤ numberBytes ⌝ }
     requires { ⌜ bytesValue (now number) ≢ 0 ⌝ }
-    requires { ⌜ (1 ≤ width) × (width ≤ 6) ⌝ }
+    requires { ⌜ (1 ≤ width) × (width ≤ slidingWindowBits) ⌝ }
     requires { ⌜ stepBytes * length (slidingWindowSteps (bytesValue (now number)) width) ≤ length (now out) ⌝ }
     ensures { λ _. ⌜ now (out .exit) ≡ planBytesOf (slidingWindowSteps (bytesValue (now (number .entry))) width) ++ drop (length (planBytesOf (slidingWindowSteps (bytesValue (now (number .entry))) width))) (now (out .entry)) ⌝ }
 {
     let words = words_of(number);
     let start = start_of(&words, bit_length(number) - 1, width);
-    let table = write_table(out, start.table);
+    let table = write_table(out, start.table, 1);
     let mut c = Cursor {
         steps: table.steps,
         latest: start.position,

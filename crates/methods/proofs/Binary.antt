@@ -9,6 +9,7 @@ use lib.Arith.{bin-ind}
 use lib.ListN.{length}
 use lib.Count.{ones, onesIn, ones-step}
 use lib.Pow.{shr-shr}
+use Rattle.rules.specs.Limits.{planSteps}
 use Rattle.chains.specs.Steps.{add}
 use Rattle.chains.specs.Counts.{counts, countsOf}
 use Rattle.methods.specs.PartialPlan.{PartialPlan, none, double, downFrom}
@@ -16,7 +17,7 @@ use Rattle.integers.specs.Bits.{bit, bitLength}
 use Rattle.methods.specs.Binary.{atBit, binarySteps}
 use Rattle.integers.proofs.Bits.{top-bit, above-top, place-down, bit-small, quotient-none}
 use Rattle.methods.proofs.Counted.{countsIn, counts-double, counts-add, not-before}
-use Rattle.methods.proofs.Laws.{Small, quotient-small, Holds, Made, none-holds, one-stands, double-holds, double-add, latest-followed, length-followed, down-from, made}
+use Rattle.methods.proofs.Laws.{Small, small-below, quotient-small, Holds, Made, Fit, Plannable, plannable-small, none-holds, one-stands, double-holds, double-add, latest-followed, length-followed, down-from, made}
 
 ones-place : (e i : ℕ) → e / 2 ^ i % 2 + ones (e / 2 ^ i / 2) ≡ bit e i + ones (e / 2 ^ suc i)
 unfolding bit
@@ -107,3 +108,13 @@ module _ (e : ℕ) (some : 0 < e) (small : Small e) where
   pub binary-counts : countsOf (binarySteps e) ≡ counts (bitLength e - 1) (ones e - 1) 0
   unfolding binarySteps
   binary-counts = rw (quotient-none e, sub-zero) at (all .counted)
+
+module _ (e : ℕ) (plannable : Plannable e) where
+  small : Small e
+  small = small-below e (e + 1) (omega arith) (plannable-small plannable)
+
+  pub binary-few : length (binarySteps e) ≤ planSteps
+  binary-few = omega (arith, binary-short e (plannable .some) small, plannable .bits)
+
+  pub binary-fit : Fit (binarySteps e) e
+  binary-fit = record { made = binary-made e (plannable .some) small; few = binary-few }

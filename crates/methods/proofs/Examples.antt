@@ -10,12 +10,14 @@ use Rattle.chains.specs.Values.{valuesOf, extend, stepValue, endOf}
 use Rattle.methods.specs.PartialPlan.{followed, doubled, downFrom}
 use Rattle.integers.specs.Bits.{bit, lengthUpTo, bitLength}
 use Rattle.methods.specs.Binary.{binarySteps}
-use Rattle.methods.specs.FixedWindows.{multiples, windowSteps, fixedWindowSteps}
-use Rattle.methods.specs.SlidingWindows.{oddTable, longest, slide, slidingWindowSteps}
+use Rattle.methods.specs.Widths.{fixedWindowBits}
+use Rattle.methods.specs.Tables.{tableBy}
+use Rattle.methods.specs.FixedWindows.{windowSteps, fixedWindowSteps}
+use Rattle.methods.specs.SlidingWindows.{longest, slide, slidingWindowSteps}
 use Rattle.methods.specs.NonAdjacentForm.{digitSteps, nafSteps}
 
 pub steps-for-43 : (length (binarySteps 43) ≡ 8) × (length (fixedWindowSteps 43 2) ≡ 8) × (length (slidingWindowSteps 43 3) ≡ 8) × (length (nafSteps 43) ≡ 9)
-unfolding binarySteps fixedWindowSteps slidingWindowSteps nafSteps windowSteps multiples oddTable longest slide digitSteps followed doubled downFrom lengthUpTo bitLength bit residue lowDigit rest digitsOf naf
+unfolding binarySteps fixedWindowSteps slidingWindowSteps nafSteps windowSteps tableBy longest slide digitSteps followed doubled downFrom lengthUpTo bitLength bit residue lowDigit rest digitsOf naf
 steps-for-43 = (refl, refl, refl, refl)
 
 pub naf-values-for-43 : valuesOf (nafSteps 43) ≡ map pos (1 ∷ 2 ∷ 4 ∷ 3 ∷ 6 ∷ 12 ∷ 11 ∷ 22 ∷ 44 ∷ 43 ∷ [])
@@ -27,6 +29,6 @@ unfolding binarySteps downFrom followed bit bitLength lengthUpTo planBytesOf ste
 plan-for-3 = refl
 
 -- the corners: numbers below 2 ^ d, even and odd; width 1; a number of 255 bits
-pub ends : (endOf (fixedWindowSteps 6 3) ≡ pos 6) × (endOf (slidingWindowSteps 5 3) ≡ pos 5) × (endOf (slidingWindowSteps 6 3) ≡ pos 6) × (endOf (fixedWindowSteps 77 1) ≡ pos 77) × (endOf (slidingWindowSteps 77 1) ≡ pos 77) × (endOf (fixedWindowSteps (2 ^ 255 - 19) 6) ≡ pos (2 ^ 255 - 19)) × (endOf (slidingWindowSteps (2 ^ 255 - 19) 5) ≡ pos (2 ^ 255 - 19))
-unfolding binarySteps fixedWindowSteps slidingWindowSteps nafSteps windowSteps multiples oddTable longest slide digitSteps followed doubled downFrom lengthUpTo bitLength bit residue lowDigit rest digitsOf naf valuesOf extend stepValue
+pub ends : (endOf (fixedWindowSteps 6 3) ≡ pos 6) × (endOf (slidingWindowSteps 5 3) ≡ pos 5) × (endOf (slidingWindowSteps 6 3) ≡ pos 6) × (endOf (fixedWindowSteps 77 1) ≡ pos 77) × (endOf (slidingWindowSteps 77 1) ≡ pos 77) × (endOf (fixedWindowSteps (2 ^ 255 - 19) fixedWindowBits) ≡ pos (2 ^ 255 - 19)) × (endOf (slidingWindowSteps (2 ^ 255 - 19) 5) ≡ pos (2 ^ 255 - 19))
+unfolding binarySteps fixedWindowSteps slidingWindowSteps nafSteps windowSteps tableBy longest slide digitSteps followed doubled downFrom lengthUpTo bitLength bit residue lowDigit rest digitsOf naf valuesOf extend stepValue
 ends = (refl, refl, refl, refl, refl, refl, refl)

@@ -3,73 +3,41 @@ use mathlib.Core.Path.{_≡_, refl, sym, ap, subst, _∙_}
 use mathlib.Core.Bool.{cond}
 use Prim.Native.Nat.{ℕ, zero, suc, _+_, _*_, _-_, _/_, _^_, _<_, _≤_}
 use borrow.Author.Tests.{ltb-true, ltb-false, lt-ltb, le-ltb}
-use native.Mathlib.Decide.{decLt}
 use native.Mathlib.Nat.{lt-of-not-le, not-le-of-lt, add-zero, add-mul, mul-zero, mul-suc, mul-le-mul-left, mod-lt, mul-div-le, lt-mul-div-succ, le-div-iff-mul-le, div-le-self}
-use native.Mathlib.Numerals.{add-one}
 use native.Mathlib.Omega.{arith}
 use lib.Dec.{ltb, eqb, eqb·suc-zero}
-use lib.ListN.{length, length-append}
-use lib.Pow.{pow-pos, shr-shr, shr-mod, split}
+use lib.ListN.{length}
+use lib.Pow.{pow-pos, pow-mono, shr-shr, shr-mod, split}
 use Rattle.signed_digits.proofs.Parts.{cond-cases}
+use Rattle.rules.specs.Limits.{planSteps}
 use Rattle.chains.specs.Steps.{Step, add}
 use Rattle.chains.specs.Counts.{counts, countsOf, total}
-use Rattle.methods.specs.PartialPlan.{PartialPlan, none, followed, addAt, doubled, downFrom}
+use Rattle.methods.specs.PartialPlan.{PartialPlan, doubled, downFrom}
 use Rattle.integers.specs.Bits.{bitLength}
+use Rattle.methods.specs.Widths.{fixedWindowBits}
 use Rattle.methods.specs.FixedWindows.{multiples, window, topWindow, atFixedWindow, windowSteps, fixedWindowSteps}
-use Rattle.methods.specs.Forecast.{tableCounts, nonzeroWindows}
+use Rattle.methods.specs.Tables.{tableCounts}
+use Rattle.methods.specs.Forecast.{nonzeroWindows}
 use Rattle.integers.proofs.Bits.{bit-length-iff, above-top, quotient-le, quotient-none}
-use Rattle.methods.proofs.Counted.{countsIn, counts-double, counts-add, counts-doubled, counts-cond, not-before-doubled, length-counted}
-use Rattle.methods.proofs.Laws.{value-kept, Small, small-below, Holds, Stands, Made, none-holds, one-stands, stands-followed, stands-doubled, latest-followed, length-followed, length-doubled, latest-doubled, add-holds, doubled-holds, down-from, made}
+use Rattle.methods.proofs.Counted.{countsIn, counts-add, counts-doubled, counts-cond, not-before-doubled, length-counted}
+use Rattle.methods.proofs.Laws.{Small, small-below, power-small, Holds, Stands, Made, Fit, Plannable, plannable-small, stands-followed, stands-doubled, latest-followed, length-followed, length-doubled, latest-doubled, add-holds, doubled-holds, down-from, made}
+use Rattle.methods.proofs.Tables.{tabled, length-table, table-holds, table-counts, table-total, no-subtractions}
 
 -- ---- the multiples
 
--- n steps of it, and the latest at position p
+-- n steps of the table, and the latest at position p
 abbrev pub multiplied : ℕ → ℕ → PartialPlan
-multiplied n p = record { steps = multiples n; latest = p }
+multiplied n p = tabled (λ i. 0) n p
 
 pub length-multiples : (n : ℕ) → length (multiples n) ≡ n
-unfolding multiples
-length-multiples zero = refl
-length-multiples (suc n) = rw length-append (omega (arith, length-multiples n))
+length-multiples n = length-table (λ i. 0) n
 
 -- value p + 1 stands at position p
 multiples-holds : (n : ℕ) → Small (suc n) → (p : ℕ) → p ≤ n → Holds (multiplied n p) (suc p)
-unfolding multiples followed
-multiples-holds zero small p h = let z : p ≡ 0 = omega arith in rw z none-holds
-multiples-holds (suc n) small p h = go (decLt n p) (multiples-holds n (small-below (suc n) (suc (suc n)) (omega arith) small))
-  where
-    top : Holds (multiplied n n) (suc n) → Holds (addAt 0 (multiplied n n)) (suc n + 1)
-    top b = add-holds (multiplied n n) 0 (suc n) 1 b (one-stands (multiplied n n)) (omega arith) (rw add-one small)
-
-    go : Dec (n < p) → ((p : ℕ) → p ≤ n → Holds (multiplied n p) (suc p)) → Holds (multiplied (suc n) p) (suc p)
-    go (yes l) below =
-        let q : p ≡ length (multiples n) + 1 = omega (arith, length-multiples n) in
-        let v : suc p ≡ suc n + 1 = omega arith in
-        rw (v, q) (top (below n (omega arith)))
-    go (no l) below =
-        let t = top (below n (omega arith)) in
-        record {
-          sound = t .sound;
-          within = omega (arith, t .within, length-multiples n);
-          value = value-kept (multiples n) (add n 0) p (omega (arith, length-multiples n)) ∙ below p (omega arith) .value;
-        }
+multiples-holds = table-holds (λ i. 0) suc refl (λ n. omega arith) (λ n. omega arith)
 
 pub multiples-counts : (n : ℕ) → countsOf (multiples n) ≡ tableCounts n
-unfolding multiples tableCounts countsOf followed
-multiples-counts zero = refl
-multiples-counts (suc zero) = counts-double none 0 0 0 refl
-multiples-counts (suc (suc n)) = counts-add (multiplied (suc n) (suc n)) 1 n 0 (multiples-counts (suc n)) 0 (omega arith) ∙ rw add-one
-
-multiples-total : (n : ℕ) → total (tableCounts n) ≡ n
-unfolding tableCounts
-multiples-total zero = refl
-multiples-total (suc n) = omega arith
-
--- no step of it subtracts
-multiples-adds : (n : ℕ) → tableCounts n ≡ counts (tableCounts n .doublings) (tableCounts n .additions) 0
-unfolding tableCounts
-multiples-adds zero = refl
-multiples-adds (suc n) = refl
+multiples-counts = table-counts (λ i. 0) refl (λ n. omega arith)
 
 -- ---- the windows
 
@@ -227,17 +195,17 @@ module _ (e d : ℕ) where
   fixed-counts =
       let n : ℕ = 2 ^ d - 2 in
       let t : ℕ = topWindow e d in
-      let long : 2 ^ d ≤ tableCounts n .doublings + tableCounts n .additions + 2 = omega (arith, multiples-total n, ap total (multiples-adds n)) in
+      let long : 2 ^ d ≤ tableCounts n .doublings + tableCounts n .additions + 2 = omega (arith, table-total n, ap total (no-subtractions n)) in
       counts-cond (ltb e (2 ^ d)) (multiples (e - 1)) (windowSteps e d)
-      ∙ rw (multiples-counts (e - 1), windows-counts e d t (multiplied n (window e d t - 1)) (tableCounts n .doublings) (tableCounts n .additions) long (multiples-counts n ∙ multiples-adds n))
+      ∙ rw (multiples-counts (e - 1), windows-counts e d t (multiplied n (window e d t - 1)) (tableCounts n .doublings) (tableCounts n .additions) long (multiples-counts n ∙ no-subtractions n))
 
   -- Brauer's bound: the table, and for each lower window d doublings and at most one addition
   pub fixed-brauer : length (fixedWindowSteps e d) ≤ 2 ^ d - 2 + (d + 1) * topWindow e d
   fixed-brauer =
       rw (length-counted (fixedWindowSteps e d), fixed-counts)
       (cond-cases (ltb e (2 ^ d)) _ _ (λ c. total c ≤ 2 ^ d - 2 + (d + 1) * topWindow e d)
-      (λ t. omega (arith, multiples-total (e - 1), ltb-true e (2 ^ d) t))
-      (λ t. omega (arith, multiples-total (2 ^ d - 2), add-mul d 1 (topWindow e d), nonzero-windows-le e d (topWindow e d))))
+      (λ t. omega (arith, table-total (e - 1), ltb-true e (2 ^ d) t))
+      (λ t. omega (arith, table-total (2 ^ d - 2), add-mul d 1 (topWindow e d), nonzero-windows-le e d (topWindow e d))))
 
 module _ (e d : ℕ) (some : 0 < e) (wide : 1 ≤ d) where
   pub fixed-made : Small e → Small (2 ^ d) → Made (fixedWindowSteps e d) e
@@ -253,3 +221,10 @@ module _ (e d : ℕ) (some : 0 < e) (wide : 1 ≤ d) where
   -- the table, and at most two steps for each bit below the top
   pub fixed-short : length (fixedWindowSteps e d) ≤ 2 ^ d + 2 * (bitLength e - 1)
   fixed-short = omega (arith, fixed-brauer e d, add-mul d 1 (topWindow e d), windows-below-top e d, div-le-self (bitLength e - 1) d)
+
+module _ (e d : ℕ) (plannable : Plannable e) (wide : 1 ≤ d) (narrow : d ≤ fixedWindowBits) where
+  pub fixed-few : length (fixedWindowSteps e d) ≤ planSteps
+  fixed-few = omega (arith, fixed-short e d (plannable .some) wide, plannable .bits, pow-mono {i = d} {j = fixedWindowBits} narrow)
+
+  pub fixed-fit : Fit (fixedWindowSteps e d) e
+  fixed-fit = record { made = fixed-made e d (plannable .some) wide (small-below e (e + 1) (omega arith) (plannable-small plannable)) (power-small d (omega arith)); few = fixed-few }

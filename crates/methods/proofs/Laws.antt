@@ -4,16 +4,18 @@ use mathlib.Core.Path.{_≡_, refl, sym, ap, _∙_}
 use mathlib.Core.List.{List, [], _∷_, _++_}
 use Prim.Native.Nat.{ℕ, zero, suc, _+_, _*_, _-_, _/_, _^_, _<_, _≤_}
 use native.Mathlib.Decide.{decLt}
-use native.Mathlib.Nat.{pow-succ', mul-assoc, mul-comm, mul-le-mul-left, mul-pos, lt-of-le-of-lt}
+use native.Mathlib.Nat.{pow-succ', mul-assoc, mul-comm, mul-le-mul-left, mul-pos, lt-of-le-of-lt, lt-of-lt-of-le}
 use native.Mathlib.Numerals.{add-one}
 use native.Mathlib.Omega.{arith}
 use lib.IntN.{ℤ, pos}
 use lib.ListN.{length, length-append, List·getD-append}
 use lib.Dec.{lit<}
-use lib.Pow.{pow-pos, shr-le}
+use lib.Pow.{pow-pos, pow-mono, shr-le}
 use lib.Seq.{getD-at}
-use Rattle.rules.specs.Limits.{numberBytes, valueBound}
+use Rattle.rules.specs.Limits.{numberBytes, planSteps, valueBytes, valueBound}
+use Rattle.integers.specs.Bits.{bitLength}
 use Rattle.integers.specs.Positional.{bytesValue}
+use Rattle.integers.proofs.Bits.{bit-length-iff}
 use Rattle.integers.proofs.Positional.{Below, positional-lt}
 use Rattle.chains.specs.Steps.{Step, add, subtract}
 use Rattle.chains.specs.Values.{at, start, stepValue, extend, valuesOf, endOf}
@@ -78,6 +80,13 @@ number-small number b h =
     let v : bytesValue number < 256 ^ numberBytes = positional-lt 256 numberBytes number h b in
     let u : bytesValue number + 1 ≤ 256 ^ numberBytes = rw add-one v in
     lt-of-le-of-lt u (lit< tt)
+
+-- and so is a power of two within the limit
+pub power-small : (d : ℕ) → d < 8 * valueBytes → Small (2 ^ d)
+unfolding Small
+power-small d h =
+    let more : 2 ^ d < 2 ^ suc d = rw (pow-succ' 2 d) (omega (arith, pow-pos d)) in
+    lt-of-lt-of-le more (pow-mono h)
 
 pub quotient-small : (e i : ℕ) → Small e → Small (e / 2 ^ i)
 quotient-small e i s = small-below (e / 2 ^ i) e (shr-le e i) s
@@ -186,12 +195,6 @@ unfolding doubled
 doubled-last zero b = refl
 doubled-last (suc n) b = doubled-last n (double b)
 
--- one doubling more
-pub doubled-more : (n : ℕ) (b : PartialPlan) → double (doubled n b) ≡ doubled (n + 1) b
-unfolding doubled
-doubled-more zero b = refl
-doubled-more (suc n) b = let e : suc n + 1 ≡ suc (n + 1) = omega arith in rw e (doubled-more n (double b))
-
 -- after a doubling the latest is the last position
 pub latest-doubled : (n : ℕ) (b : PartialPlan) → 1 ≤ n → doubled n b .latest ≡ length (doubled n b .steps)
 unfolding doubled
@@ -217,10 +220,27 @@ unfolding downFrom
 down-grows f zero b more = omega arith
 down-grows f (suc n) b more = omega (arith, more n b, down-grows f n (f n b) more)
 
--- ---- what every method comes to: sound steps that end at the number
+-- ---- what every method comes to
+
+-- sound steps that end at the number
 pub record Made (steps : List Step) (e : ℕ) : Type 0 where
   pub sound : Sound steps
   pub end : endOf steps ≡ pos e
 
 pub made : (b : PartialPlan) (e : ℕ) → Holds b e → b .latest ≡ length (b .steps) → Made (b .steps) e
 made b e h l = record { sound = h .sound; end = rw (← l) (h .value) }
+
+-- no more of them than a plan may have
+pub record Fit (steps : List Step) (e : ℕ) : Type 0 where
+  pub made : Made steps e
+  pub few : length steps ≤ planSteps
+
+-- a number that a plan is made for: above zero and within the limit
+pub record Plannable (e : ℕ) : Type 0 where
+  pub some : 0 < e
+  pub bits : bitLength e ≤ 8 * numberBytes
+
+pub plannable-small : {e : ℕ} → Plannable e → Small (e + 1)
+plannable-small {e} p =
+    let h : e < 2 ^ (8 * numberBytes) = bit-length-iff e (8 * numberBytes) .0 (p .bits) in
+    small-below (e + 1) (2 ^ (8 * numberBytes)) (rw add-one h) (power-small (8 * numberBytes) (omega arith))

@@ -1,5 +1,7 @@
 pub mod Laws
 pub mod Counted
+pub mod Tables
+pub mod OddMultiples
 pub mod Binary
 pub mod FixedWindows
 pub mod SlidingWindows

@@ -1,151 +1,31 @@
 -- Method 3: its steps are sound and end at the number, how many there are, and their counts. Assumes nothing.
 use mathlib.Core.Path.{_≡_, refl, sym, ap, _∙_, subst}
 use mathlib.Core.Logic.{_≢_}
-use mathlib.Core.List.{List, [], _∷_, _++_}
+use mathlib.Core.List.{List}
 use Prim.Native.Nat.{ℕ, zero, suc, _+_, _*_, _-_, _/_, _%_, _^_, _<_, _≤_}
-use borrow.Author.Tests.{eqb-true, eqb-false, eq-eqb, ne-eqb, le-leb, lt-leb, lt-ltb, le-ltb}
+use borrow.Author.Tests.{eq-eqb, ne-eqb, le-leb, lt-leb, lt-ltb, le-ltb}
 use native.Mathlib.Decide.{decLe, decLt, ℕ-discrete}
-use native.Mathlib.Nat.{add-zero, sub-zero, pow-succ', mod-lt, lt-of-lt-of-le}
+use native.Mathlib.Nat.{add-zero, sub-zero, mod-lt, lt-of-lt-of-le}
 use native.Mathlib.Numerals.{add-one}
 use native.Mathlib.Omega.{arith}
-use lib.Dec.{eqb}
-use lib.IntN.{pos}
-use lib.ListN.{length, length-append}
+use lib.ListN.{length}
 use lib.Pow.{pow-pos, pow-mono, mod-mod-pow}
 use Rattle.rules.specs.declared.Counts.{Counts}
-use Rattle.signed_digits.proofs.Parts.{cond-cases}
+use Rattle.rules.specs.Limits.{planSteps}
 use Rattle.chains.specs.Steps.{Step, add}
-use Rattle.chains.specs.Counts.{counts, stepCounts, countsOf}
-use Rattle.methods.specs.PartialPlan.{PartialPlan, followed, double, addAt, doubled}
+use Rattle.chains.specs.Counts.{counts, countsOf}
+use Rattle.methods.specs.PartialPlan.{PartialPlan, double, addAt, doubled}
 use Rattle.integers.specs.Bits.{bit, bitLength}
-use Rattle.methods.specs.SlidingWindows.{tableStep, oddTable, oddPosition, tableLength, longest, windowValue, slide, scanFrom, slidingWindowSteps}
-use Rattle.methods.specs.Forecast.{tableCounts, laterWindows, scanCounts, slidingWindowCounts}
+use Rattle.methods.specs.Tables.{tableCounts}
+use Rattle.methods.specs.OddMultiples.{oddSecond, oddTable, oddPosition, tableLength}
+use Rattle.methods.specs.Widths.{slidingWindowBits}
+use Rattle.methods.specs.SlidingWindows.{longest, windowValue, slide, scanFrom, slidingWindowSteps}
+use Rattle.methods.specs.Forecast.{laterWindows, scanCounts, slidingWindowCounts}
 use Rattle.integers.proofs.Bits.{bit-length-iff, some-bits, top-bit, place-down, places-down, bit-small, quotient-none}
 use Rattle.methods.proofs.Counted.{countsIn, counts-double, counts-add, counts-doubled}
-use Rattle.methods.proofs.Laws.{Small, small-below, quotient-small, Holds, Stands, Made, none-holds, one-stands, add-holds, double-holds, doubled-add, stands-followed, stands-doubled, latest-followed, latest-doubled, length-followed, length-doubled, made}
-
--- ---- the table
-
--- what its position p holds: 1, 2, then the odd numbers from 3 on
-tableValue : ℕ → ℕ
-tableValue zero = 1
-tableValue (suc zero) = 2
-tableValue (suc (suc p)) = 2 * p + 3
-
-odd-value : (p : ℕ) → 2 ≤ p → tableValue p + 1 ≡ 2 * p
-unfolding tableValue
-odd-value zero h = absurd (omega arith)
-odd-value (suc zero) h = absurd (omega arith)
-odd-value (suc (suc p)) h = omega arith
-
-position-less : (p : ℕ) → p < tableValue p
-unfolding tableValue
-position-less zero = omega arith
-position-less (suc zero) = omega arith
-position-less (suc (suc p)) = omega arith
-
-position-value : (v : ℕ) → v % 2 ≡ 1 → tableValue (oddPosition v) ≡ v
-unfolding tableValue
-position-value v o =
-    cond-cases (eqb v 1) 0 ((v + 1) / 2) (λ p. tableValue p ≡ v) (λ t. sym (eqb-true v 1 t))
-    (λ t. let n : v ≢ 1 = eqb-false v 1 t in omega (arith, odd-value ((v + 1) / 2) (omega arith)))
-
--- its first n steps; each adds to the latest what stands before it
-abbrev pub table : ℕ → PartialPlan
-table n = record { steps = oddTable n; latest = n }
-
-pub length-table : (n : ℕ) → length (oddTable n) ≡ n
-unfolding oddTable
-length-table zero = refl
-length-table (suc n) = omega (arith, length-append (oddTable n) (tableStep n ∷ []), length-table n)
-
-table-step : (n : ℕ) → tableStep n ≡ add n (tableStep n .second)
-table-step zero = refl
-table-step (suc zero) = refl
-table-step (suc (suc n)) = refl
-
-second-before : (n : ℕ) → tableStep n .second ≤ n - 1
-second-before zero = omega arith
-second-before (suc zero) = omega arith
-second-before (suc (suc n)) = omega arith
-
-pub table-next : (n : ℕ) → table (suc n) ≡ addAt (tableStep n .second) (table n)
-unfolding oddTable followed
-table-next n =
-    let l : suc n ≡ length (oddTable n) + 1 = omega (arith, length-table n) in
-    λ i. record { steps = oddTable n ++ (table-step n i ∷ []); latest = l i }
-
-value-next : (n : ℕ) → tableValue (suc n) ≡ tableValue n + tableValue (tableStep n .second)
-unfolding tableValue
-value-next zero = refl
-value-next (suc zero) = refl
-value-next (suc (suc n)) = omega arith
-
-record Filled (n : ℕ) : Type 0 where
-  holds : Holds (table n) (tableValue n)
-  stands : (p : ℕ) → p ≤ n → Stands (table n) p (tableValue p)
-
-filled-next : (n : ℕ) → Small (tableValue (suc n)) → Filled n → Filled (suc n)
-filled-next n small f = record { holds = holds; stands = stands }
-  where
-    q : ℕ
-    q = tableStep n .second
-
-    holds : Holds (table (suc n)) (tableValue (suc n))
-    holds =
-        rw (table-next n, value-next n)
-        (add-holds (table n) q (tableValue n) (tableValue q) (f .holds) (f .stands q (omega (arith, second-before n))) (omega (arith, position-less n)) (rw (value-next n) at small))
-
-    stands : (p : ℕ) → p ≤ suc n → Stands (table (suc n)) p (tableValue p)
-    stands p h =
-        elim (decLt n p) [
-          | yes l ↦ let e : p ≡ suc n = omega arith in rw e (record { filled = holds .within; value = holds .value })
-          | no l ↦ rw (table-next n) (stands-followed (table n) (add n q) p (tableValue p) (f .stands p (omega arith)))
-        ]
-
-filled : (n : ℕ) → Small (tableValue n) → Filled n
-unfolding tableValue oddTable
-filled zero small = record { holds = none-holds; stands = λ p h. let z : p ≡ 0 = omega arith in rw z (one-stands (table 0)) }
-filled (suc n) small = filled-next n small (filled n (small-below (tableValue n) (tableValue (suc n)) (omega (arith, value-next n)) small))
-
-table-counted : (n : ℕ) → countsIn (table n) ≡ tableCounts n
-unfolding tableCounts oddTable countsOf stepCounts
-table-counted zero = refl
-table-counted (suc zero) = refl
-table-counted (suc (suc n)) =
-    ap countsIn (table-next (suc n))
-    ∙ counts-add (table (suc n)) 1 n 0 (table-counted (suc n)) (tableStep (suc n) .second) (λ e. omega (arith, second-before (suc n)))
-    ∙ ap (λ (a : ℕ). counts 1 a 0) (add-one n)
-
-pub no-subtractions : (n : ℕ) → tableCounts n ≡ counts (tableCounts n .doublings) (tableCounts n .additions) 0
-unfolding tableCounts
-no-subtractions zero = refl
-no-subtractions (suc n) = refl
-
--- an odd number below 2 ^ d: the whole table holds it
-pub record Entry (d v : ℕ) : Type 0 where
-  pub odd : v % 2 ≡ 1
-  pub narrow : v < 2 ^ d
-
-module _ (d : ℕ) (wide : 1 ≤ d) where
-  -- no step for d = 1, and otherwise half of 2 ^ d
-  size-cases : (P : ℕ → Type 0) → (d ≡ 1 → P 0) → ((h : ℕ) → 2 ≤ h → 2 ^ d ≡ 2 * h → P h) → P (tableLength d)
-  size-cases P one more =
-      elim (decLt d 2) [
-        | yes l ↦ rw (lt-ltb d 2 l) (one (omega arith))
-        | no l ↦
-            let s : d ≡ suc (d - 1) = omega arith in
-            rw (le-ltb d 2 (omega arith)) (more (2 ^ (d - 1)) (pow-mono {i = 1} (omega arith)) (ap (λ (n : ℕ). 2 ^ n) s ∙ pow-succ' 2 (d - 1)))
-      ]
-
-  table-narrow : tableValue (tableLength d) ≤ 2 ^ d
-  unfolding tableValue
-  table-narrow = size-cases (λ s. tableValue s ≤ 2 ^ d) (λ one. pow-pos d) (λ h two twice. omega (arith, odd-value h two))
-
-  entry-within : (v : ℕ) → Entry d v → oddPosition v ≤ tableLength d
-  entry-within v t =
-      size-cases (λ s. oddPosition v ≤ s) (λ one. let z : v ≡ 1 = omega (arith, rw one at (t .narrow)) in rw z (omega arith))
-      (λ h two twice. cond-cases (eqb v 1) 0 ((v + 1) / 2) (λ p. p ≤ h) (λ u. omega arith) (λ u. omega (arith, t .narrow)))
+use Rattle.methods.proofs.Laws.{Small, small-below, power-small, quotient-small, Holds, Stands, Made, Fit, Plannable, plannable-small, double-holds, doubled-add, stands-followed, stands-doubled, latest-followed, latest-doubled, length-followed, length-doubled, made}
+use Rattle.methods.proofs.Tables.{tabled, no-subtractions}
+use Rattle.methods.proofs.OddMultiples.{odd-length, tableValue, position-less, position-value, odd-counts, entry-holds, Entry, table-narrow, entry-in-table}
 
 -- ---- windows
 
@@ -284,7 +164,7 @@ module _ (e d : ℕ) (wide : 1 ≤ d) where
       let v : Window e n d l = longest-window e n d o wide in
       let f : x + suc n ≡ x + l + (suc n - l) = omega arith in
       let g : y + suc w ≡ y + 1 + w = omega arith in
-      let apart : doubled l b .latest ≢ oddPosition (windowValue e n l) = omega (arith, latest-doubled l b (v .some), length-doubled l b, entry-within d wide (windowValue e n l) (window-entry v)) in
+      let apart : doubled l b .latest ≢ oddPosition (windowValue e n l) = omega (arith, latest-doubled l b (v .some), length-doubled l b, entry-in-table d wide (windowValue e n l) (window-entry v) .within) in
       rw (f, g) (scan-counted s (omega (arith, length-window n b)) (x + l) (y + 1) (counts-add (doubled l b) (x + l) y 0 (counts-doubled l b x y 0 q) _ apart))
   scan-counted (zero-bit n b z s) t x y q =
       let f : x + suc n ≡ x + 1 + n = omega arith in
@@ -335,7 +215,7 @@ top e = bitLength e - 1
 
 -- the table, and latest set to the position of the first window
 abbrev atFirst : ℕ → ℕ → PartialPlan
-atFirst e d = record { steps = oddTable (tableLength d); latest = oddPosition (windowValue e (top e) (longest e (top e) d)) }
+atFirst e d = tabled oddSecond (tableLength d) (oddPosition (windowValue e (top e) (longest e (top e) d)))
 
 module _ (e d : ℕ) (some : 0 < e) (wide : 1 ≤ d) where
   pub first-one : bit e (top e) ≡ 1
@@ -365,22 +245,14 @@ module _ (e d : ℕ) (some : 0 < e) (wide : 1 ≤ d) where
 
   first-reached : (Entry d e → ⊥) → Small (2 ^ d) → Reached e d (belowWindow e d (top e)) (atFirst e d)
   first-reached more room = record {
-    holds = record { sound = whole .holds .sound; within = first .filled; value = first .value ∙ ap pos (sym first-value) };
+    holds = subst (λ (v : ℕ). Holds (atFirst e d) v) (sym first-value) (holds _ (window-entry first-window));
     positive = omega (arith, first-value, window-entry first-window .odd);
-    stands = stands;
+    stands = λ v t. record { filled = holds v t .within; value = holds v t .value };
     last = λ z. absurd (more (whole-entry z));
   }
     where
-      whole : Filled (tableLength d)
-      whole = filled (tableLength d) (small-below (tableValue (tableLength d)) (2 ^ d) (table-narrow d wide) room)
-
-      stands : (v : ℕ) → Entry d v → Stands (atFirst e d) (oddPosition v) v
-      stands v t =
-          let s = rw (position-value v (t .odd)) at (whole .stands (oddPosition v) (entry-within d wide v t)) in
-          record { filled = s .filled; value = s .value }
-
-      first : Stands (atFirst e d) (atFirst e d .latest) (windowValue e (top e) (longest e (top e) d))
-      first = stands _ (window-entry first-window)
+      holds : (v : ℕ) → Entry d v → Holds (tabled oddSecond (tableLength d) (oddPosition v)) v
+      holds v t = entry-holds (tableLength d) v (small-below (tableValue (tableLength d)) (2 ^ d) (table-narrow d wide) room) (entry-in-table d wide v t)
 
   scan-all : Scan e d (belowWindow e d (top e)) (atFirst e d) (laterWindows e d (top e) (belowWindow e d (top e))) (slide e d (top e) (belowWindow e d (top e)) (atFirst e d))
   scan-all = scan e d wide (top e) (belowWindow e d (top e)) (atFirst e d) (omega (arith, first-window .some))
@@ -406,7 +278,7 @@ module _ (e d : ℕ) (some : 0 < e) (wide : 1 ≤ d) where
       from-table t =
           let p : ℕ = oddPosition e in
           let v : tableValue p ≡ e = position-value e (t .odd) in
-          made (table p) e (rw v at (filled p (rw v small) .holds)) (sym (length-table p))
+          made (tabled oddSecond p p) e (entry-holds p e (rw v small) (record { odd = t .odd; within = omega arith })) (sym (odd-length p))
 
       from-scan : (Entry d e → ⊥) → Made (scanFrom e d (top e)) e
       from-scan more =
@@ -417,12 +289,19 @@ module _ (e d : ℕ) (some : 0 < e) (wide : 1 ≤ d) where
   pub sliding-short : length (slidingWindowSteps e d) ≤ 2 ^ d + 2 * (bitLength e - 1)
   sliding-short =
       entry-or-scan (λ s c. length s ≤ 2 ^ d + 2 * (bitLength e - 1))
-      (λ t. omega (arith, length-table (oddPosition e), position-less (oddPosition e), position-value e (t .odd), t .narrow))
-      (λ more. omega (arith, scan-short e d wide scan-all, first-window .some, length-table (tableLength d), position-less (tableLength d), table-narrow d wide))
+      (λ t. omega (arith, odd-length (oddPosition e), position-less (oddPosition e), position-value e (t .odd), t .narrow))
+      (λ more. omega (arith, scan-short e d wide scan-all, first-window .some, odd-length (tableLength d), position-less (tableLength d), table-narrow d wide))
 
   -- each bit below the first window takes a doubling, each later window an addition
   pub sliding-counts : countsOf (slidingWindowSteps e d) ≡ slidingWindowCounts e d
   sliding-counts =
       entry-or-scan (λ s c. countsOf s ≡ c)
-      (λ t. table-counted (oddPosition e))
-      (λ more. scan-counted e d wide scan-all (omega (arith, length-table (tableLength d))) _ _ (table-counted (tableLength d) ∙ no-subtractions (tableLength d)))
+      (λ t. odd-counts (oddPosition e))
+      (λ more. scan-counted e d wide scan-all (omega (arith, odd-length (tableLength d))) _ _ (odd-counts (tableLength d) ∙ no-subtractions (tableLength d)))
+
+module _ (e d : ℕ) (plannable : Plannable e) (wide : 1 ≤ d) (narrow : d ≤ slidingWindowBits) where
+  pub sliding-few : length (slidingWindowSteps e d) ≤ planSteps
+  sliding-few = omega (arith, sliding-short e d (plannable .some) wide, plannable .bits, pow-mono {i = d} {j = slidingWindowBits} narrow)
+
+  pub sliding-fit : Fit (slidingWindowSteps e d) e
+  sliding-fit = record { made = sliding-made e d (plannable .some) wide (small-below e (e + 1) (omega arith) (plannable-small plannable)) (power-small d (omega arith)); few = sliding-few }

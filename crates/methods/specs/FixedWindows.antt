@@ -1,16 +1,16 @@
 -- Method 2, fixed windows of d bits, cut from the low end.
 use Prim.Native.Nat.{ℕ, zero, suc, _*_, _-_, _/_, _%_, _^_}
 use mathlib.Core.Bool.{cond}
-use mathlib.Core.List.{List, [], _∷_, _++_}
+use mathlib.Core.List.{List}
 use lib.Dec.{ltb}
-use Rattle.chains.specs.Steps.{Step, add}
+use Rattle.chains.specs.Steps.{Step}
 use Rattle.methods.specs.PartialPlan.{PartialPlan, doubled, addAt, downFrom}
+use Rattle.methods.specs.Tables.{tableBy}
 use Rattle.integers.specs.Bits.{bitLength}
 
 -- the steps add(i-1, 0) for i = 1 to n, so value v stands at position v-1
-unfoldable pub multiples : ℕ → List Step
-multiples zero = []
-multiples (suc n) = multiples n ++ (add n 0 ∷ [])
+abbrev pub multiples : ℕ → List Step
+multiples n = tableBy (λ i. 0) n
 
 -- the value of window i, and the place of the top window, the one that holds the top bit
 abbrev pub window : ℕ → ℕ → ℕ → ℕ

@@ -8,12 +8,9 @@ use Rattle.rules.specs.declared.Counts.{Counts}
 use Rattle.integers.specs.Bits.{bit, bitLength}
 use Rattle.chains.specs.Counts.{counts}
 use Rattle.methods.specs.FixedWindows.{window}
-use Rattle.methods.specs.SlidingWindows.{oddPosition, tableLength, longest}
-
--- the first n steps of a table: the first one, add(0,0), is a doubling, and each other one an addition
-unfoldable pub tableCounts : ℕ → Counts
-tableCounts zero = counts 0 0 0
-tableCounts (suc n) = counts 1 n 0
+use Rattle.methods.specs.Tables.{tableCounts}
+use Rattle.methods.specs.OddMultiples.{oddPosition, tableLength}
+use Rattle.methods.specs.SlidingWindows.{longest}
 
 -- ---- method 2
 

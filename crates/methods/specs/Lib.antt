@@ -1,6 +1,8 @@
 -- Document 01, "The methods": the steps that each method gives for a number e above zero. A method has a file here.
 pub mod Widths
 pub mod PartialPlan
+pub mod Tables
+pub mod OddMultiples
 pub mod Binary
 pub mod FixedWindows
 pub mod SlidingWindows

@@ -1,28 +1,12 @@
--- Method 3, sliding windows of at most d bits.
-use Prim.Native.Nat.{ℕ, zero, suc, _+_, _-_, _/_, _%_, _^_}
+-- Method 3, sliding windows of at most d bits, over the table of odd multiples.
+use Prim.Native.Nat.{ℕ, zero, suc, _-_, _/_, _%_, _^_}
 use mathlib.Core.Bool.{cond}
-use mathlib.Core.List.{List, [], _∷_, _++_}
+use mathlib.Core.List.{List}
 use lib.Dec.{ltb, leb, eqb}
-use Rattle.chains.specs.Steps.{Step, add}
+use Rattle.chains.specs.Steps.{Step}
 use Rattle.methods.specs.PartialPlan.{PartialPlan, double, doubled, addAt}
+use Rattle.methods.specs.OddMultiples.{oddTable, oddPosition, tableLength}
 use Rattle.integers.specs.Bits.{bit, bitLength}
-
--- The table: add(0,0), add(1,0), then add(i-1, 1) for i = 3 on; its first n steps. Odd v above 1 stands at position (v+1)/2, and 1 at position 0.
-abbrev pub tableStep : ℕ → Step
-tableStep zero = add 0 0
-tableStep (suc zero) = add 1 0
-tableStep (suc (suc i)) = add (suc (suc i)) 1
-
-unfoldable pub oddTable : ℕ → List Step
-oddTable zero = []
-oddTable (suc n) = oddTable n ++ (tableStep n ∷ [])
-
-abbrev pub oddPosition : ℕ → ℕ
-oddPosition v = cond (eqb v 1) 0 ((v + 1) / 2)
-
--- the whole table for d of 2 or more goes to i = 2^(d-1); for d = 1 there is no table
-abbrev pub tableLength : ℕ → ℕ
-tableLength d = cond (ltb d 2) 0 (2 ^ (d - 1))
 
 -- the longest window of at most l bits that begins at place n, where a 1 stands, and ends in 1
 unfoldable pub longest : ℕ → ℕ → ℕ → ℕ

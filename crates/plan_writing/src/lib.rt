@@ -1,11 +1,13 @@
 // Writing the steps of a plan one after the other.
+pub mod tables;
+
 use rules::STEP_BYTES;
 ghost use mathlib.Core.Path.{_≡_};
 ghost use mathlib.Core.List.{List, _++_};
 ghost use Prim.Native.Nat.{ℕ, _+_, _*_, _≤_, _<_};
 ghost use lib.ListN.{length, take, drop};
 ghost use Rattle.rules.specs.Limits.{stepBytes};
-ghost use Rattle.chains.specs.Steps.{Step, stepBytesOf, add, subtract};
+ghost use Rattle.chains.specs.Steps.{stepBytesOf};
 ghost use Rattle.methods.specs.PartialPlan.{PartialPlan, double, doubled, addAt, followed};
 ghost use Rattle.plan_writing.specs.Writing.{Writing, stepWith};
 

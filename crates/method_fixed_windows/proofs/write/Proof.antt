@@ -8,6 +8,7 @@ use Rattle.integers.specs.Positional.{bytesValue}
 use Rattle.chains.proofs.Bytes.{length-plan}
 use Rattle.methods.specs.FixedWindows.{multiples}
 use Rattle.methods.proofs.FixedWindows.{length-multiples, one-window, fixed-one, fixed-more}
+use Rattle.plan_writing.proofs.Multiples.{all-multiples}
 use borrow.Author.Needs.{needs}
 use Rattle.method_fixed_windows.proofs.write.Statement.{statement}
 use Rattle.method_fixed_windows.proofs.write.Tie as tie
@@ -25,11 +26,11 @@ small-value-requires c κs =
     let args = c .before .before .before .before .before .args in
     omega (arith, one-window (bytesValue (args .number .now)) (args .width) (search needs) (search needs), pow-mono {i = args .width} {j = 8} (search needs))
 
-sub-write-multiples : tie.Need-sub-write-multiples
-sub-write-multiples c = search needs
+sub-write-table : tie.Need-sub-write-table
+sub-write-table c = search needs
 
-write-multiples-requires : tie.Need-write-multiples-requires
-write-multiples-requires c κs =
+write-table-requires : tie.Need-write-table-requires
+write-table-requires c κs =
     let args = c .before .before .before .before .before .before .args in
     let e : ℕ = bytesValue (args .number .now) in
     omega (arith, c .small-value .ensures, ap length (fixed-one e (args .width) (search needs) (search needs)), length-multiples (e - 1))
@@ -49,7 +50,8 @@ returns-2 : tie.Need-returns-2
 returns-2 c =
     let args = c .before .before .before .before .before .before .before .before .before .args in
     let e : ℕ = bytesValue (args .number .now) in
-    rw (fixed-one e (args .width) (search needs) (search needs), length-plan (multiples (e - 1)), length-multiples (e - 1)) (rw (c .before .before .before .small-value .ensures) at (c .before .before .write-multiples .ensures))
+    rw (fixed-one e (args .width) (search needs) (search needs), length-plan (multiples (e - 1)))
+    (rw (c .before .before .before .small-value .ensures, all-multiples (e - 1)) at (c .before .before .write-table .ensures .bytes))
 
 pub write-spec : {M : Type 1} → statement M
 write-spec =
@@ -58,8 +60,8 @@ write-spec =
     top-window-requires
     write-windows-requires
     small-value-requires
-    sub-write-multiples
-    write-multiples-requires
+    sub-write-table
+    write-table-requires
     same-length
     returns
     same-length-2

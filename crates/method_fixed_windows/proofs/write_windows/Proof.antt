@@ -12,6 +12,7 @@ use Rattle.methods.proofs.Laws.{down-grows}
 use Rattle.methods.proofs.FixedWindows.{multiplied, length-multiples, length-at-window, top-window-some}
 use Rattle.plan_writing.specs.Writing.{Writing}
 use Rattle.plan_writing.proofs.Underway.{Underway, down, underway-next, underway-room, underway-end}
+use Rattle.plan_writing.proofs.Multiples.{all-multiples}
 use borrow.Author.Needs.{needs}
 use Rattle.method_fixed_windows.proofs.write_windows.Statement.{statement}
 use Rattle.method_fixed_windows.proofs.write_windows.Tie as tie
@@ -35,35 +36,31 @@ table-room number width =
     omega (arith, length-multiples (2 ^ width - 2), down-grows (windowAt number width) top (tabled number width top) (grows number width))
 
 abbrev Inv-loop : tie.InvT-loop
-Inv-loop number width top out₀ table c₀ i₀ out c i =
+Inv-loop number width top out₀ c₀ i₀ out c i =
     (i ≤ top) × (length out ≡ length out₀) × ((lent : List ℕ) → Writing lent out₀ c₀ (tabled number width top) → Underway lent out c (windowAt number width) i (windowSteps (bytesValue number) width))
 
 abbrev μ-loop : tie.MeasureT-loop
-μ-loop number width top out₀ table c₀ i₀ out c i = i
+μ-loop number width top out₀ c₀ i₀ out c i = i
 
 -- what is written at the loop's test
 under : (c : tie.At-loop Inv-loop μ-loop) → let args = c .before .before .before .before .before .before .before .before .before .args in Underway (args .out .now) (c .loop .out) (c .loop .c) (windowAt (args .number .now) (args .width)) (c .loop .i) (windowSteps (bytesValue (args .number .now)) (args .width))
 under c =
     let args = c .before .before .before .before .before .before .before .before .before .args in
-    let size = c .before .before .before .before .before .before .table-length .ensures in
-    c .loop .inv .2 (args .out .now)
-    (record {
-      steps = size ∙ sym (length-multiples (2 ^ args .width - 2));
-      latest = ap (λ (v : ℕ). v - 1) (c .before .window-at .ensures);
-      bytes = c .before .before .before .before .write-multiples .ensures ∙ rw (size, length-multiples (2 ^ args .width - 2));
-    })
+    let size = c .before .before .before .before .before .table-length .ensures in
+    let table = rw (size, all-multiples (2 ^ args .width - 2)) at (c .before .before .before .before .write-table .ensures) in
+    c .loop .inv .2 (args .out .now) (record { steps = table .steps; latest = ap (λ (v : ℕ). v - 1) (c .before .window-at .ensures); bytes = table .bytes })
 
 table-length-requires : tie.Need-table-length-requires Inv-loop μ-loop
 table-length-requires c κs = search needs
 
-write-multiples-requires : tie.Need-write-multiples-requires Inv-loop μ-loop
-write-multiples-requires c κs = omega (arith, c .before .table-length .ensures, table-room (c .before .before .before .before .args .number .now) (c .before .before .before .before .args .width))
+write-table-requires : tie.Need-write-table-requires Inv-loop μ-loop
+write-table-requires c κs = omega (arith, c .table-length .ensures, table-room (c .before .before .before .before .args .number .now) (c .before .before .before .before .args .width))
 
 window-at-requires : tie.Need-window-at-requires Inv-loop μ-loop
 window-at-requires c κs = search needs
 
-sub-t12 : tie.Need-sub-t12 Inv-loop μ-loop
-sub-t12 c =
+sub-t11 : tie.Need-sub-t11 Inv-loop μ-loop
+sub-t11 c =
     let start = c .before .before .before .before .before .before .before .before in
     let e : ℕ = bytesValue (start .args .number .now) in
     rw (c .window-at .ensures, start .pre .0) (top-window-some e (start .args .width) (search needs) (search needs))
@@ -128,9 +125,9 @@ write-windows-spec =
     Inv-loop
     μ-loop
     table-length-requires
-    write-multiples-requires
+    write-table-requires
     window-at-requires
-    sub-t12
+    sub-t11
     loop-holds
     sub-i
     window-at-requires-2

@@ -7,10 +7,6 @@ use Rattle.method_sliding_windows.specs.Scan.{atSlidingWindow}
 use borrow.Author.Needs.{needs}
 use Rattle.method_sliding_windows.proofs.at_window.Statement.{statement}
 use Rattle.method_sliding_windows.proofs.at_window.Tie as tie
-use Rattle.method_sliding_windows.proofs.at_window.Reads as reads
-use Rattle.method_sliding_windows.proofs.at_window.Lts as lts
-use Rattle.method_sliding_windows.proofs.position.Reads as position-reads
-use Rattle.plan_writing.proofs.Cursor.add_at.Reads as add-at-reads
 
 double-times-requires : tie.Need-double-times-requires
 double-times-requires c κs = search needs

@@ -1,9 +1,10 @@
 -- `method_sliding_windows::counts` meets its contract. Assumes nothing.
-use Prim.Native.Nat.{_+_, _*_, _-_, _≤_}
+use Prim.Native.Nat.{_+_, _*_, _-_, _^_, _≤_}
 use native.Mathlib.Omega.{arith}
 use Rattle.rules.specs.Limits.{numberBytes}
 use Rattle.integers.specs.Positional.{bytesValue, wordsValue}
 use Rattle.integers.proofs.Bits.{some-bits}
+use Rattle.methods.specs.Widths.{slidingWindowBits}
 use Rattle.method_sliding_windows.proofs.Scan.{InWords, in-words, counted, few}
 use borrow.Author.Needs.{needs}
 use Rattle.method_sliding_windows.proofs.counts.Statement.{statement}
@@ -15,7 +16,7 @@ number c =
     in-words (entry .args .number .now) (c .before .before .words-of .result) (c .bit-length .result) (λ i. c .before .before .before .shared-slice-known .given i .fits) (entry .pre .0) (entry .pre .1 .0) (c .before .before .words-of .ensures) (c .bit-length .ensures)
 
 -- few steps are counted
-bound : (c : tie.After-later-windows) → (c .before .before .table-counts .result .doublings + c .before .before .before .start-of .result .below) + (c .before .before .table-counts .result .additions + c .later-windows .result) ≤ 64 + 2 * (8 * numberBytes)
+bound : (c : tie.After-later-windows) → (c .before .before .table-counts .result .doublings + c .before .before .before .start-of .result .below) + (c .before .before .table-counts .result .additions + c .later-windows .result) ≤ 2 ^ slidingWindowBits + 2 * (8 * numberBytes)
 bound c =
     let at = c .before .before .before .before in
     let entry = at .before .before .before .before in

@@ -1,13 +1,11 @@
 -- `method_sliding_windows::start_of` meets its contract. Assumes nothing.
 use mathlib.Core.Path.{_≡_, ap, _∙_}
 use Prim.Native.Nat.{ℕ, _+_, _-_, _<_}
-use native.Mathlib.Nat.{lt-of-lt-of-le}
 use native.Mathlib.Numerals.{add-one}
 use native.Mathlib.Omega.{arith}
-use lib.Pow.{pow-mono}
 use Rattle.integers.specs.Bits.{bitLength}
 use Rattle.integers.specs.Positional.{wordsValue}
-use Rattle.methods.proofs.SlidingWindows.{first-window, window-entry}
+use Rattle.methods.proofs.SlidingWindows.{first-window}
 use Rattle.method_sliding_windows.specs.Scan.{windowAt, bitsDown, firstIn, startOf}
 use Rattle.method_sliding_windows.proofs.Digits.{start-large, start-window}
 use borrow.Author.Needs.{needs}
@@ -34,9 +32,6 @@ module _ (c : tie.After-window-in) where
   within : c .window-in .result .bits < bitLength e - 1 + 2
   within = rw window (omega (arith, first-window e d some (search needs) .within))
 
-  small : c .window-in .result .value < 64
-  small = rw window (lt-of-lt-of-le (window-entry (first-window e d some (search needs)) .narrow) (pow-mono {j = 6} (search needs)))
-
 bits-down-requires : tie.Need-bits-down-requires
 bits-down-requires c κs = search needs
 
@@ -51,7 +46,7 @@ sub-below : tie.Need-sub-below
 sub-below c = omega (arith, within (c .before))
 
 position-requires : tie.Need-position-requires
-position-requires c κs = small (c .before)
+position-requires c κs = search needs
 
 table-steps-requires : tie.Need-table-steps-requires
 table-steps-requires c κs = search needs

@@ -3,9 +3,6 @@ use borrow.Author.Tests.{eq-eqb, ne-eqb}
 use borrow.Author.Needs.{needs}
 use Rattle.method_sliding_windows.proofs.table_steps.Statement.{statement}
 use Rattle.method_sliding_windows.proofs.table_steps.Tie as tie
-use Rattle.method_sliding_windows.proofs.table_steps.Reads as reads
-use Rattle.method_sliding_windows.proofs.table_steps.Lts as lts
-use Rattle.method_sliding_windows.proofs.table_length.Reads as table-length-reads
 
 table-length-requires : tie.Need-table-length-requires
 table-length-requires c κs = search needs

@@ -1,10 +1,8 @@
--- `method_sliding_windows::table_length` meets its contract. Assumes nothing.
+-- `plan_writing::tables::table_length` meets its contract. Assumes nothing.
 use borrow.Author.Tests.{lt-ltb, le-ltb}
 use borrow.Author.Needs.{needs}
-use Rattle.method_sliding_windows.proofs.table_length.Statement.{statement}
-use Rattle.method_sliding_windows.proofs.table_length.Tie as tie
-use Rattle.method_sliding_windows.proofs.table_length.Reads as reads
-use Rattle.method_sliding_windows.proofs.table_length.Lts as lts
+use Rattle.plan_writing.proofs.tables.table_length.Statement.{statement}
+use Rattle.plan_writing.proofs.tables.table_length.Tie as tie
 
 sub-power-of-two : tie.Need-sub-power-of-two
 sub-power-of-two c = search needs

@@ -7,6 +7,7 @@ use native.Mathlib.Omega.{arith}
 use lib.IntN.{ℤ, pos}
 use lib.ListN.{length, drop, List·getD-append, List·getD-map}
 use Rattle.rules.specs.Limits.{numberBytes}
+use Rattle.rules.specs.Memory.{lengthWritten}
 use Rattle.rules.specs.declared.Written.the-variants.{Length}
 use Rattle.integers.specs.Positional.{bytesValue}
 use Rattle.integers.proofs.Positional.{Below}
@@ -20,7 +21,7 @@ use Rattle.recoding.proofs.Count.{length-recoding}
 use Rattle.recoding.proofs.Outcomes.{length-answered}
 use Rattle.recoding.proofs.Promises.{recoding-length}
 use Rattle.methods.specs.Forecast.{isPlus, isMinus}
-use Rattle.method_naf.specs.Digits.{mostDigits, lengthIn, Digit, nought, plus, minus, Recoded}
+use Rattle.method_naf.specs.Digits.{mostDigits, Digit, nought, plus, minus, Recoded}
 
 -- a byte that is not 0 takes a step beside the doubling
 pub step-more : {b : ℕ} {d : ℤ} → Digit b d → b ≢ 0 → isPlus d + isMinus d ≡ 1
@@ -42,7 +43,7 @@ module _ (number out : List ℕ) (bytes : Below 256 number) (h : length number �
   all-answered : recodeAnswer number (length out) ≡ Length (length (recoding number))
   all-answered = length-answered number (length out) (record { short = h }) (omega (arith, recoding-length number bytes))
 
-  pub recoded-there : (after : List ℕ) (n : ℕ) → after ≡ recodeBuffer number out → n ≡ lengthIn (recodeAnswer number (length out)) → Recoded number after n
+  pub recoded-there : (after : List ℕ) (n : ℕ) → after ≡ recodeBuffer number out → n ≡ lengthWritten (recodeAnswer number (length out)) → Recoded number after n
   unfolding recoding
   recoded-there after n e answered =
       let long : n ≡ length (recoding number) = answered ∙ rw all-answered in

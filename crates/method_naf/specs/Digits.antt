@@ -5,8 +5,6 @@ use Prim.Native.Nat.{ℕ, _+_, _*_, _<_, _≤_}
 use lib.IntN.{ℤ, pos, negsuc}
 use lib.ListN.{length, getD}
 use Rattle.rules.specs.Limits.{numberBytes}
-use Rattle.rules.specs.declared.Written.{Written}
-use Rattle.rules.specs.declared.Written.the-variants.{Length, Refused}
 use Rattle.integers.specs.Positional.{bytesValue}
 use Rattle.signed_digits.specs.Strings.{digitAt}
 use Rattle.signed_digits.specs.Naf.{canonical}
@@ -14,11 +12,6 @@ use Rattle.signed_digits.specs.Naf.{canonical}
 -- a number within the limit has at most so many canonical digits: one more than bits
 abbrev pub mostDigits : ℕ
 mostDigits = 8 * numberBytes + 1
-
--- the length that recode answers; of a refusal, which never comes, 0
-abbrev pub lengthIn : Written → ℕ
-lengthIn (Length n) = n
-lengthIn (Refused r) = 0
 
 -- the byte of a digit: 00 is 0, 01 is 1, FF is -1
 pub data Digit : ℕ → ℤ → Type 0 where

@@ -13,21 +13,23 @@ ghost use Prim.Native.Nat.{ℕ, _+_, _*_, _≤_};
 ghost use lib.IntN.{ℤ};
 ghost use lib.ListN.{length, drop};
 ghost use Rattle.rules.specs.Limits.{numberBytes, stepBytes};
+ghost use Rattle.rules.specs.Memory.{lengthWritten};
 ghost use Rattle.integers.specs.Positional.{bytesValue};
 ghost use Rattle.integers.specs.Signed.{signOf};
 ghost use Rattle.chains.specs.Steps.{planBytesOf};
 ghost use Rattle.chains.specs.Counts.{countsOf};
 ghost use Rattle.methods.specs.PartialPlan.{PartialPlan};
-ghost use Rattle.methods.specs.NonAdjacentForm.{atDigit, nafSteps};
+ghost use Rattle.methods.specs.DigitSteps.{atDigit};
+ghost use Rattle.methods.specs.NonAdjacentForm.{nafSteps};
 ghost use Rattle.plan_writing.specs.Writing.{Writing};
-ghost use Rattle.method_naf.specs.Digits.{lengthIn, Digit, Recoded};
+ghost use Rattle.method_naf.specs.Digits.{Digit, Recoded};
 
 // The most canonical digits of a number within the limit: one more than it has bits.
 const MOST_DIGITS: usize = 8 * NUMBER_BYTES + 1;
 
 // The length that was answered.
 fn length_of(written: Written) -> usize
-    ensures { λ r. ⌜ r ≡ lengthIn written ⌝ }
+    ensures { λ r. ⌜ r ≡ lengthWritten written ⌝ }
 {
     match written {
         Written::Length(n) => n,

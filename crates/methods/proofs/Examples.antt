@@ -12,16 +12,17 @@ use Rattle.integers.specs.Bits.{bit, lengthUpTo, bitLength}
 use Rattle.methods.specs.Binary.{binarySteps}
 use Rattle.methods.specs.Widths.{fixedWindowBits}
 use Rattle.methods.specs.Tables.{tableBy}
+use Rattle.methods.specs.DigitSteps.{digitSteps}
 use Rattle.methods.specs.FixedWindows.{windowSteps, fixedWindowSteps}
 use Rattle.methods.specs.SlidingWindows.{longest, slide, slidingWindowSteps}
-use Rattle.methods.specs.NonAdjacentForm.{digitSteps, nafSteps}
+use Rattle.methods.specs.NonAdjacentForm.{nafSteps}
 
 pub steps-for-43 : (length (binarySteps 43) ≡ 8) × (length (fixedWindowSteps 43 2) ≡ 8) × (length (slidingWindowSteps 43 3) ≡ 8) × (length (nafSteps 43) ≡ 9)
 unfolding binarySteps fixedWindowSteps slidingWindowSteps nafSteps windowSteps tableBy longest slide digitSteps followed doubled downFrom lengthUpTo bitLength bit residue lowDigit rest digitsOf naf
 steps-for-43 = (refl, refl, refl, refl)
 
 pub naf-values-for-43 : valuesOf (nafSteps 43) ≡ map pos (1 ∷ 2 ∷ 4 ∷ 3 ∷ 6 ∷ 12 ∷ 11 ∷ 22 ∷ 44 ∷ 43 ∷ [])
-unfolding nafSteps digitSteps followed downFrom residue lowDigit rest digitsOf naf valuesOf extend stepValue
+unfolding nafSteps digitSteps tableBy followed downFrom residue lowDigit rest digitsOf naf valuesOf extend stepValue
 naf-values-for-43 = refl
 
 pub plan-for-3 : planBytesOf (binarySteps 3) ≡ 0 ∷ 0 ∷ 0 ∷ 0 ∷ 0 ∷ 0 ∷ 1 ∷ 0 ∷ 0 ∷ 0 ∷ []

@@ -2,6 +2,7 @@ pub mod Laws
 pub mod Counted
 pub mod Tables
 pub mod OddMultiples
+pub mod DigitSteps
 pub mod Binary
 pub mod FixedWindows
 pub mod SlidingWindows

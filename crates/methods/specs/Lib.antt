@@ -3,6 +3,7 @@ pub mod Widths
 pub mod PartialPlan
 pub mod Tables
 pub mod OddMultiples
+pub mod DigitSteps
 pub mod Binary
 pub mod FixedWindows
 pub mod SlidingWindows

@@ -6,17 +6,12 @@ use native.Mathlib.Omega.{arith}
 use lib.IntN.{ℤ, pos}
 use Rattle.integers.specs.Signed.{signOf}
 use Rattle.methods.specs.PartialPlan.{PartialPlan, double, followed}
-use Rattle.methods.specs.NonAdjacentForm.{atDigit}
+use Rattle.methods.specs.DigitSteps.{atDigit}
 use Rattle.plan_writing.specs.Writing.{stepWith}
 use Rattle.method_naf.specs.Digits.{Digit, nought, plus, minus}
 use borrow.Author.Needs.{needs}
 use Rattle.method_naf.proofs.at_digit.Statement.{statement}
 use Rattle.method_naf.proofs.at_digit.Tie as tie
-use Rattle.method_naf.proofs.at_digit.Reads as reads
-use Rattle.method_naf.proofs.at_digit.Lts as lts
-use Rattle.method_naf.proofs.sign.Reads as sign-reads
-use Rattle.plan_writing.proofs.Cursor.double.Reads as double-reads
-use Rattle.plan_writing.proofs.Cursor.step_at.Reads as step-at-reads
 
 is-nought : {byte : ℕ} {d : ℤ} → Digit byte d → byte ≡ 0 → d ≡ pos 0
 is-nought nought e = refl

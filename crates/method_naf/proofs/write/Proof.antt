@@ -8,18 +8,16 @@ use Rattle.integers.specs.Positional.{bytesValue}
 use Rattle.signed_digits.specs.Strings.{digitAt}
 use Rattle.signed_digits.specs.Naf.{canonical}
 use Rattle.methods.specs.PartialPlan.{PartialPlan, none}
-use Rattle.methods.specs.NonAdjacentForm.{atDigit, digitSteps, nafSteps}
-use Rattle.methods.proofs.NonAdjacentForm.{some-digits, length-at-digit}
+use Rattle.methods.specs.DigitSteps.{atDigit}
+use Rattle.methods.specs.NonAdjacentForm.{nafSteps}
+use Rattle.methods.proofs.Laws.{Small, number-small}
+use Rattle.methods.proofs.DigitSteps.{length-at-digit}
+use Rattle.methods.proofs.NonAdjacentForm.{some-digits, naf-down}
 use Rattle.plan_writing.proofs.Underway.{Underway, down, nothing-written, underway-next, underway-room, underway-end}
 use Rattle.method_naf.proofs.Digits.{step-more}
 use borrow.Author.Needs.{needs}
 use Rattle.method_naf.proofs.write.Statement.{statement}
 use Rattle.method_naf.proofs.write.Tie as tie
-use Rattle.method_naf.proofs.write.Reads as reads
-use Rattle.method_naf.proofs.write.Lts as lts
-use Rattle.method_naf.proofs.at_digit.Reads as at-digit-reads
-use Rattle.method_naf.proofs.recoded.Reads as recoded-reads
-use Rattle.plan_writing.proofs.Cursor.first.Reads as first-reads
 
 -- the steps of the digit at a place
 abbrev atPlace : ℕ → ℕ → PartialPlan → PartialPlan
@@ -42,13 +40,13 @@ sub-i c =
     omega (arith, c .recoded .ensures .count, some-digits (bytesValue (c .before .before .before .before .before .args .number .now)) (search needs))
 
 loop-holds : tie.Need-loop-holds Inv-loop μ-loop
-unfolding nafSteps digitSteps
 loop-holds c =
     let args = c .before .before .before .before .before .args in
     let e : ℕ = bytesValue (args .number .now) in
     let n = c .recoded .ensures .count in
     let first = c .before .before .first in
-    (omega (arith, n, some-digits e (search needs)), refl, record { building = none; writing = nothing-written (args .out .now) (first .result) (first .ensures .0) (first .ensures .1); rest = rw n })
+    let small : Small (e + 1) = number-small (args .number .now) (λ i. c .before .before .before .before .shared-slice-known .given i .fits) (search needs) in
+    (omega (arith, n, some-digits e (search needs)), refl, record { building = none; writing = nothing-written (args .out .now) (first .result) (first .ensures .0) (first .ensures .1); rest = rw (n, naf-down e (search needs) small) })
 
 sub-i-2 : tie.Need-sub-i-2 Inv-loop μ-loop
 sub-i-2 c = search needs

@@ -5,10 +5,6 @@ use Rattle.methods.specs.PartialPlan.{double}
 use borrow.Author.Needs.{needs}
 use Rattle.method_binary.proofs.at_bit.Statement.{statement}
 use Rattle.method_binary.proofs.at_bit.Tie as tie
-use Rattle.method_binary.proofs.at_bit.Reads as reads
-use Rattle.method_binary.proofs.at_bit.Lts as lts
-use Rattle.plan_writing.proofs.Cursor.add_at.Reads as add-at-reads
-use Rattle.plan_writing.proofs.Cursor.double.Reads as double-reads
 
 double-requires : tie.Need-double-requires
 double-requires c κs = search needs

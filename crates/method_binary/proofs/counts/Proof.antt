@@ -9,10 +9,6 @@ use Rattle.methods.proofs.Binary.{ones-positive, binary-counts}
 use borrow.Author.Needs.{needs}
 use Rattle.method_binary.proofs.counts.Statement.{statement}
 use Rattle.method_binary.proofs.counts.Tie as tie
-use Rattle.method_binary.proofs.counts.Reads as reads
-use Rattle.method_binary.proofs.counts.Lts as lts
-use Rattle.integers.proofs.bit_length.Reads as bit-length-reads
-use Rattle.integers.proofs.ones.Reads as ones-reads
 
 bit-length-requires : tie.Need-bit-length-requires
 bit-length-requires c κs = search needs

@@ -13,12 +13,6 @@ use Rattle.plan_writing.proofs.Underway.{Underway, down, nothing-written, under
 use borrow.Author.Needs.{needs}
 use Rattle.method_binary.proofs.write.Statement.{statement}
 use Rattle.method_binary.proofs.write.Tie as tie
-use Rattle.method_binary.proofs.write.Reads as reads
-use Rattle.method_binary.proofs.write.Lts as lts
-use Rattle.integers.proofs.bit_at.Reads as bit-at-reads
-use Rattle.integers.proofs.bit_length.Reads as bit-length-reads
-use Rattle.method_binary.proofs.at_bit.Reads as at-bit-reads
-use Rattle.plan_writing.proofs.Cursor.first.Reads as first-reads
 
 abbrev Inv-loop : tie.InvT-loop
 Inv-loop number out₀ c₀ i₀ out c i = (i + 1 ≤ bitLength (bytesValue number)) × (length out ≡ length out₀) × Underway out₀ out c (λ i b. atBit (bit (bytesValue number) i) b) i (binarySteps (bytesValue number))

@@ -14,9 +14,6 @@ use Rattle.method_naf.proofs.Tally.{plus-digits, minus-digits, some-plu
 use borrow.Author.Needs.{needs}
 use Rattle.method_naf.proofs.counts.Statement.{statement}
 use Rattle.method_naf.proofs.counts.Tie as tie
-use Rattle.method_naf.proofs.counts.Reads as reads
-use Rattle.method_naf.proofs.counts.Lts as lts
-use Rattle.method_naf.proofs.words.tally_of.Reads as tally-of-reads
 
 tally-of-requires : tie.Need-tally-of-requires
 tally-of-requires c κs = search needs

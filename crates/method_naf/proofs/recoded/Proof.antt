@@ -3,10 +3,6 @@ use Rattle.method_naf.proofs.Digits.{recoded-there}
 use borrow.Author.Needs.{needs}
 use Rattle.method_naf.proofs.recoded.Statement.{statement}
 use Rattle.method_naf.proofs.recoded.Tie as tie
-use Rattle.method_naf.proofs.recoded.Reads as reads
-use Rattle.method_naf.proofs.recoded.Lts as lts
-use Rattle.method_naf.proofs.length_of.Reads as length-of-reads
-use Rattle.recoding.proofs.recode.Reads as recode-reads
 
 recode-requires : tie.Need-recode-requires
 recode-requires c κs = search needs

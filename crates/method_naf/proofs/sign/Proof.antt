@@ -7,8 +7,6 @@ use Rattle.integers.specs.Signed.{signOf}
 use Rattle.method_naf.specs.Digits.{Digit, nought, plus, minus}
 use Rattle.method_naf.proofs.sign.Statement.{statement}
 use Rattle.method_naf.proofs.sign.Tie as tie
-use Rattle.method_naf.proofs.sign.Reads as reads
-use Rattle.method_naf.proofs.sign.Lts as lts
 
 by-byte : {byte : ℕ} {d : ℤ} → Digit byte d → byte / 128 ≡ signOf d
 by-byte nought = refl

@@ -8,8 +8,6 @@ use Rattle.plan_writing.proofs.Puts.{five-stores}
 use borrow.Author.Needs.{needs}
 use Rattle.plan_writing.proofs.put.Statement.{statement}
 use Rattle.plan_writing.proofs.put.Tie as tie
-use Rattle.plan_writing.proofs.put.Reads as reads
-use Rattle.plan_writing.proofs.put.Lts as lts
 
 mul-at : tie.Need-mul-at
 mul-at c = search needs

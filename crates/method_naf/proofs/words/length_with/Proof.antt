@@ -6,8 +6,6 @@ use Rattle.method_naf.proofs.Tally.{length-none, length-by-zeros}
 use borrow.Author.Needs.{needs}
 use Rattle.method_naf.proofs.words.length_with.Statement.{statement}
 use Rattle.method_naf.proofs.words.length_with.Tie as tie
-use Rattle.method_naf.proofs.words.length_with.Reads as reads
-use Rattle.method_naf.proofs.words.length_with.Lts as lts
 
 returns : tie.Need-returns
 returns c =

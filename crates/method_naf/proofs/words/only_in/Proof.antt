@@ -7,8 +7,6 @@ use lib.Count.{ones, ones-le}
 use Rattle.method_naf.specs.Tally.{onlyIn}
 use Rattle.method_naf.proofs.words.only_in.Statement.{statement}
 use Rattle.method_naf.proofs.words.only_in.Tie as tie
-use Rattle.method_naf.proofs.words.only_in.Reads as reads
-use Rattle.method_naf.proofs.words.only_in.Lts as lts
 
 sub-result : tie.Need-sub-result
 sub-result c = and-le-l (c .args .a) (c .args .b)

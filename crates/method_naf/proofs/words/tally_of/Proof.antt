@@ -13,10 +13,6 @@ use Rattle.method_naf.proofs.Tally.{nothing-tallied, all-tallied}
 use borrow.Author.Needs.{needs}
 use Rattle.method_naf.proofs.words.tally_of.Statement.{statement}
 use Rattle.method_naf.proofs.words.tally_of.Tie as tie
-use Rattle.method_naf.proofs.words.tally_of.Reads as reads
-use Rattle.method_naf.proofs.words.tally_of.Lts as lts
-use Rattle.integers.proofs.words_of.Reads as words-of-reads
-use Rattle.method_naf.proofs.words.Tally.with_word.Reads as with-word-reads
 
 abbrev Inv-loop : tie.InvT-loop
 Inv-loop number words below₀ k₀ below k = (k ≤ numberWords) × (below .places ≡ 64 * k) × Within below × Tallied (wordsValue words) (wordsValue (drop k words)) below

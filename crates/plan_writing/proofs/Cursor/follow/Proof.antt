@@ -5,9 +5,6 @@ use Rattle.plan_writing.proofs.Puts.{followed-writing}
 use borrow.Author.Needs.{needs}
 use Rattle.plan_writing.proofs.Cursor.follow.Statement.{statement}
 use Rattle.plan_writing.proofs.Cursor.follow.Tie as tie
-use Rattle.plan_writing.proofs.Cursor.follow.Reads as reads
-use Rattle.plan_writing.proofs.Cursor.follow.Lts as lts
-use Rattle.plan_writing.proofs.put.Reads as put-reads
 
 put-requires : tie.Need-put-requires
 put-requires c κs = search needs

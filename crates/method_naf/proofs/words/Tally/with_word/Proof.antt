@@ -6,11 +6,6 @@ use Rattle.method_naf.proofs.Tally.{next-carry, next-small, tallied-wor
 use borrow.Author.Needs.{needs}
 use Rattle.method_naf.proofs.words.Tally.with_word.Statement.{statement}
 use Rattle.method_naf.proofs.words.Tally.with_word.Tie as tie
-use Rattle.method_naf.proofs.words.Tally.with_word.Reads as reads
-use Rattle.method_naf.proofs.words.Tally.with_word.Lts as lts
-use Rattle.method_naf.proofs.words.length_with.Reads as length-with-reads
-use Rattle.method_naf.proofs.words.only_in.Reads as only-in-reads
-use Rattle.method_naf.proofs.words.tripled.Reads as tripled-reads
 
 tripled-requires : tie.Need-tripled-requires
 tripled-requires c κs = search needs

@@ -41,17 +41,26 @@ impl Cursor {
         }
     }
 
-    // One step more, which fills the next position.
-    fn follow(self, out: &mut [u8], operation: u8, j: usize, k: usize) -> Cursor
+    // The operation of latest and p: one step more, which fills the next position.
+    pub fn step_at(self, out: &mut [u8], operation: u8, p: usize) -> Cursor
         requires { ⌜ stepBytes * self .steps + stepBytes ≤ length (now out) ⌝ }
-        ensures { λ r. ⌜ (r .steps ≡ self .steps + 1) × ((lent : List ℕ) (b : PartialPlan) → Writing lent (now (out .entry)) self b → Writing lent (now (out .exit)) r (followed b (stepWith operation j k))) ⌝ }
+        ensures { λ r. ⌜ (r .steps ≡ self .steps + 1) × ((lent : List ℕ) (b : PartialPlan) → Writing lent (now (out .entry)) self b → Writing lent (now (out .exit)) r (followed b (stepWith operation (b .latest) p))) ⌝ }
     {
         let n = self.steps;
-        put(out, n, operation, j, k);
+        let latest = self.latest;
+        put(out, n, operation, latest, p);
         Cursor {
             steps: n + 1,
             latest: n + 1,
         }
+    }
+
+    // add(latest, p)
+    pub fn add_at(self, out: &mut [u8], p: usize) -> Cursor
+        requires { ⌜ stepBytes * self .steps + stepBytes ≤ length (now out) ⌝ }
+        ensures { λ r. ⌜ (r .steps ≡ self .steps + 1) × ((lent : List ℕ) (b : PartialPlan) → Writing lent (now (out .entry)) self b → Writing lent (now (out .exit)) r (addAt p b)) ⌝ }
+    {
+        self.step_at(out, 0, p)
     }
 
     // add(latest, latest)
@@ -60,7 +69,7 @@ impl Cursor {
         ensures { λ r. ⌜ (r .steps ≡ self .steps + 1) × ((lent : List ℕ) (b : PartialPlan) → Writing lent (now (out .entry)) self b → Writing lent (now (out .exit)) r (double b)) ⌝ }
     {
         let latest = self.latest;
-        self.follow(out, 0, latest, latest)
+        self.step_at(out, 0, latest)
     }
 
     // The same n times.
@@ -75,23 +84,5 @@ impl Cursor {
             done += 1;
         }
         last
-    }
-
-    // add(latest, p)
-    pub fn add_at(self, out: &mut [u8], p: usize) -> Cursor
-        requires { ⌜ stepBytes * self .steps + stepBytes ≤ length (now out) ⌝ }
-        ensures { λ r. ⌜ (r .steps ≡ self .steps + 1) × ((lent : List ℕ) (b : PartialPlan) → Writing lent (now (out .entry)) self b → Writing lent (now (out .exit)) r (addAt p b)) ⌝ }
-    {
-        let latest = self.latest;
-        self.follow(out, 0, latest, p)
-    }
-
-    // The operation of latest and p.
-    pub fn step_at(self, out: &mut [u8], operation: u8, p: usize) -> Cursor
-        requires { ⌜ stepBytes * self .steps + stepBytes ≤ length (now out) ⌝ }
-        ensures { λ r. ⌜ (r .steps ≡ self .steps + 1) × ((lent : List ℕ) (b : PartialPlan) → Writing lent (now (out .entry)) self b → Writing lent (now (out .exit)) r (followed b (stepWith operation (b .latest) p))) ⌝ }
-    {
-        let latest = self.latest;
-        self.follow(out, operation, latest, p)
     }
 }

@@ -3,16 +3,16 @@ use borrow.Author.Needs.{needs}
 use Rattle.plan_writing.proofs.Cursor.double.Statement.{statement}
 use Rattle.plan_writing.proofs.Cursor.double.Tie as tie
 
-follow-requires : tie.Need-follow-requires
-follow-requires c κs = search needs
+step-at-requires : tie.Need-step-at-requires
+step-at-requires c κs = search needs
 
 same-length : tie.Need-same-length
 same-length c = search needs
 
 returns : tie.Need-returns
 returns c =
-    let r = c .before .before .follow in
+    let r = c .before .before .step-at in
     (r .ensures .0, λ lent b w. rw (w .latest) at (r .ensures .1 lent b w))
 
 pub double-spec : {M : Type 1} → statement M
-double-spec = tie.close (tie.spec follow-requires same-length returns)
+double-spec = tie.close (tie.spec step-at-requires same-length returns)

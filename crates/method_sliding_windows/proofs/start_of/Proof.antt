@@ -6,7 +6,7 @@ use native.Mathlib.Omega.{arith}
 use Rattle.integers.specs.Bits.{bitLength}
 use Rattle.integers.specs.Positional.{wordsValue}
 use Rattle.methods.proofs.SlidingWindows.{first-window}
-use Rattle.method_sliding_windows.specs.Scan.{windowAt, bitsDown, firstIn, startOf}
+use Rattle.method_sliding_windows.specs.Scan.{windowAt, bitsDown, firstIn, tableSteps, startOf}
 use Rattle.method_sliding_windows.proofs.Digits.{start-large, start-window}
 use borrow.Author.Needs.{needs}
 use Rattle.method_sliding_windows.proofs.start_of.Statement.{statement}
@@ -54,10 +54,12 @@ table-steps-requires c κs = search needs
 returns : tie.Need-returns
 unfolding startOf
 returns c =
-    let args = c .before .before .before .before .before .before .args in
+    let at = c .before .before .before in
+    let args = at .before .before .before .args in
     let n : ℕ = bitLength (wordsValue (args .words .now)) - 1 in
     let top : args .n ≡ n = search needs in
-    rw (c .table-steps .ensures, top, add-one n, c .before .position .ensures, window (c .before .before .before))
+    let table : c .table-steps .result ≡ tableSteps (args .n + 1 - at .window-in .result .bits) (c .before .position .result) (args .width) = c .table-steps .ensures in
+    rw (table, top, add-one n, c .before .position .ensures, window at)
 
 pub start-of-spec : {M : Type 1} → statement M
 start-of-spec =

@@ -36,7 +36,7 @@ only-in-step a b =
     ones-step x ∙ rw (low, high)
 
 -- a word, and what stands above
-pub only-in-word : (a b r s : ℕ) → r < 2 ^ 64 → s < 2 ^ 64 → onlyIn (a * 2 ^ 64 + r) (b * 2 ^ 64 + s) ≡ onlyIn a b + onlyIn r s
+only-in-word : (a b r s : ℕ) → r < 2 ^ 64 → s < 2 ^ 64 → onlyIn (a * 2 ^ 64 + r) (b * 2 ^ 64 + s) ≡ onlyIn a b + onlyIn r s
 unfolding onlyIn
 only-in-word a b r s hr hs =
     let e : a * 2 ^ 64 + r - bitAnd (a * 2 ^ 64 + r) (b * 2 ^ 64 + s) ≡ (a - bitAnd a b) * 2 ^ 64 + (r - bitAnd r s) =

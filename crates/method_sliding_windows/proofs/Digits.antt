@@ -41,7 +41,7 @@ module _ (e p : ℕ) where
   abbrev x : ℕ
   x = bitsDown e p
 
-  pub digits-small : x < 2 ^ 64
+  digits-small : x < 2 ^ 64
   digits-small = mod-lt (2 ^ 64 * e / 2 ^ (p + 1)) (pow-pos 64)
 
   -- the l digits from m on

@@ -41,8 +41,8 @@ signs-le (negsuc n ∷ ds) = omega (arith, signs-le ds)
 abbrev pub from : List ℤ → ℕ → ℕ
 from ds i = positivePart (value (drop i ds))
 
--- What the string must be like: with n steps of the table before. Each value from a place on is above zero and small, and so is the value from
--- which a digit below zero is subtracted. The table has each digit that is not 0, and ends with a string of one digit.
+-- A string whose steps can follow n steps of the table. Each value from a place on is above zero and small, and so is that from which a digit below
+-- zero is subtracted. The table has each digit that is not 0, and ends at a digit that is the whole string.
 pub record Suited (n : ℕ) (ds : List ℤ) : Type 0 where
   pub some : 0 < length ds
   pub positive : (i : ℕ) → i < length ds → 0 < from ds i

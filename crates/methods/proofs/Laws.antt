@@ -26,7 +26,7 @@ use Rattle.methods.specs.PartialPlan.{PartialPlan, none, followed, doubl
 
 -- ---- one step more
 
-pub values-followed : (steps : List Step) (s : Step) → valuesOf (steps ++ (s ∷ [])) ≡ valuesOf steps ++ (stepValue (valuesOf steps) s ∷ [])
+values-followed : (steps : List Step) (s : Step) → valuesOf (steps ++ (s ∷ [])) ≡ valuesOf steps ++ (stepValue (valuesOf steps) s ∷ [])
 unfolding valuesOf extend
 values-followed steps s = extend-append (pos 1 ∷ []) steps (s ∷ [])
 
@@ -35,14 +35,14 @@ pub value-kept : (steps : List Step) (s : Step) (p : ℕ) → p ≤ length steps
 value-kept steps s p h =
     ap (λ (l : List ℤ). at l p) (values-followed steps s) ∙ List·getD-append (valuesOf steps) (stepValue (valuesOf steps) s ∷ []) (pos 0) p (omega (arith, length-values steps))
 
-pub value-new : (steps : List Step) (s : Step) → at (valuesOf (steps ++ (s ∷ []))) (suc (length steps)) ≡ stepValue (valuesOf steps) s
+value-new : (steps : List Step) (s : Step) → at (valuesOf (steps ++ (s ∷ []))) (suc (length steps)) ≡ stepValue (valuesOf steps) s
 value-new steps s =
     ap (λ (l : List ℤ). at l (suc (length steps))) (values-followed steps s) ∙ getD-at (valuesOf steps) (stepValue (valuesOf steps) s) [] (pos 0) (suc (length steps)) (length-values steps)
 
-pub sound-none : Sound []
+sound-none : Sound []
 sound-none = record { formed = λ n h. absurd (omega arith); representable = λ n h. absurd (omega arith) }
 
-pub sound-followed : (steps : List Step) (s : Step) → Sound steps → WellFormed (suc (length steps)) s → Representable (stepValue (valuesOf steps) s) → Sound (steps ++ (s ∷ []))
+sound-followed : (steps : List Step) (s : Step) → Sound steps → WellFormed (suc (length steps)) s → Representable (stepValue (valuesOf steps) s) → Sound (steps ++ (s ∷ []))
 sound-followed steps s all n v = record { formed = formed; representable = representable }
   where
     formed : (i : ℕ) → i < length (steps ++ (s ∷ [])) → WellFormed (suc i) (stepAt (steps ++ (s ∷ [])) i)
@@ -127,7 +127,7 @@ one-stands b = record { filled = omega arith; value = extend-keeps start (b .ste
 zero-not : (v : ℕ) → 0 < v → v ≡ 0 → ⊥
 zero-not v p e = omega arith
 
-pub followed-holds : (b : PartialPlan) (s : Step) (v : ℕ) → Sound (b .steps) → WellFormed (suc (length (b .steps))) s → stepValue (valuesOf (b .steps)) s ≡ pos v
+followed-holds : (b : PartialPlan) (s : Step) (v : ℕ) → Sound (b .steps) → WellFormed (suc (length (b .steps))) s → stepValue (valuesOf (b .steps)) s ≡ pos v
     → 0 < v → Small v → Holds (followed b s) v
 unfolding followed Small
 followed-holds b s v all n e p l = record {
@@ -152,7 +152,7 @@ double-holds b v h some small =
     let e : 2 * v ≡ v + v = omega arith in
     rw e (add-holds b (b .latest) v v h (record { filled = h .within; value = h .value }) (omega arith) (rw e at small))
 
-pub subtract-holds : (b : PartialPlan) (p v w : ℕ) → Holds b v → Stands b p w → w < v → Small v → Holds (subtractAt p b) (v - w)
+subtract-holds : (b : PartialPlan) (p v w : ℕ) → Holds b v → Stands b p w → w < v → Small v → Holds (subtractAt p b) (v - w)
 unfolding stepValue
 subtract-holds b p v w h t less small =
     followed-holds b (subtract (b .latest) p) (v - w) (h .sound) (record { operation = omega arith; first = omega (arith, h .within); second = omega (arith, t .filled) })

@@ -54,7 +54,7 @@ second-before zero = omega arith
 second-before (suc zero) = omega arith
 second-before (suc (suc n)) = omega arith
 
-pub odd-holds : (n : ℕ) → Small (tableValue n) → (p : ℕ) → p ≤ n → Holds (tabled oddSecond n p) (tableValue p)
+odd-holds : (n : ℕ) → Small (tableValue n) → (p : ℕ) → p ≤ n → Holds (tabled oddSecond n p) (tableValue p)
 unfolding tableValue
 odd-holds = table-holds oddSecond tableValue refl value-next (λ n. omega (arith, second-before n))
 

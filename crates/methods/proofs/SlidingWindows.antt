@@ -218,7 +218,7 @@ abbrev atFirst : ℕ → ℕ → PartialPlan
 atFirst e d = tabled oddSecond (tableLength d) (oddPosition (windowValue e (top e) (longest e (top e) d)))
 
 module _ (e d : ℕ) (some : 0 < e) (wide : 1 ≤ d) where
-  pub first-one : bit e (top e) ≡ 1
+  first-one : bit e (top e) ≡ 1
   first-one = omega (arith, place-down e (top e), top-bit e some, bit-small e (top e))
 
   pub first-window : Window e (top e) d (longest e (top e) d)

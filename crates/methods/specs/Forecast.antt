@@ -1,4 +1,4 @@
--- What gives a method's counts without its steps (document 01, "Forecast"). That they are the counts of the steps is shown in proofs/.
+-- What gives a method's counts without its steps (docs/RULES.md, "Calls"). That they are the counts of the steps is shown in proofs/.
 use Prim.Native.Nat.{ℕ, zero, suc, _+_, _-_, _%_, _^_}
 use mathlib.Core.Bool.{cond}
 use mathlib.Core.List.{List, [], _∷_}

@@ -1,4 +1,4 @@
--- Document 01, "The methods": the steps that each method gives for a number e above zero. A method has a file here.
+-- docs/RULES.md, "Methods": the steps that each method gives for a number e above zero. A method has a file here.
 pub mod Widths
 pub mod PartialPlan
 pub mod Tables

@@ -1,5 +1,5 @@
 -- Sums and differences of words, and what they carry or borrow: of one word, which wraps, and of a number, word by word. Assumes nothing.
-use mathlib.Core.Path.{_≡_, refl, ap}
+use mathlib.Core.Path.{_≡_, refl, sym, ap}
 use mathlib.Core.Bool.{Bool, true, false, _||_}
 use mathlib.Core.List.{List}
 use Prim.Native.Nat.{ℕ, _+_, _*_, _^_, _%_, _<_, _≤_}
@@ -31,7 +31,7 @@ unwrapped a b d hb hd e = go (ltb a b) refl
     go true l = omega (arith, ltb-true a b l)
     go false l = omega (arith, ltb-false a b l)
 
-bool-small : (p : Bool) → boolByte p ≤ 1
+pub bool-small : (p : Bool) → boolByte p ≤ 1
 bool-small true = omega arith
 bool-small false = omega arith
 
@@ -71,11 +71,19 @@ one-more P x y z p q r c d h e =
     let m : P * (r + 2 ^ 64 * d) ≡ P * r + P * 2 ^ 64 * d = rw (mul-add P r (2 ^ 64 * d), mul-assoc P (2 ^ 64) d) in
     omega (arith, ap (λ (n : ℕ). P * n) e)
 
-pub carried-more : (k : ℕ) (v w u : List ℕ) (c d : Bool) → Carried k v w u c → getD v k 0 + getD w k 0 + boolByte c ≡ getD u k 0 + 2 ^ 64 * boolByte d
+carried-more : (k : ℕ) (v w u : List ℕ) (c d : Bool) → Carried k v w u c → getD v k 0 + getD w k 0 + boolByte c ≡ getD u k 0 + 2 ^ 64 * boolByte d
     → Carried (k + 1) v w u d
 carried-more k v w u c d h e =
     rw (add-one, positional-take (2 ^ 64) k v, positional-take (2 ^ 64) k w, positional-take (2 ^ 64) k u, pow-suc (2 ^ 64) k)
     (one-more ((2 ^ 64) ^ k) (wordsValue (take k v)) (wordsValue (take k w)) (wordsValue (take k u)) (getD v k 0) (getD w k 0) (getD u k 0) (boolByte c) (boolByte d) h e)
+
+-- the next word x is stored: of the sum of a and b, or of what is left of a without b
+module _ (k : ℕ) (a b words : List ℕ) (x : ℕ) (c d : Bool) (h : k < length words) where
+  pub sum-stored : Carried k a b words c → x + 2 ^ 64 * boolByte d ≡ getD a k 0 + getD b k 0 + boolByte c → Carried (k + 1) a b (set words k x) d
+  sum-stored w e = carried-more k a b (set words k x) c d (rw (take-set-le k words k x (omega arith)) w) (rw (getD-set-same words k x 0 h) (sym e))
+
+  pub difference-stored : Carried k words b a c → x + getD b k 0 + boolByte c ≡ getD a k 0 + 2 ^ 64 * boolByte d → Carried (k + 1) (set words k x) b a d
+  difference-stored w e = carried-more k (set words k x) b a c d (rw (take-set-le k words k x (omega arith)) w) (rw (getD-set-same words k x 0 h) e)
 
 pub carried-none : (v w u : List ℕ) → Carried 0 v w u false
 unfolding positional
@@ -85,12 +93,9 @@ pub carried-all : (k : ℕ) (v w u : List ℕ) (c : Bool) → length v ≡ k →
     → wordsValue v + wordsValue w ≡ wordsValue u + (2 ^ 64) ^ k * boolByte c
 carried-all k v w u c hv hw hu h = rw (take-all k v (omega arith), take-all k w (omega arith), take-all k u (omega arith)) at h
 
--- a word is stored at k
-pub stored-low : (l : List ℕ) (k x : ℕ) → take k (set l k x) ≡ take k l
-stored-low l k x = take-set-le k l k x (omega arith)
-
+-- the words stored so far hold no more than they can
 pub stored-lt : (l : List ℕ) (k x : ℕ) → k < length l → x < 2 ^ 64 → wordsValue (take k l) < (2 ^ 64) ^ k → wordsValue (take (k + 1) (set l k x)) < (2 ^ 64) ^ (k + 1)
 stored-lt l k x h b p =
     let d : x * (2 ^ 64) ^ k + wordsValue (take k l) < 2 ^ 64 * (2 ^ 64) ^ k = digits-lt b p in
-    rw (add-one, positional-take (2 ^ 64) k (set l k x), stored-low l k x, getD-set-same l k x 0 h, pow-suc (2 ^ 64) k)
+    rw (add-one, positional-take (2 ^ 64) k (set l k x), take-set-le k l k x (omega arith), getD-set-same l k x 0 h, pow-suc (2 ^ 64) k)
     (omega (arith, d, mul-comm ((2 ^ 64) ^ k) x, mul-comm ((2 ^ 64) ^ k) (2 ^ 64)))

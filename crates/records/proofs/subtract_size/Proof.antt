@@ -1,30 +1,26 @@
 -- `records::subtract_size` meets its contract: the k low words are subtracted. Assumes nothing.
 use mathlib.Core.Path.{_≡_}
-use Prim.Native.Nat.{_≤_, _<_, _+_, _*_, _-_, _^_}
-use lib.ListN.{length, getD, set, take, replicate}
-use lib.Seq.{getD-set-same, take-all}
-use mir.Val.{boolByte}
+use Prim.Native.Nat.{_≤_, _<_, _-_, _^_}
+use lib.ListN.{length, take, replicate}
+use lib.Seq.{take-all}
 use Rattle.rules.specs.Limits.{valueWords}
 use Rattle.integers.specs.Positional.{positional, wordsValue}
-use Rattle.integers.proofs.Carry.{Carried, carried-none, carried-more, carried-all, stored-low, stored-lt}
+use Rattle.integers.proofs.Carry.{Carried, carried-none, difference-stored, stored-lt, carried-all}
 use Rattle.records.proofs.Sizes.{borrowed}
 use borrow.Author.Needs.{needs}
 use Rattle.records.proofs.subtract_size.Statement.{statement}
 use Rattle.records.proofs.subtract_size.Tie as tie
-use Rattle.records.proofs.subtract_size.Reads as reads
-use Rattle.records.proofs.subtract_size.Lts as lts
-use Rattle.integers.proofs.subtract_with_borrow.Reads as subtract-with-borrow-reads
 
 abbrev Inv-loop : tie.InvT-loop
 Inv-loop a b words₀ borrow₀ k₀ words borrow k =
-    (k ≤ valueWords) × (length words ≡ valueWords) × (wordsValue (take k words) < (2 ^ 64) ^ k) × Carried k words b a borrow
+    (k ≤ valueWords) × (length words ≡ valueWords) × Carried k words b a borrow × (wordsValue (take k words) < (2 ^ 64) ^ k)
 
 abbrev μ-loop : tie.MeasureT-loop
 μ-loop a b words₀ borrow₀ k₀ words borrow k = valueWords - k
 
 loop-holds : tie.Need-loop-holds Inv-loop μ-loop
 unfolding positional
-loop-holds c = (search needs, search needs, search needs, carried-none (replicate valueWords 0) (c .args .t2) (c .args .t1))
+loop-holds c = (search needs, search needs, carried-none (replicate valueWords 0) (c .args .t2) (c .args .t1), search needs)
 
 mul-subtract-with-borrow : tie.Need-mul-subtract-with-borrow Inv-loop μ-loop
 mul-subtract-with-borrow c = search needs
@@ -57,21 +53,21 @@ loop-again : tie.Need-loop-again Inv-loop μ-loop
 loop-again c =
     let loop = c .before .before .loop in
     let args = c .before .before .before .args in
-    let k = loop .k in
-    let word = c .subtract-with-borrow .result in
-    let next = set (loop .words) k (word .word) in
-    let same : Carried k next (args .t2) (args .t1) (loop .borrow) = rw (stored-low (loop .words) k (word .word)) (loop .inv .3) in
-    let here : getD next k 0 + getD (args .t2) k 0 + boolByte (loop .borrow) ≡ getD (args .t1) k 0 + 2 ^ 64 * boolByte (word .borrow) =
-    rw (getD-set-same (loop .words) k (word .word) 0 (search needs)) (c .subtract-with-borrow .ensures) in
-    (search needs, search needs, stored-lt (loop .words) k (word .word) (search needs) (search needs) (loop .inv .2), carried-more k next (args .t2) (args .t1) (loop .borrow) (word .borrow) same here)
+    let next = c .subtract-with-borrow in
+    let word = next .result .word in (
+      search needs,
+      search needs,
+      difference-stored (loop .k) (args .t1) (args .t2) (loop .words) word (loop .borrow) (next .result .borrow) (search needs) (loop .inv .2) (next .ensures),
+      stored-lt (loop .words) (loop .k) word (search needs) (search needs) (loop .inv .3),
+    )
 
 returns : tie.Need-returns Inv-loop μ-loop
 returns c =
     let loop = c .before .loop in
     let args = c .before .before .args in
     let e : loop .k ≡ valueWords = search needs in
-    let small : wordsValue (loop .words) < (2 ^ 64) ^ valueWords = rw (e, take-all valueWords (loop .words) (search needs)) at (loop .inv .2) in
-    let total = carried-all valueWords (loop .words) (args .t2) (args .t1) (loop .borrow) (loop .inv .1) (search needs) (search needs) (rw e at (loop .inv .3)) in
+    let total = carried-all valueWords (loop .words) (args .t2) (args .t1) (loop .borrow) (loop .inv .1) (search needs) (search needs) (rw e at (loop .inv .2)) in
+    let small : wordsValue (loop .words) < (2 ^ 64) ^ valueWords = rw (e, take-all valueWords (loop .words) (search needs)) at (loop .inv .3) in
     borrowed (wordsValue (args .t1)) (wordsValue (args .t2)) (wordsValue (loop .words)) ((2 ^ 64) ^ valueWords) (loop .borrow) small total
 
 pub subtract-size-spec : {M : Type 1} → statement M

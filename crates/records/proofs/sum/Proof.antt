@@ -1,20 +1,15 @@
 -- `records::sum` meets its contract: the k low words are added. Assumes nothing.
-use mathlib.Core.Path.{_≡_, sym}
-use Prim.Native.Nat.{_≤_, _+_, _*_, _-_, _^_}
-use lib.ListN.{length, getD, set, replicate}
-use lib.Seq.{getD-set-same}
-use mir.Val.{boolByte}
+use mathlib.Core.Path.{_≡_}
+use Prim.Native.Nat.{_≤_, _-_, _^_}
+use lib.ListN.{length, replicate}
 use Rattle.rules.specs.Limits.{valueWords, valueBound}
 use Rattle.integers.specs.Positional.{wordsValue}
-use Rattle.integers.proofs.Carry.{Carried, carried-none, carried-more, carried-all, stored-low}
+use Rattle.integers.proofs.Carry.{Carried, carried-none, sum-stored, carried-all}
 use Rattle.records.proofs.Limits.{bound-twice}
 use Rattle.records.proofs.Sizes.{no-carry}
 use borrow.Author.Needs.{needs}
 use Rattle.records.proofs.sum.Statement.{statement}
 use Rattle.records.proofs.sum.Tie as tie
-use Rattle.records.proofs.sum.Reads as reads
-use Rattle.records.proofs.sum.Lts as lts
-use Rattle.integers.proofs.add_with_carry.Reads as add-with-carry-reads
 
 abbrev Inv-loop : tie.InvT-loop
 Inv-loop a b words₀ carry₀ k₀ words carry k = (k ≤ valueWords) × (length words ≡ valueWords) × Carried k a b words carry
@@ -56,12 +51,8 @@ loop-again : tie.Need-loop-again Inv-loop μ-loop
 loop-again c =
     let loop = c .before .before .loop in
     let args = c .before .before .before .args in
-    let k = loop .k in
-    let word = c .add-with-carry .result in
-    let same : Carried k (args .t1) (args .t2) (set (loop .words) k (word .word)) (loop .carry) = rw (stored-low (loop .words) k (word .word)) (loop .inv .2) in
-    let here : getD (args .t1) k 0 + getD (args .t2) k 0 + boolByte (loop .carry) ≡ getD (set (loop .words) k (word .word)) k 0 + 2 ^ 64 * boolByte (word .carry) =
-    rw (getD-set-same (loop .words) k (word .word) 0 (search needs)) (sym (c .add-with-carry .ensures)) in
-    (search needs, search needs, carried-more k (args .t1) (args .t2) (set (loop .words) k (word .word)) (loop .carry) (word .carry) same here)
+    let next = c .add-with-carry in
+    (search needs, search needs, sum-stored (loop .k) (args .t1) (args .t2) (loop .words) (next .result .word) (loop .carry) (next .result .carry) (search needs) (loop .inv .2) (next .ensures))
 
 returns : tie.Need-returns Inv-loop μ-loop
 returns c =

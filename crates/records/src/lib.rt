@@ -3,6 +3,7 @@ use integers::add_with_carry;
 use integers::store_word;
 use integers::subtract_with_borrow;
 use integers::whole_word_at;
+use rules::VALUE_BYTES;
 use rules::VALUE_WORDS;
 ghost use mathlib.Core.Path.{_≡_};
 ghost use mathlib.Core.Bool.{cond};
@@ -25,7 +26,7 @@ pub struct Value {
 
 // The value 1.
 pub fn one() -> Value
-    ensures { λ r. ⌜ (integerOf r ≡ pos 1) × FitsRecord r ⌝ }
+    ensures { λ r. ⌜ integerOf r ≡ pos 1 ⌝ }
 {
     let mut words = [0u64; VALUE_WORDS];
     words[0] = 1;
@@ -139,12 +140,15 @@ pub fn is_zero(v: Value) -> bool
     integers::is_zero(&words)
 }
 
-// Whether a value's size is below the bound: the top word holds a single byte.
+// A size below the bound has a top word below this.
+const TOP_WORD_BOUND: u64 = 1 << (8 * VALUE_BYTES - 64 * (VALUE_WORDS - 1));
+
+// Whether a value's size is below the bound.
 pub fn is_small(v: Value) -> bool
     ensures { λ r. ⌜ r ≡ ltb (natAbs (integerOf v)) valueBound ⌝ }
 {
     let words = v.words;
-    words[VALUE_WORDS - 1] < 256
+    words[VALUE_WORDS - 1] < TOP_WORD_BOUND
 }
 
 // The sign byte of a value: zero has 0, whatever its flag.
@@ -169,7 +173,6 @@ fn store_size(space: &mut [u8], at: usize, words: [u64; VALUE_WORDS])
 
 // Writes the record of a value at `at`.
 pub fn store(space: &mut [u8], at: usize, v: Value)
-    requires { ⌜ FitsRecord v ⌝ }
     requires { ⌜ at + recordBytes ≤ length (now space) ⌝ }
     ensures { λ _. ⌜ now (space .exit) ≡ take at (now (space .entry)) ++ (recordOf (integerOf v) ++ drop (at + recordBytes) (now (space .entry))) ⌝ }
 {

@@ -26,7 +26,7 @@ returns c =
     let space = c .before .before .before .before .before .before .args .space .now in
     let store = c .before .before .store in
     let one = c .before .before .before .one in
-    recording-more space space [] (recording-none space) (pos 1) 0 (store .last .0) refl (lit< tt) (rw (one .ensures .0) at (store .ensures))
+    recording-more space space [] (recording-none space) (pos 1) 0 (store .last .0) refl (lit< tt) (rw (one .ensures) at (store .ensures))
 
 pub begin-spec : {M : Type 1} → statement M
 begin-spec = tie.close (tie.spec one-requires store-requires same-length returns)

@@ -6,7 +6,6 @@ use native.Mathlib.Omega.{arith}
 use lib.IntN.{natAbs}
 use Rattle.rules.specs.Limits.{valueBound}
 use Rattle.records.specs.Value.{integerOf}
-use Rattle.records.proofs.Size.{size-is}
 use Rattle.checking.specs.WorkSpace.{asStep}
 use Rattle.checking.proofs.Outcomes.{Gives, gives, unsound-checked, zero-checked, large-checked, fine-checked}
 use borrow.Author.Needs.{needs}
@@ -87,9 +86,7 @@ is-small : (c : tie.Then5) → natAbs (integerOf (c .before .before .before .bef
 is-small c = ltb-true (natAbs (integerOf (c .before .before .before .before .combined .result))) valueBound (sym (c .before .is-small .ensures) ∙ c .if5 .taken)
 
 store-requires : tie.Need-store-requires
-store-requires c κs =
-    let value = c .before .before .before .before .before .combined .result in
-    (rw (size-is value) at (is-small (c .before)), search needs)
+store-requires c κs = search needs
 
 same-length-2 : tie.Need-same-length-2
 same-length-2 c = search needs

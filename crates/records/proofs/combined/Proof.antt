@@ -7,10 +7,6 @@ use Rattle.records.proofs.Outcomes.{signs-agree, first-larger, second-l
 use borrow.Author.Needs.{needs}
 use Rattle.records.proofs.combined.Statement.{statement}
 use Rattle.records.proofs.combined.Tie as tie
-use Rattle.records.proofs.combined.Reads as reads
-use Rattle.records.proofs.combined.Lts as lts
-use Rattle.records.proofs.subtract_size.Reads as subtract-size-reads
-use Rattle.records.proofs.sum.Reads as sum-reads
 
 sum-requires : tie.Need-sum-requires
 sum-requires c κs = search needs

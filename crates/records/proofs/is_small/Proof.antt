@@ -11,8 +11,6 @@ use Rattle.records.proofs.Sizes.{top-small}
 use borrow.Author.Needs.{needs}
 use Rattle.records.proofs.is_small.Statement.{statement}
 use Rattle.records.proofs.is_small.Tie as tie
-use Rattle.records.proofs.is_small.Reads as reads
-use Rattle.records.proofs.is_small.Lts as lts
 
 sub-result : tie.Need-sub-result
 sub-result c = search needs

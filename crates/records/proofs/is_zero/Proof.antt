@@ -3,9 +3,6 @@ use Rattle.records.proofs.Size.{size-is}
 use borrow.Author.Needs.{needs}
 use Rattle.records.proofs.is_zero.Statement.{statement}
 use Rattle.records.proofs.is_zero.Tie as tie
-use Rattle.records.proofs.is_zero.Reads as reads
-use Rattle.records.proofs.is_zero.Lts as lts
-use Rattle.integers.proofs.is_zero.Reads as is-zero-reads
 
 slice-aggregate-is-zero : tie.Need-slice-aggregate-is-zero
 slice-aggregate-is-zero c = search needs

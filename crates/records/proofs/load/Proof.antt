@@ -5,9 +5,6 @@ use Rattle.records.proofs.Records.{size-below, record-read}
 use borrow.Author.Needs.{needs}
 use Rattle.records.proofs.load.Statement.{statement}
 use Rattle.records.proofs.load.Tie as tie
-use Rattle.records.proofs.load.Reads as reads
-use Rattle.records.proofs.load.Lts as lts
-use Rattle.records.proofs.load_size.Reads as load-size-reads
 
 add-load-size : tie.Need-add-load-size
 add-load-size c = search needs

@@ -13,9 +13,6 @@ use Rattle.records.proofs.Sizes.{word-inside, size-loaded}
 use borrow.Author.Needs.{needs}
 use Rattle.records.proofs.load_size.Statement.{statement}
 use Rattle.records.proofs.load_size.Tie as tie
-use Rattle.records.proofs.load_size.Reads as reads
-use Rattle.records.proofs.load_size.Lts as lts
-use Rattle.integers.proofs.whole_word_at.Reads as whole-word-at-reads
 
 abbrev Inv-loop : tie.InvT-loop
 Inv-loop space at words₀ k₀ words k =

@@ -1,20 +1,17 @@
 -- `records::one` meets its contract. Assumes nothing.
 use mathlib.Core.Path.{refl}
-use lib.Dec.{lit<}
 use Rattle.integers.specs.Positional.{positional}
 use Rattle.records.specs.Value.{integerOf}
 use borrow.Author.Needs.{needs}
 use Rattle.records.proofs.one.Statement.{statement}
 use Rattle.records.proofs.one.Tie as tie
-use Rattle.records.proofs.one.Reads as reads
-use Rattle.records.proofs.one.Lts as lts
 
 array-write-words : tie.Need-array-write-words
 array-write-words c = search needs
 
 returns : tie.Need-returns
 unfolding positional integerOf
-returns c = (refl, lit< tt)
+returns c = refl
 
 pub one-spec : {M : Type 1} → statement M
 one-spec = tie.close (tie.spec array-write-words returns)

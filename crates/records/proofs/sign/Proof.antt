@@ -6,9 +6,6 @@ use Rattle.records.proofs.Size.{size-is}
 use borrow.Author.Needs.{needs}
 use Rattle.records.proofs.sign.Statement.{statement}
 use Rattle.records.proofs.sign.Tie as tie
-use Rattle.records.proofs.sign.Reads as reads
-use Rattle.records.proofs.sign.Lts as lts
-use Rattle.records.proofs.is_zero.Reads as is-zero-reads
 
 is-zero-requires : tie.Need-is-zero-requires
 is-zero-requires c κs = search needs

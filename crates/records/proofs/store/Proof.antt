@@ -10,10 +10,6 @@ use Rattle.records.proofs.Size.{size-is}
 use borrow.Author.Needs.{needs}
 use Rattle.records.proofs.store.Statement.{statement}
 use Rattle.records.proofs.store.Tie as tie
-use Rattle.records.proofs.store.Reads as reads
-use Rattle.records.proofs.store.Lts as lts
-use Rattle.records.proofs.sign.Reads as sign-reads
-use Rattle.records.proofs.store_size.Reads as store-size-reads
 
 sign-requires : tie.Need-sign-requires
 sign-requires c κs = search needs
@@ -37,7 +33,7 @@ returns c =
     let sign = c .before .before .before .before .sign in
     let start = c .before .before .before .before .before .before .before in
     let v = start .args .v in
-    call .ensures ∙ rw (record-placed (start .args .space .now) (start .args .at) (start .pre .1) (sign .result) (lowBytes valueBytes (wordsValue (v .words))), sign .ensures, size-is v)
+    call .ensures ∙ rw (record-placed (start .args .space .now) (start .args .at) (start .pre) (sign .result) (lowBytes valueBytes (wordsValue (v .words))), sign .ensures, size-is v)
 
 pub store-spec : {M : Type 1} → statement M
 store-spec =

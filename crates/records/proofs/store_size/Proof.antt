@@ -14,9 +14,6 @@ use Rattle.records.proofs.Sizes.{low-placed, size-more, size-top}
 use borrow.Author.Needs.{needs}
 use Rattle.records.proofs.store_size.Statement.{statement}
 use Rattle.records.proofs.store_size.Tie as tie
-use Rattle.records.proofs.store_size.Reads as reads
-use Rattle.records.proofs.store_size.Lts as lts
-use Rattle.integers.proofs.store_word.Reads as store-word-reads
 
 abbrev Inv-loop : tie.InvT-loop
 Inv-loop space₀ at words k₀ space k =

@@ -8,7 +8,10 @@ use borrow.Author.Tests.{le-ltb, ne-eqb}
 use native.Mathlib.Omega.{arith}
 use lib.ListN.{length}
 use Rattle.rules.specs.Limits.{numberBytes, planSteps}
-use Rattle.rules.specs.declared.Counted.the-variants.{Steps}
+use Rattle.rules.specs.Outcome.{answered, countValues, countedOutcome}
+use Rattle.rules.specs.declared.Counts.{Counts}
+use Rattle.rules.specs.declared.Counted.{Counted}
+use Rattle.rules.specs.declared.Counted.the-variants.{Steps, Refused}
 use Rattle.rules.specs.declared.Verdict.the-variants.{Passed}
 use Rattle.rules.proofs.Fitted.{fits}
 use Rattle.integers.specs.Positional.{bytesValue}
@@ -21,6 +24,15 @@ use Rattle.methods.proofs.Every.{Fit, allowed, every-fit}
 use Rattle.planning.specs.Plan.{request, stepsFor, forecastAnswer, planAnswer}
 use Rattle.checking.specs.Check.{checkAnswer, roomFor}
 use Rattle.checking.proofs.Promises.{accepts}
+
+-- the three values of an answer are its counts
+counted : (answer : Counted) (c : Counts) → countedOutcome answer ≡ answered (countValues c) → answer ≡ Steps c
+counted (Steps d) c e =
+    let doublings : d .doublings ≡ c .doublings = cc in
+    let additions : d .additions ≡ c .additions = cc in
+    let subtractions : d .subtractions ≡ c .subtractions = cc in
+    λ i. Steps (record { doublings = doublings i; additions = additions i; subtractions = subtractions i })
+counted (Refused r) c e = cc
 
 module _ (number : List ℕ) (bytes : Below 256 number) (short : length number ≤ numberBytes) (nonzero : bytesValue number ≢ 0)
     (method width : ℕ) (may : isAllowed method width ≡ true) where
@@ -57,5 +69,10 @@ module _ (number : List ℕ) (bytes : Below 256 number) (short : length number �
   pub accepted : (room : ℕ) → roomFor (length plan) ≤ room → checkAnswer number plan room ≡ Steps (countsOf steps)
   accepted room h =
       let e = length-plan steps in
-      accepts number plan room (countsOf steps) .1
-      (record { short = short; nonzero = nonzero; whole = omega arith; few = omega (arith, few-steps); fits = h }, rw read-steps (fit .made .sound), rw read-steps (fit .made .end), ap countsOf (sym read-steps))
+      counted (checkAnswer number plan room) (countsOf steps)
+      (accepts number plan room (countValues (countsOf steps)) .1 (
+        record { positive = record { admitted = record { short = short }; nonzero = nonzero }; whole = omega arith; few = omega (arith, few-steps); fits = h },
+        rw read-steps (fit .made .sound),
+        rw read-steps (fit .made .end),
+        ap (λ (l : List Step). countValues (countsOf l)) (sym read-steps),
+      ))

@@ -1,24 +1,27 @@
 -- Checking the steps of a plan one after the other. Assumes nothing.
-use mathlib.Core.Path.{_≡_, refl, sym, _∙_}
-use mathlib.Core.List.{List}
+use mathlib.Core.Path.{_≡_, sym, _∙_}
+use mathlib.Core.List.{List, [], _∷_}
 use Prim.Native.Nat.{ℕ, _+_, _*_, _/_, _<_}
+use native.Mathlib.Nat.{add-zero}
 use native.Mathlib.Numerals.{add-one}
 use native.Mathlib.Omega.{arith}
-use lib.ListN.{length, drop}
+use lib.ListN.{length, take, drop}
+use lib.Seq.{take-suc}
 use Rattle.rules.specs.Limits.{stepBytes}
 use Rattle.rules.specs.Outcome.{unlessFailed}
 use Rattle.rules.specs.declared.Refusal.{Refusal}
-use Rattle.rules.specs.declared.Counted.{Counted}
-use Rattle.rules.specs.declared.Counted.the-variants.{Refused}
+use Rattle.rules.specs.declared.Counted.the-variants.{Steps, Refused}
 use Rattle.rules.specs.declared.Verdict.{Verdict}
 use Rattle.rules.specs.declared.Verdict.the-variants.{Passed, Failed}
-use Rattle.chains.specs.Steps.{Step, readStep, stepsOf}
+use Rattle.chains.specs.Steps.{Step, add, readStep, stepsOf}
 use Rattle.chains.specs.Values.{start, stepValue, valuesOf}
 use Rattle.chains.specs.Sound.{stepAt}
-use Rattle.chains.proofs.Values.{valuesAfter, length-after, after-none, after-all, after-more}
-use Rattle.chains.proofs.Bytes.{length-steps, step-at}
-use Rattle.checking.specs.Check.{stepVerdict, Judged, judge, judged}
-use Rattle.checking.specs.WorkSpace.{Recording, grown, StepChecked}
+use Rattle.chains.specs.Counts.{plus, stepCounts, countsOf}
+use Rattle.chains.proofs.Values.{valuesAfter, length-values, length-after, after-none, after-all, after-more}
+use Rattle.chains.proofs.Bytes.{length-steps, step-at, counts-append}
+use Rattle.step_checking.specs.Verdicts.{stepVerdict}
+use Rattle.step_checking.specs.WorkSpace.{Recording, grown, StepChecked, EndChecked}
+use Rattle.checking.specs.Check.{admission, judge, judged, stepsVerdict, checkAnswer, checkSpace}
 use Rattle.checking.proofs.Judge.{judge-next, judge-stop, judge-end}
 
 -- n steps are behind: judging goes on from there, and the values by then are recorded
@@ -29,16 +32,19 @@ pub record Underway (plan lent here : List ℕ) (n : ℕ) : Type 0 where
 pub underway-none : (plan lent here : List ℕ) → Recording lent here start → Underway plan lent here 0
 underway-none plan lent here w = record { rest = rw (after-none (stepsOf plan)); recording = rw (after-none (stepsOf plan)) w }
 
--- what all steps come to, once that is known
-abbrev Comes : List ℕ → List ℕ → List ℕ → Counted → Counted → Type 0
-Comes plan lent here all r = (r ≡ unlessFailed Refused (judged plan .verdict) all) × Recording lent here (judged plan .values)
+-- the verdict on all steps and their end, and the values recorded by then
+pub record Done (number plan lent here : List ℕ) (v : Verdict) : Type 0 where
+  pub verdict : stepsVerdict number plan ≡ v
+  pub recording : Recording lent here (judged plan .values)
 
-comes : (plan lent here : List ℕ) (all : Counted) (j : Judged) → judge start (stepsOf plan) ≡ j → Recording lent here (j .values)
-    → Comes plan lent here all (unlessFailed Refused (j .verdict) all)
-unfolding judged
-comes plan lent here all j e w = rw e (refl, w)
+module _ {number plan lent here : List ℕ} {v : Verdict} (passed : admission number (length plan) (length lent) ≡ Passed) (d : Done number plan lent here v) where
+  pub done-answer : unlessFailed Refused v (Steps (countsOf (stepsOf plan))) ≡ checkAnswer number plan (length lent)
+  done-answer = rw (passed, d .verdict)
 
-module _ (plan lent here : List ℕ) (n : ℕ) (u : Underway plan lent here n) where
+  pub done-space : here ≡ checkSpace number plan lent
+  done-space = rw passed (d .recording .bytes)
+
+module _ (number plan lent here : List ℕ) (n : ℕ) (u : Underway plan lent here n) where
   -- the step at hand
   module _ (h : n < length plan / stepBytes) (s : Step) (read : s ≡ readStep (drop (stepBytes * n) plan)) (r : Verdict) (next : List ℕ) (checked : StepChecked s n here next r) where
     within : n < length (stepsOf plan)
@@ -50,7 +56,7 @@ module _ (plan lent here : List ℕ) (n : ℕ) (u : Underway plan lent here n) w
         let same : s ≡ stepAt (stepsOf plan) n = read ∙ sym (step-at plan n h) in
         rw same at (checked lent (valuesAfter (stepsOf plan) n) (rw add-one (length-after (stepsOf plan) n (omega (arith, within)))) (u .recording))
 
-    -- it is fine
+    -- it passes
     pub underway-next : r ≡ Passed → Underway plan lent next (n + 1)
     underway-next e =
         rw add-one
@@ -59,13 +65,28 @@ module _ (plan lent here : List ℕ) (n : ℕ) (u : Underway plan lent here n) w
           recording = rw (after-more (stepsOf plan) n within) (rw e at (tested .1));
         })
 
-    -- it is not
-    pub underway-stop : (x : Refusal) (all : Counted) → r ≡ Failed x → Comes plan lent next all (Refused x)
-    underway-stop x all e =
-        comes plan lent next all (record { verdict = Failed x; values = valuesAfter (stepsOf plan) n }) (u .rest ∙ judge-stop (stepsOf plan) n within (sym (tested .0) ∙ e)) (rw e at (tested .1))
+    -- it does not
+    pub underway-stop : {x : Refusal} → r ≡ Failed x → Done number plan lent next (Failed x)
+    unfolding stepsVerdict judged
+    underway-stop e =
+        let stop = u .rest ∙ judge-stop (stepsOf plan) n within (sym (tested .0) ∙ e) in
+        record { verdict = rw stop; recording = rw stop (rw e at (tested .1)) }
 
   -- after the last
-  pub underway-end : (all : Counted) → n ≡ length plan / stepBytes → Comes plan lent here all all
-  underway-end all e =
+  pub underway-end : n ≡ length plan / stepBytes → {v : Verdict} → EndChecked number n here v → Done number plan lent here v
+  unfolding stepsVerdict judged
+  underway-end e end =
       let f : n ≡ length (stepsOf plan) = e ∙ sym (length-steps plan) in
-      comes plan lent here all (record { verdict = Passed; values = valuesOf (stepsOf plan) }) (u .rest ∙ rw f (judge-end (stepsOf plan))) (rw (← after-all (stepsOf plan), ← f) (u .recording))
+      let all : Recording lent here (valuesOf (stepsOf plan)) = rw (← after-all (stepsOf plan), ← f) (u .recording) in
+      let none : judge start (stepsOf plan) ≡ record { verdict = Passed; values = valuesOf (stepsOf plan) } = u .rest ∙ rw f (judge-end (stepsOf plan)) in
+      record {
+        verdict = rw none (sym (rw f at (end lent (valuesOf (stepsOf plan)) (rw add-one (rw f (length-values (stepsOf plan)))) all)));
+        recording = rw none all;
+      }
+
+-- the counts of one step more
+pub counts-more : (plan : List ℕ) (n : ℕ) (s : Step) → n < length plan / stepBytes → s ≡ readStep (drop (stepBytes * n) plan)
+    → plus (countsOf (take n (stepsOf plan))) (stepCounts s) ≡ countsOf (take (n + 1) (stepsOf plan))
+unfolding countsOf
+counts-more plan n s h e =
+    rw (add-one, take-suc (stepsOf plan) n (add 0 0) (rw (length-steps plan) h), counts-append (take n (stepsOf plan)) (stepAt (stepsOf plan) n ∷ []), step-at plan n h, e) (simp add-zero)

@@ -1,55 +1,189 @@
--- `checking::check` meets its contract. Assumes nothing.
-use mathlib.Core.Path.{refl, sym, _∙_}
-use lib.ListN.{length}
-use Rattle.checking.specs.Check.{judged}
-use Rattle.checking.proofs.Admission.{admitted-is}
-use Rattle.checking.proofs.Promises.{untouched, filled}
+-- `checking::check` meets its contract: n steps are checked and counted. Assumes nothing.
+use mathlib.Core.Path.{_≡_, refl, sym, ap, _∙_}
+use mathlib.Core.List.{List}
+use Prim.Native.Nat.{ℕ, _≤_, _-_, _/_}
+use native.Mathlib.Omega.{arith}
+use lib.ListN.{length, take}
+use lib.Seq.{take-all}
+use Rattle.rules.specs.Limits.{stepBytes}
+use Rattle.rules.specs.declared.Verdict.the-variants.{Passed}
+use Rattle.chains.specs.Steps.{stepsOf}
+use Rattle.chains.specs.Values.{start}
+use Rattle.chains.specs.Counts.{countsOf, total}
+use Rattle.chains.proofs.Bytes.{length-steps}
+use Rattle.step_checking.specs.WorkSpace.{asStep, Recording}
+use Rattle.checking.specs.Check.{roomFor, admission}
+use Rattle.checking.proofs.Admission.{Checkable, checkable-is}
+use Rattle.checking.proofs.Underway.{Underway, Done, done-answer, done-space, underway-none, underway-next, underway-stop, underway-end, counts-more}
 use borrow.Author.Needs.{needs}
 use Rattle.checking.proofs.check.Statement.{statement}
 use Rattle.checking.proofs.check.Tie as tie
-use Rattle.checking.proofs.check.Reads as reads
-use Rattle.checking.proofs.check.Lts as lts
-use Rattle.checking.proofs.admit.Reads as admit-reads
-use Rattle.checking.proofs.check_admitted.Reads as check-admitted-reads
 
-admit-requires : tie.Need-admit-requires
+abbrev Inv-loop : tie.InvT-loop
+Inv-loop number plan space₀ steps counts₀ n₀ space counts n =
+    (n ≤ length plan / stepBytes) × (length space ≡ length space₀) × (total counts ≡ n) × (counts ≡ countsOf (take n (stepsOf plan)))
+    × ((lent : List ℕ) → Recording lent space₀ start → Underway plan lent space n)
+
+abbrev μ-loop : tie.MeasureT-loop
+μ-loop number plan space₀ steps counts₀ n₀ space counts n = length plan / stepBytes - n
+
+admit-requires : tie.Need-admit-requires Inv-loop μ-loop
 admit-requires c κs = search needs
 
-enum-known-verdict : tie.Need-enum-known-verdict
-enum-known-verdict c = search needs
+enum-known-refusal : tie.Need-enum-known-refusal Inv-loop μ-loop
+enum-known-refusal c = search needs
 
-enum-told : tie.Need-enum-told
+returns : tie.Need-returns Inv-loop μ-loop
+returns c =
+    let e = sym (c .before .before .before .admit .ensures) ∙ c .before .refusal .given .1 in
+    (rw e, rw e)
+
+enum-told : tie.Need-enum-told Inv-loop μ-loop
 enum-told c = search needs
 
-check-admitted-requires : tie.Need-check-admitted-requires
-check-admitted-requires c κs = sym (c .before .before .before .admit .ensures) ∙ c .before .enum-told .given .1
+-- past refusals 1, 2, 7 and 8
+passed : (c : tie.After-enum-told Inv-loop μ-loop)
+    → let args = c .before .before .before .before .before .before .args in admission (args .number .now) (length (args .plan .now)) (length (args .space .now)) ≡ Passed
+passed c = sym (c .before .before .admit .ensures) ∙ c .enum-told .given .1
 
-returns : tie.Need-returns
-returns c =
-    let args = c .before .before .before .before .before .before .before .args in
-    let e = sym (c .before .before .before .admit .ensures) ∙ c .before .verdict .given .1 in
-    (rw e, sym (untouched (args .number .now) (args .plan .now) (args .space .now) e))
+admitted : (c : tie.After-enum-told Inv-loop μ-loop)
+    → let args = c .before .before .before .before .before .before .args in Checkable (args .number .now) (length (args .plan .now)) (length (args .space .now))
+admitted c = checkable-is _ _ _ .0 (passed c)
 
-same-length : tie.Need-same-length
-same-length c = search needs
+begin-requires : tie.Need-begin-requires Inv-loop μ-loop
+begin-requires c κs = omega (arith, admitted (c .before) .fits)
 
-returns-2 : tie.Need-returns-2
-unfolding judged
+loop-holds : tie.Need-loop-holds Inv-loop μ-loop
+unfolding countsOf
+loop-holds c = (search needs, refl, refl, refl, λ lent w. underway-none _ lent _ w)
+
+-- at each turn: what was lent keeps its length, which is enough, and checking is underway in it
+kept : (c : tie.At-loop Inv-loop μ-loop) → length (c .loop .space) ≡ length (c .before .before .before .before .before .before .before .before .before .before .before .args .space .now)
+kept c = c .loop .inv .1 ∙ c .before .before .before .begin .kept .0
+
+room : (c : tie.At-loop Inv-loop μ-loop) → roomFor (length (c .before .before .before .before .before .before .before .before .before .before .before .args .plan .now)) ≤ length (c .loop .space)
+room c = rw (kept c) (admitted (c .before .before .before .before .before) .fits)
+
+underway : (c : tie.At-loop Inv-loop μ-loop) → let args = c .before .before .before .before .before .before .before .before .before .before .before .args in Underway (args .plan .now) (args .space .now) (c .loop .space) (c .loop .n)
+underway c = c .loop .inv .4 _ (c .before .before .before .begin .ensures)
+
+read-step-requires : tie.Need-read-step-requires Inv-loop μ-loop
+read-step-requires c κs = search needs
+
+count-step-requires : tie.Need-count-step-requires Inv-loop μ-loop
+count-step-requires c κs = search needs
+
+check-step-requires : tie.Need-check-step-requires Inv-loop μ-loop
+check-step-requires c κs = omega (arith, room (c .before .before .before .before))
+
+enum-known-refusal-2 : tie.Need-enum-known-refusal-2 Inv-loop μ-loop
+enum-known-refusal-2 c = search needs
+
+same-length : tie.Need-same-length Inv-loop μ-loop
+same-length c = c .before .before .before .before .before .check-step .kept .1 .0 ∙ kept (c .before .before .before .before .before .before .before .before .before .before)
+
+returns-2 : tie.Need-returns-2 Inv-loop μ-loop
 returns-2 c =
-    let args = c .before .before .before .before .before .before .before .before .before .before .args in
-    let e = sym (c .before .before .before .before .before .before .admit .ensures) ∙ c .before .before .before .before .enum-told .given .1 in
-    let call = c .before .before .check-admitted in
-    let a = admitted-is (args .number .now) (args .plan .now) (length (args .space .now)) .0 e in
-    (rw e (call .ensures .0), call .ensures .1 .bytes ∙ sym (filled (args .number .now) (args .plan .now) (args .space .now) a refl))
+    let checked = c .before .before .before .before .before in
+    let read = checked .before .before .before in
+    let at = read .before .before in
+    let args = at .before .before .before .before .before .before .before .before .before .before .before .args in
+    let check = checked .check-step in
+    let done = underway-stop (args .number .now) (args .plan .now) (args .space .now) (at .loop .space) (at .loop .n) (underway at) (search needs) (asStep (read .read-step .result)) (read .read-step .ensures) (check .result) (check .last .1 .0) (check .ensures) (c .before .refusal2 .given .1) in
+    (done-answer (passed (at .before .before .before .before .before)) done, done-space (passed (at .before .before .before .before .before)) done)
+
+enum-told-2 : tie.Need-enum-told-2 Inv-loop μ-loop
+enum-told-2 c = search needs
+
+add-n : tie.Need-add-n Inv-loop μ-loop
+add-n c = search needs
+
+loop-less : tie.Need-loop-less Inv-loop μ-loop
+loop-less c = search needs
+
+loop-again : tie.Need-loop-again Inv-loop μ-loop
+loop-again c =
+    let checked = c .before .before .before .before in
+    let counted = checked .before .before in
+    let read = counted .before in
+    let at = read .before .before in
+    let args = at .before .before .before .before .before .before .before .before .before .before .before .args in
+    let check = checked .check-step in
+    let step = asStep (read .read-step .result) in (
+      search needs,
+      check .kept .1 .0 ∙ at .loop .inv .1,
+      omega (arith, counted .count-step .ensures .1),
+      counted .count-step .ensures .0 ∙ rw (at .loop .inv .3) (counts-more (args .plan .now) (at .loop .n) step (search needs) (read .read-step .ensures)),
+      λ lent w.
+          underway-next (args .number .now) (args .plan .now) lent (at .loop .space) (at .loop .n) (at .loop .inv .4 lent w) (search needs) step (read .read-step .ensures) (check .result) (check .last .1 .0) (check .ensures)
+          (c .enum-told2 .given .1),
+    )
+
+finish-requires : tie.Need-finish-requires Inv-loop μ-loop
+finish-requires c κs = let at = c .before .before in (admitted (at .before .before .before .before .before) .positive, omega (arith, room at))
+
+-- the verdict after the last step
+ended : (c : tie.After-finish Inv-loop μ-loop)
+    → let at = c .before .before .before in let args = at .before .before .before .before .before .before .before .before .before .before .before .args in Done (args .number .now) (args .plan .now) (args .space .now) (at .loop .space) (c .finish .result)
+ended c =
+    let at = c .before .before .before in
+    let args = at .before .before .before .before .before .before .before .before .before .before .before .args in
+    let e : at .loop .n ≡ length (args .plan .now) / stepBytes = omega arith in
+    underway-end (args .number .now) (args .plan .now) (args .space .now) (at .loop .space) (at .loop .n) (underway at) e (rw e (c .finish .ensures))
+
+enum-known-verdict : tie.Need-enum-known-verdict Inv-loop μ-loop
+enum-known-verdict c = search needs
+
+enum-told-3 : tie.Need-enum-told-3 Inv-loop μ-loop
+enum-told-3 c = search needs
+
+same-length-2 : tie.Need-same-length-2 Inv-loop μ-loop
+same-length-2 c = kept (c .before .before .before .before .before .before)
+
+returns-3 : tie.Need-returns-3 Inv-loop μ-loop
+returns-3 c =
+    let finished = c .before .before .before in
+    let done = rw (c .before .verdict .given .1) at (ended finished) in
+    (done-answer (passed (finished .before .before .before .before .before .before .before .before)) done, done-space (passed (finished .before .before .before .before .before .before .before .before)) done)
+
+same-length-3 : tie.Need-same-length-3 Inv-loop μ-loop
+same-length-3 c = kept (c .before .before .before .before .before)
+
+returns-4 : tie.Need-returns-4 Inv-loop μ-loop
+returns-4 c =
+    let finished = c .before .before in
+    let loop = finished .before .before .before .loop in
+    let plan = finished .before .before .before .before .before .before .before .before .before .before .before .before .before .before .args .plan .now in
+    let done = rw (c .enum-told3 .given .1) at (ended finished) in
+    let all : loop .counts ≡ countsOf (stepsOf plan) = loop .inv .3 ∙ ap countsOf (take-all (loop .n) (stepsOf plan) (omega (arith, length-steps plan))) in
+    (rw all (done-answer (passed (finished .before .before .before .before .before .before .before .before)) done), done-space (passed (finished .before .before .before .before .before .before .before .before)) done)
 
 pub check-spec : {M : Type 1} → statement M
 check-spec =
     tie.close
     (tie.spec
+    Inv-loop
+    μ-loop
     admit-requires
-    enum-known-verdict
-    enum-told
-    check-admitted-requires
+    enum-known-refusal
     returns
+    enum-told
+    begin-requires
+    loop-holds
+    read-step-requires
+    count-step-requires
+    check-step-requires
+    enum-known-refusal-2
     same-length
-    returns-2)
+    returns-2
+    enum-told-2
+    add-n
+    loop-less
+    loop-again
+    finish-requires
+    enum-known-verdict
+    enum-told-3
+    same-length-2
+    returns-3
+    same-length-3
+    returns-4)

@@ -1,0 +1,5 @@
+mod Recording
+pub mod Tested
+mod Counting
+mod Outcomes
+mod SameWords

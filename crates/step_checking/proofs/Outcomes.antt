@@ -1,0 +1,76 @@
+-- What testing a step comes to at each of its outcomes, and the end of all steps. Assumes nothing.
+use mathlib.Core.Path.{_≡_, refl, sym, _∙_}
+use mathlib.Core.Bool.{Bool, true, false, not, _&&_, cond, false≢true}
+use mathlib.Core.List.{List}
+use Prim.Native.Nat.{ℕ, _+_, _*_, _<_}
+use borrow.Author.Tests.{ltb-true}
+use native.Mathlib.Omega.{arith}
+use lib.Dec.{ltb, eqb}
+use lib.IntN.{ℤ, pos, natAbs, _+ℤ_, _-ℤ_}
+use lib.ListN.{length}
+use Rattle.rules.specs.Limits.{valueBound, recordBytes}
+use Rattle.rules.specs.declared.Refusal.the-variants.{MalformedStep, WrongEnd}
+use Rattle.rules.specs.declared.Verdict.the-variants.{Passed, Failed}
+use Rattle.integers.specs.Positional.{bytesValue}
+use Rattle.integers.proofs.Blocks.{placed}
+use Rattle.chains.specs.Steps.{Step, adding}
+use Rattle.chains.specs.Values.{stepValue}
+use Rattle.chains.specs.Sound.{WellFormed}
+use Rattle.chains.specs.Records.{recordOf}
+use Rattle.step_checking.specs.Verdicts.{isWellFormed, valueVerdict, stepVerdict, isSame}
+use Rattle.step_checking.specs.WorkSpace.{Recording, grown, StepChecked, EndChecked}
+use Rattle.step_checking.proofs.Tested.{well-formed-is}
+use Rattle.step_checking.proofs.Recording.{Loaded, loaded-is, recording-more}
+
+pub malformed-checked : (s : Step) (n : ℕ) (here : List ℕ) → isWellFormed (n + 1) s ≡ false → StepChecked s n here here (Failed (MalformedStep (n + 1)))
+unfolding stepVerdict
+malformed-checked s n here h lent values long w = (rw (long, h), w)
+
+turned : (t : Bool) (a b : ℤ) → cond (not t) a b ≡ cond t b a
+turned true a b = refl
+turned false a b = refl
+
+-- the step names positions below its own, and gives z
+pub record Gives (s : Step) (n : ℕ) (here : List ℕ) (z : ℤ) : Type 0 where
+  pub formed : WellFormed (n + 1) s
+  pub value : (lent : List ℕ) (values : List ℤ) → length values ≡ n + 1 → Recording lent here values → z ≡ stepValue values s
+
+-- the two values that it names, combined
+pub gives : (s : Step) (n : ℕ) (here : List ℕ) (x y z : ℤ) → WellFormed (n + 1) s → Loaded here (s .first) x → Loaded here (s .second) y
+    → z ≡ cond (not (eqb (s .operation) adding)) (x -ℤ y) (x +ℤ y) → Gives s n here z
+unfolding stepValue
+gives s n here x y z formed first second e = record {
+  formed = formed;
+  value = λ lent values long w.
+      let j : s .first < length values = rw long (formed .first) in
+      let k : s .second < length values = rw long (formed .second) in
+      e ∙ turned (eqb (s .operation) adding) (x -ℤ y) (x +ℤ y) ∙ rw (loaded-is lent here values w (s .first) x first j, loaded-is lent here values w (s .second) y second k);
+}
+
+-- the verdict on its value; where it passes, the value is stored
+module _ (s : Step) (n : ℕ) (here : List ℕ) (z : ℤ) (g : Gives s n here z) (zero small : Bool) (is-zero : zero ≡ eqb (natAbs z) 0) (is-small : small ≡ ltb (natAbs z) valueBound) where
+  verdict-is : (lent : List ℕ) (values : List ℤ) → length values ≡ n + 1 → Recording lent here values → valueVerdict (n + 1) zero small ≡ stepVerdict values s
+  unfolding stepVerdict
+  verdict-is lent values long w = rw (long, well-formed-is (n + 1) s .1 (g .formed), ← g .value lent values long w, is-zero, is-small)
+
+  pub stored-checked : (next : List ℕ) → small && not zero ≡ true → next ≡ placed here (recordBytes * (n + 1)) recordBytes (recordOf z)
+      → StepChecked s n here next (valueVerdict (n + 1) zero small)
+  stored-checked next passes store lent values long w = (verdict-is lent values long w, go zero small passes is-small)
+    where
+      go : (zero small : Bool) → small && not zero ≡ true → small ≡ ltb (natAbs z) valueBound → Recording lent next (grown (valueVerdict (n + 1) zero small) values (stepValue values s))
+      go false true e l = rw (← g .value lent values long w) (recording-more lent here values w z (n + 1) next long (ltb-true _ _ (sym l)) store)
+      go true true e l = absurd (false≢true e)
+      go zero false e l = absurd (false≢true e)
+
+  pub left-checked : small && not zero ≡ false → StepChecked s n here here (valueVerdict (n + 1) zero small)
+  left-checked fails lent values long w = (verdict-is lent values long w, go zero small fails)
+    where
+      go : (zero small : Bool) → small && not zero ≡ false → Recording lent here (grown (valueVerdict (n + 1) zero small) values (stepValue values s))
+      go true small e = w
+      go false false e = w
+      go false true e = absurd (false≢true (sym e))
+
+-- the last value is the number, or it is not
+pub end-checked : (number here : List ℕ) (r : ℕ) (end : ℤ) → Loaded here r end → (t : Bool) → t ≡ isSame end (pos (bytesValue number))
+    → EndChecked number r here (cond t Passed (Failed (WrongEnd r)))
+end-checked number here r end l t e lent values long w = rw (e, loaded-is lent here values w r end l (omega arith))

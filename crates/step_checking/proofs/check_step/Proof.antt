@@ -1,0 +1,111 @@
+-- `step_checking::check_step` meets its contract. Assumes nothing.
+use mathlib.Core.Bool.{_&&_}
+use mathlib.Core.Logic.{⊎-elim}
+use Prim.Native.Nat.{_+_}
+use borrow.Author.Tests.{not-true, not-false}
+use native.Mathlib.Omega.{arith}
+use lib.Dec.{ltb, leb}
+use Rattle.records.specs.Value.{integerOf}
+use Rattle.chains.specs.Steps.{subtracting}
+use Rattle.chains.specs.Sound.{WellFormed}
+use Rattle.step_checking.specs.Verdicts.{isWellFormed, valueVerdict}
+use Rattle.step_checking.specs.WorkSpace.{asStep, StepChecked}
+use Rattle.step_checking.proofs.Tested.{well-formed-is}
+use Rattle.step_checking.proofs.Outcomes.{Gives, gives, malformed-checked, stored-checked, left-checked}
+use borrow.Author.Needs.{needs}
+use Rattle.step_checking.proofs.check_step.Statement.{statement}
+use Rattle.step_checking.proofs.check_step.Tie as tie
+
+add-i : tie.Need-add-i
+add-i c = search needs
+
+returns : tie.Need-returns
+unfolding isWellFormed
+returns c =
+    let args = c .before .before .before .args in
+    let s = asStep (args .step) in
+    malformed-checked s (args .n) (args .space .now)
+    (not-true (leb (s .operation) subtracting && ltb (s .first) (args .n + 1) && ltb (s .second) (args .n + 1)) (c .if1 .taken))
+
+-- past refusal 9
+formed : (c : tie.Else1) → let args = c .before .before .before .args in WellFormed (args .n + 1) (asStep (args .step))
+unfolding isWellFormed
+formed c = well-formed-is _ _ .0 (not-false _ (c .if1 .left))
+
+mul-load : tie.Need-mul-load
+mul-load c = omega (arith, formed (c .before) .first)
+
+load-requires : tie.Need-load-requires
+load-requires c κs = omega (arith, formed (c .before) .first)
+
+mul-load-2 : tie.Need-mul-load-2
+mul-load-2 c = omega (arith, formed (c .before .before .before) .second)
+
+load-requires-2 : tie.Need-load-requires-2
+load-requires-2 c κs = omega (arith, formed (c .before .before .before) .second)
+
+combined-requires : tie.Need-combined-requires
+combined-requires c κs = search needs
+
+-- the value of the step
+combines : (c : tie.After-combined)
+    → let args = c .before .before .before .before .before .before .before .before .before .args in Gives (asStep (args .step)) (args .n) (args .space .now) (integerOf (c .combined .result))
+combines c =
+    let second = c .before .before in
+    let first = second .before .before in
+    let tests = first .before .before in
+    let args = tests .before .before .before .args in
+    gives (asStep (args .step)) (args .n) (args .space .now) (integerOf (first .load .result)) (integerOf (second .load2 .result)) (integerOf (c .combined .result)) (formed tests)
+    (first .load .ensures .1) (second .load2 .ensures .1) (c .combined .ensures)
+
+is-zero-requires : tie.Need-is-zero-requires
+is-zero-requires c κs = search needs
+
+is-small-requires : tie.Need-is-small-requires
+is-small-requires c κs = search needs
+
+mul-store : tie.Need-mul-store
+mul-store c = omega (arith, formed (c .before .before .before .before .before .before .before .before .before .before) .first)
+
+store-requires : tie.Need-store-requires
+store-requires c κs = omega (arith, formed (c .before .before .before .before .before .before .before .before .before .before) .first)
+
+value-verdict-requires : tie.Need-value-verdict-requires
+value-verdict-requires c κs = search needs
+
+same-length : tie.Need-same-length
+same-length c = ⊎-elim (λ w. rw (w .5) (w .2 .kept .0)) (λ w. rw (w .1)) (c .before .if2 .came)
+
+returns-2 : tie.Need-returns-2
+returns-2 c =
+    let tested = c .before .before in
+    let combined = tested .before .before in
+    let args = combined .before .before .before .before .before .before .before .before .before .args in
+    let s = asStep (args .step) in
+    let here = args .space .now in
+    let zero = tested .before .is-zero in
+    let small = tested .is-small in
+    rw (c .value-verdict .ensures)
+    (⊎-elim {C = StepChecked s (args .n) here (c .before .if2 .space) (valueVerdict (args .n + 1) (zero .result) (small .result))}
+    (λ w. rw (w .5) (stored-checked s (args .n) here _ (combines combined) _ _ (zero .ensures) (small .ensures) (w .2 .last .0) (w .0 .taken) (w .2 .ensures)))
+    (λ w. rw (w .1) (left-checked s (args .n) here _ (combines combined) _ _ (zero .ensures) (small .ensures) (w .0 .left)))
+    (c .before .if2 .came))
+
+pub check-step-spec : {M : Type 1} → statement M
+check-step-spec =
+    tie.close
+    (tie.spec
+    add-i
+    returns
+    mul-load
+    load-requires
+    mul-load-2
+    load-requires-2
+    combined-requires
+    is-zero-requires
+    is-small-requires
+    mul-store
+    store-requires
+    value-verdict-requires
+    same-length
+    returns-2)

@@ -98,7 +98,7 @@ fn spread(times: &mut [f64]) -> Spread {
     }
 }
 
-/// Numbers of 32 bytes whose top byte is not 0.
+/// Numbers of the longest kind, whose top bit is 1.
 fn numbers(rng: &mut Rng) -> Vec<Vec<u8>> {
     (0..INPUTS)
         .map(|_| {
@@ -122,11 +122,11 @@ fn canonical(number: &[u8]) -> Vec<u8> {
     out[..length].to_vec()
 }
 
-/// A plan of 640 steps for a number: doublings of position 0, then the binary method's steps.
+/// A plan of the longest kind for a number: doublings of position 0, then the binary method's steps.
 fn longest(number: &[u8]) -> Vec<u8> {
     let mut out = [0; lesmutka::PLAN_ROOM];
     let counts = reference::plan(number, 1, 0, &mut out).unwrap();
-    let steps = counts.doublings + counts.additions;
+    let steps = counts.total();
     let more = lesmutka::PLAN_STEPS - steps;
     let shifted = |low: u8, high: u8| match u16::from_le_bytes([low, high]) {
         0 => [0, 0],
@@ -142,7 +142,9 @@ fn longest(number: &[u8]) -> Vec<u8> {
 }
 
 fn proved_takes(number: &[u8]) -> u32 {
-    let mut recoder = sys::Recoder { words: [0; 5] };
+    let mut recoder = sys::Recoder {
+        words: [0; lesmutka::NUMBER_BYTES / 8 + 1],
+    };
     sys::start(number, &mut recoder);
     let mut sum = 0;
     while let Some(digit) = sys::take(&mut recoder) {
@@ -209,7 +211,7 @@ fn main() {
     let canonicals: &Vec<Vec<u8>> = &numbers.iter().map(|number| canonical(number)).collect();
     let strings = &strings(rng, 256);
     let longest: &Vec<Vec<u8>> = &numbers.iter().map(|number| longest(number)).collect();
-    const ROOM: usize = 4096;
+    const ROOM: usize = lesmutka::PLAN_ROOM;
     const SPACE: usize = lesmutka::work_space(lesmutka::PLAN_STEPS);
 
     for i in 0..INPUTS {
@@ -265,14 +267,16 @@ fn main() {
     }
     let (mut a, mut b) = (vec![0; SPACE], vec![0; SPACE]);
     jobs.push(Job::new(
-        "check, 640 steps",
+        &format!("check, {} steps", lesmutka::PLAN_STEPS),
         move |i| keep(sys::check(&numbers[i], &longest[i], &mut a)),
         move |i| keep(reference::check(&numbers[i], &longest[i], &mut b)),
     ));
 
     println!(
-        "ns a call: {} rounds over {} numbers of 32 bytes; buffers lent once, not cleared",
-        ROUNDS, INPUTS
+        "ns a call: {} rounds over {} numbers of {} bytes; buffers lent once, not cleared",
+        ROUNDS,
+        INPUTS,
+        lesmutka::NUMBER_BYTES
     );
     println!("{:<24} {:>17}   {:>17}   {:>12}", "", "proved", "plain Rust", "ratio");
     println!(

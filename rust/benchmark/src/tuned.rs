@@ -1,14 +1,17 @@
 //! A recoder in plain Rust without a branch on the digit, changed in place.
 
+/// The words of a number.
+const WORDS: usize = lesmutka::NUMBER_BYTES / 8;
+
 pub struct Recoder {
-    rest: [u64; 4],
+    rest: [u64; WORDS],
     carry: bool,
 }
 
 impl Recoder {
-    /// For a number of 32 bytes.
+    /// For a number of the longest kind.
     pub fn start(number: &[u8]) -> Recoder {
-        let mut rest = [0; 4];
+        let mut rest = [0; WORDS];
         for (word, bytes) in rest.iter_mut().zip(number.chunks_exact(8)) {
             *word = bytes.iter().rev().fold(0, |word, &byte| word << 8 | u64::from(byte));
         }
@@ -17,14 +20,17 @@ impl Recoder {
 
     #[inline(always)]
     pub fn take(&mut self) -> Option<u8> {
-        let [a, b, c, d] = self.rest;
-        if a | b | c | d == 0 && !self.carry {
+        let low = self.rest[0];
+        if self.rest.iter().fold(0, |all, word| all | word) == 0 && !self.carry {
             return None;
         }
         let carry = u64::from(self.carry);
-        self.rest = [a >> 1 | b << 63, b >> 1 | c << 63, c >> 1 | d << 63, d >> 1];
-        self.carry = (a & 1) + (a >> 1 & 1) + carry >= 2;
-        Some([0x00, 0x01, 0x00, 0xFF][((a & 3) + carry) as usize & 3])
+        for i in 0..WORDS - 1 {
+            self.rest[i] = self.rest[i] >> 1 | self.rest[i + 1] << 63;
+        }
+        self.rest[WORDS - 1] >>= 1;
+        self.carry = (low & 1) + (low >> 1 & 1) + carry >= 2;
+        Some([0x00, 0x01, 0x00, 0xFF][((low & 3) + carry) as usize & 3])
     }
 }
 

@@ -6,18 +6,22 @@ mod memory;
 
 use lesmutka::sys;
 use memory::Lent;
-use reference::generate::{Generator, Rng};
-use reference::{Counts, Refusal};
+use reference::generate::{methods, Generator, Rng};
+use reference::refusal::LAST;
+use reference::{limits, Refusal};
 use std::fmt::Debug;
 
 const SEED: u64 = 0x6c65_736d_7574_6b61;
 const CASES: usize = 100_000;
 
+/// The words of a recoder that hold its number.
+const NUMBER_WORDS: usize = lesmutka::NUMBER_BYTES / 8;
+
 /// How often a call answered, and gave each refusal.
 struct Tally {
     call: &'static str,
     answered: usize,
-    refused: [usize; 13],
+    refused: [usize; LAST + 1],
 }
 
 impl Tally {
@@ -25,7 +29,7 @@ impl Tally {
         Tally {
             call,
             answered: 0,
-            refused: [0; 13],
+            refused: [0; LAST + 1],
         }
     }
 
@@ -57,7 +61,7 @@ impl Tally {
         println!();
         assert!(self.cases() >= CASES, "{}: too few cases", self.call);
         assert!(self.answered > 0, "{}: no answer", self.call);
-        for number in 0..13 {
+        for number in 0..=LAST {
             assert_eq!(
                 self.refused[number] > 0,
                 refusals.contains(&number),
@@ -153,52 +157,71 @@ fn read_back(cases: &mut Generator, rng: &mut Rng) -> Tally {
     calls("read back", rng, next, library::read_back, reference::read_back)
 }
 
-/// Plans; each that is written goes through the library's own check, which accepts it with the
-/// same counts.
+/// A plan that is written goes through the library's own check, which accepts it with the counts of
+/// the forecast.
+fn plan_one(rng: &mut Rng, tally: &mut Tally, number: &[u8], method: u32, width: u32, room: usize) {
+    let number = Lent::holding(rng, number);
+    let lent = Lent::noise(rng, room);
+    let written = compare(
+        tally,
+        &[&number],
+        &lent,
+        |out| library::plan(number.part(), method, width, out),
+        |out| reference::plan(number.part(), method, width, out),
+    );
+    if let Ok(counts) = library::forecast(number.part(), method, width) {
+        let length = lesmutka::STEP_BYTES * counts.total();
+        if length <= room {
+            let mut space = vec![0; lesmutka::work_space(counts.total())];
+            let plan = &written.part()[..length];
+            if library::check(number.part(), plan, &mut space) != Ok(counts) {
+                differ("own plans", "check and forecast", &(number.part(), plan));
+            }
+        }
+    }
+}
+
 fn plan(cases: &mut Generator, rng: &mut Rng) -> Tally {
     let mut tally = Tally::new("plan");
     for _ in 0..CASES {
         let case = cases.plan_case();
-        let number = Lent::holding(rng, &case.number);
-        let lent = Lent::noise(rng, case.room);
-        let written = compare(
-            &mut tally,
-            &[&number],
-            &lent,
-            |out| library::plan(number.part(), case.method, case.width, out),
-            |out| reference::plan(number.part(), case.method, case.width, out),
-        );
-        if let Ok(counts) = library::forecast(number.part(), case.method, case.width) {
-            let steps = total(counts);
-            if 5 * steps <= case.room {
-                let mut space = vec![0; 34 * (steps + 1)];
-                let plan = &written.part()[..5 * steps];
-                if library::check(number.part(), plan, &mut space) != Ok(counts) {
-                    differ("own plans", "check and forecast", &(number.part(), plan));
-                }
-            }
-        }
+        plan_one(rng, &mut tally, &case.number, case.method, case.width, case.room);
+    }
+    for (number, method, width) in small() {
+        plan_one(rng, &mut tally, &number, method, width, lesmutka::PLAN_ROOM);
     }
     tally
 }
 
-fn total(counts: Counts) -> usize {
-    counts.doublings + counts.additions + counts.subtractions
+/// Every number that source document 004's tables sum up, 1 to 1,023, by every method and width.
+fn small() -> impl Iterator<Item = (Vec<u8>, u32, u32)> {
+    (1..1024usize).flat_map(|number| {
+        let bytes = number.to_le_bytes()[..1 + usize::from(number > 255)].to_vec();
+        let one = move |(method, width)| (bytes.clone(), method, width);
+        methods().into_iter().map(one)
+    })
+}
+
+fn forecast_one(rng: &mut Rng, tally: &mut Tally, number: &[u8], method: u32, width: u32) {
+    let number = Lent::holding(rng, number);
+    let nothing = Lent::noise(rng, 0);
+    compare(
+        tally,
+        &[&number],
+        &nothing,
+        |_| library::forecast(number.part(), method, width),
+        |_| reference::forecast(number.part(), method, width),
+    );
 }
 
 fn forecast(cases: &mut Generator, rng: &mut Rng) -> Tally {
     let mut tally = Tally::new("forecast");
     for _ in 0..CASES {
         let case = cases.forecast_case();
-        let number = Lent::holding(rng, &case.number);
-        let nothing = Lent::noise(rng, 0);
-        compare(
-            &mut tally,
-            &[&number],
-            &nothing,
-            |_| library::forecast(number.part(), case.method, case.width),
-            |_| reference::forecast(number.part(), case.method, case.width),
-        );
+        forecast_one(rng, &mut tally, &case.number, case.method, case.width);
+    }
+    for (number, method, width) in small() {
+        forecast_one(rng, &mut tally, &number, method, width);
     }
     tally
 }
@@ -236,7 +259,7 @@ impl Guarded {
         Guarded {
             below: [(); 8].map(|_| words()),
             recoder: sys::Recoder {
-                words: [(); 5].map(|_| words()),
+                words: [(); NUMBER_WORDS + 1].map(|_| words()),
             },
             above: [(); 8].map(|_| words()),
         }
@@ -296,9 +319,9 @@ fn by_hand(rng: &mut Rng) -> usize {
                 _ => {}
             }
         }
-        let mut number = [0; 32];
-        let mut carry = u64::from(recoder.words[4] != 0);
-        for (word, bytes) in recoder.words[..4].iter().zip(number.chunks_mut(8)) {
+        let mut number = [0; lesmutka::NUMBER_BYTES];
+        let mut carry = u64::from(recoder.words[NUMBER_WORDS] != 0);
+        for (word, bytes) in recoder.words[..NUMBER_WORDS].iter().zip(number.chunks_mut(8)) {
             let (sum, wrapped) = word.overflowing_add(carry);
             bytes.copy_from_slice(&sum.to_le_bytes());
             carry = u64::from(wrapped);
@@ -313,23 +336,24 @@ fn by_hand(rng: &mut Rng) -> usize {
     CASES
 }
 
-/// The one recoder that stands for more than any number has: 2^256, a 1 above 256 zeros.
+/// The one recoder that stands for more than any number has: a 1 above as many zeros as a number
+/// has bits.
 fn above_all_numbers(recoder: &mut sys::Recoder) {
     let words = recoder.words;
     let mut digits = Vec::new();
     while let Some(digit) = library::take(recoder) {
         digits.push(digit);
     }
-    let mut expected = vec![0; 256];
+    let mut expected = vec![0; limits::NUMBER_BITS];
     expected.push(1);
     if digits != expected || library::take(recoder).is_some() {
-        differ("take", "digits of 2^256", &words);
+        differ("take", "digits of the largest recoder", &words);
     }
 }
 
 /// A damaged step at each place of the longest plan, in a space that just fits.
 fn damaged_steps(rng: &mut Rng, tally: &mut Tally) {
-    let steps = 640;
+    let steps = lesmutka::PLAN_STEPS;
     for i in 1..=steps {
         let own = (i as u16).to_le_bytes();
         for step in [
@@ -339,11 +363,11 @@ fn damaged_steps(rng: &mut Rng, tally: &mut Tally) {
             [1, 0, 0, 255, 255],
             [1, 0, 0, 0, 0],
         ] {
-            let mut bytes = vec![0; 5 * steps];
-            bytes[5 * (i - 1)..5 * i].copy_from_slice(&step);
+            let mut bytes = vec![0; lesmutka::PLAN_ROOM];
+            bytes[lesmutka::STEP_BYTES * (i - 1)..lesmutka::STEP_BYTES * i].copy_from_slice(&step);
             let number = Lent::holding(rng, &[2]);
             let plan = Lent::holding(rng, &bytes);
-            let lent = Lent::noise(rng, 34 * (steps + 1));
+            let lent = Lent::noise(rng, lesmutka::work_space(steps));
             compare(
                 tally,
                 &[&number, &plan],
@@ -355,7 +379,19 @@ fn damaged_steps(rng: &mut Rng, tally: &mut Tally) {
     }
 }
 
+/// The limits that the linked library keeps are those of the papers.
+fn same_limits() {
+    let linked = lesmutka::limits();
+    assert_eq!(linked.number_bytes, limits::NUMBER_BYTES);
+    assert_eq!(linked.string_digits, limits::STRING_DIGITS);
+    assert_eq!(linked.step_bytes, limits::STEP_BYTES);
+    assert_eq!(linked.plan_steps, limits::PLAN_STEPS);
+    assert_eq!(linked.value_bytes, limits::VALUE_BYTES);
+    assert_eq!(linked.record_bytes, limits::RECORD_BYTES);
+}
+
 fn main() {
+    same_limits();
     let cases = &mut Generator::new(SEED);
     let rng = &mut Rng::new(SEED ^ 1);
     recode(cases, rng).print(&[1, 6]);

@@ -19,18 +19,18 @@ fn recoding() {
     assert_eq!(digits_of(&[25]), [1, 0, -1, 0, 0, 1]);
     assert_eq!(digits_of(&[27]), [1, 0, 0, -1, 0, -1]);
     assert_eq!(digits_of(&[43]), [1, 0, -1, 0, -1, 0, -1]);
-    assert_eq!(digits_of(&[0xff; 32]).len(), 257);
+    assert_eq!(digits_of(&[0xff; NUMBER_BYTES]).len(), RECODE_ROOM);
 }
 
 #[test]
 fn recoding_refused() {
-    let mut room = [7; 256];
+    let mut room = [7; RECODE_ROOM - 1];
     assert_eq!(
-        recode(&[0xff; 32], &mut room),
-        Err(Refusal::RoomTooSmall { needed: 257 })
+        recode(&[0xff; NUMBER_BYTES], &mut room),
+        Err(Refusal::RoomTooSmall { needed: RECODE_ROOM })
     );
-    assert_eq!(recode(&[0; 33], &mut room), Err(Refusal::NumberTooLong));
-    assert_eq!(room, [7; 256]);
+    assert_eq!(recode(&[0; NUMBER_BYTES + 1], &mut room), Err(Refusal::NumberTooLong));
+    assert_eq!(room, [7; RECODE_ROOM - 1]);
 }
 
 #[test]
@@ -42,14 +42,16 @@ fn only_the_answer_is_written() {
 
 #[test]
 fn digits_one_by_one() {
-    for number in [&[][..], &[0], &[1], &[43], &[0xff; 32], &[0x55; 32], &[0xaa; 32]] {
+    let longest = [[0xff; NUMBER_BYTES], [0x55; NUMBER_BYTES], [0xaa; NUMBER_BYTES]];
+    let [ones, odd, even] = &longest;
+    for number in [&[][..], &[0], &[1], &[43], ones, odd, even] {
         let mut room = [7; RECODE_ROOM];
         let mut taken = digits(number).unwrap();
         assert_eq!(recode(number, &mut room).unwrap(), taken.by_ref().collect::<Vec<_>>());
         assert_eq!(taken.next(), None);
         assert_eq!(taken.next(), None);
     }
-    assert_eq!(digits(&[0; 33]).unwrap_err(), Refusal::NumberTooLong);
+    assert_eq!(digits(&[0; NUMBER_BYTES + 1]).unwrap_err(), Refusal::NumberTooLong);
 }
 
 #[test]
@@ -63,10 +65,10 @@ fn a_clone_goes_on_alone() {
 #[test]
 fn a_recoder_put_together_by_hand() {
     let mut recoder = sys::Recoder {
-        words: [u64::MAX, u64::MAX, u64::MAX, u64::MAX, 5],
+        words: [u64::MAX; NUMBER_BYTES / 8 + 1],
     };
-    // It stands for 2^256: 256 zeros, then 1.
-    for _ in 0..256 {
+    // It stands for the first power of two that is no number: only its top digit is 1.
+    for _ in 0..8 * NUMBER_BYTES {
         assert_eq!(unsafe { sys::lesmutka_take(&mut recoder) }, 0);
     }
     assert_eq!(unsafe { sys::lesmutka_take(&mut recoder) }, 1);
@@ -81,16 +83,16 @@ fn cleaning() {
     assert_eq!(clean(&[1, 0, 0], &mut room).unwrap(), [1]);
     assert_eq!(clean(&[-1, -1, 1], &mut room).unwrap(), [1]);
     assert_eq!(clean(&[], &mut []).unwrap(), []);
-    let cleaned = clean(&[1; 512], &mut room).unwrap().to_vec();
-    assert_eq!(cleaned.len(), 513);
-    assert_eq!((cleaned[0], cleaned[512]), (-1, 1));
-    assert!(cleaned[1..512].iter().all(|&digit| digit == 0));
+    let cleaned = clean(&[1; STRING_DIGITS], &mut room).unwrap().to_vec();
+    assert_eq!(cleaned.len(), CLEAN_ROOM);
+    assert_eq!((cleaned[0], cleaned[STRING_DIGITS]), (-1, 1));
+    assert!(cleaned[1..STRING_DIGITS].iter().all(|&digit| digit == 0));
     assert_eq!(clean(&cleaned, &mut room), Err(Refusal::StringTooLong));
     assert_eq!(read_back(&cleaned, &mut []), Err(Refusal::StringTooLong));
     assert_eq!(clean(&[0, 1, 2, 3], &mut room), Err(Refusal::NotADigit { place: 2 }));
     assert_eq!(
-        clean(&[1; 512], &mut [7; 512]),
-        Err(Refusal::RoomTooSmall { needed: 513 })
+        clean(&[1; STRING_DIGITS], &mut [7; STRING_DIGITS]),
+        Err(Refusal::RoomTooSmall { needed: CLEAN_ROOM })
     );
 }
 
@@ -127,7 +129,10 @@ fn planning() {
 #[test]
 fn planning_refused() {
     let mut room = [7; 4];
-    assert_eq!(plan(&[0; 33], Method::Binary, &mut room), Err(Refusal::NumberTooLong));
+    assert_eq!(
+        plan(&[0; NUMBER_BYTES + 1], Method::Binary, &mut room),
+        Err(Refusal::NumberTooLong)
+    );
     assert_eq!(plan(&[0; 3], Method::Binary, &mut room), Err(Refusal::NumberIsZero));
     assert_eq!(
         plan(&[3], Method::FixedWindows(7), &mut room),
@@ -145,7 +150,7 @@ fn planning_refused() {
 }
 
 /// A plan of doublings.
-fn doublings(steps: u16) -> Vec<u8> {
+fn doublings(steps: usize) -> Vec<u8> {
     (0..steps)
         .flat_map(|i| [0, i as u8, (i >> 8) as u8, i as u8, (i >> 8) as u8])
         .collect()
@@ -154,11 +159,18 @@ fn doublings(steps: u16) -> Vec<u8> {
 #[test]
 fn checking() {
     let mut space = vec![7; work_space(PLAN_STEPS)];
-    assert_eq!(check(&[1], &[], &mut space[..34]).unwrap().total(), 0);
-    assert_eq!(check(&[2], &[], &mut space[..34]), Err(Refusal::WrongEnd { step: 0 }));
-    assert_eq!(check(&[1], &[], &mut space[..33]), Err(Refusal::WorkSpaceTooShort));
-    assert_eq!(check(&[1], &[0; 4], &mut space), Err(Refusal::PlanLength));
-    assert_eq!(check(&[1], &[0; 3205], &mut space), Err(Refusal::PlanLength));
+    let (record, less) = (work_space(0), work_space(0) - 1);
+    assert_eq!(check(&[1], &[], &mut space[..record]).unwrap().total(), 0);
+    assert_eq!(
+        check(&[2], &[], &mut space[..record]),
+        Err(Refusal::WrongEnd { step: 0 })
+    );
+    assert_eq!(check(&[1], &[], &mut space[..less]), Err(Refusal::WorkSpaceTooShort));
+    assert_eq!(check(&[1], &[0; STEP_BYTES - 1], &mut space), Err(Refusal::PlanLength));
+    assert_eq!(
+        check(&[1], &[0; PLAN_ROOM + STEP_BYTES], &mut space),
+        Err(Refusal::PlanLength)
+    );
     assert_eq!(
         check(&[1], &[0, 1, 0, 0, 0], &mut space),
         Err(Refusal::MalformedStep { step: 1 })
@@ -167,13 +179,14 @@ fn checking() {
         check(&[1], &[1, 0, 0, 0, 0], &mut space),
         Err(Refusal::ValueIsZero { step: 1 })
     );
+    let bits = 8 * VALUE_BYTES;
     assert_eq!(
-        check(&[1], &doublings(263), &mut space),
-        Err(Refusal::WrongEnd { step: 263 })
+        check(&[1], &doublings(bits - 1), &mut space),
+        Err(Refusal::WrongEnd { step: bits - 1 })
     );
     assert_eq!(
-        check(&[1], &doublings(264), &mut space),
-        Err(Refusal::ValueTooLarge { step: 264 })
+        check(&[1], &doublings(bits), &mut space),
+        Err(Refusal::ValueTooLarge { step: bits })
     );
     // 1, 2, -1, 3
     let through_minus_one = [0, 0, 0, 0, 0, 1, 0, 0, 1, 0, 1, 1, 0, 2, 0];
@@ -191,7 +204,7 @@ fn records() {
     let mut expected = Vec::new();
     for (sign, size) in [(0, 1), (0, 2), (1, 1), (0, 3)] {
         expected.extend([sign, size]);
-        expected.extend([0; 32]);
+        expected.extend([0; VALUE_BYTES - 1]);
     }
     expected.push(7);
     assert_eq!(&space[..], &expected[..]);

@@ -2,26 +2,26 @@
 
 use std::cmp::Ordering;
 
+use crate::limits::{work_space, PLAN_ROOM, RECORD_BYTES, STEP_BYTES, VALUE_BITS, VALUE_WORDS};
 use crate::number::Number;
-use crate::plan::{ADD, STEP_BYTES, SUBTRACT};
-use crate::{words, Counts, Refusal};
-
-const MAX_PLAN_BYTES: usize = 3200;
-/// Bytes of one record: a sign byte, then 33 bytes of size.
-const RECORD_BYTES: usize = 34;
+use crate::plan::{ADD, SUBTRACT};
+use crate::refusal::*;
+use crate::{words, Counts};
 
 /// The value at a position of the chain.
 #[derive(Clone, Copy)]
 struct Value {
     negative: bool,
-    size: [u64; 5],
+    size: [u64; VALUE_WORDS],
 }
 
 impl Value {
-    const ONE: Value = Value {
-        negative: false,
-        size: [1, 0, 0, 0, 0],
-    };
+    fn one() -> Value {
+        Value {
+            negative: false,
+            size: words::from_bytes(&[1]),
+        }
+    }
 
     fn load(space: &[u8], position: usize) -> Value {
         let start = RECORD_BYTES * position;
@@ -37,7 +37,7 @@ impl Value {
         words::to_bytes(&self.size, &mut space[start + 1..start + RECORD_BYTES]);
     }
 
-    /// Both sizes are below 2^264, so the sum's size is below 2^265 and fits.
+    /// Both sizes are within the limit, so the sum's size has at most one bit more and fits.
     fn plus(&self, other: &Value) -> Value {
         if self.negative == other.negative {
             return Value {
@@ -57,9 +57,9 @@ impl Value {
         }
     }
 
-    /// Whether the size is 2^264 or more.
+    /// Whether the size has more bits than a value may.
     fn is_too_large(&self) -> bool {
-        self.size[4] >> 8 != 0
+        self.size[VALUE_BITS / 64] >> (VALUE_BITS % 64) != 0
     }
 }
 
@@ -69,22 +69,22 @@ impl Value {
 /// Refusals in order: 1, 2, 7, 8, then for each step 9, and 10 or 11, then 12.
 pub fn check(number: &[u8], plan: &[u8], space: &mut [u8]) -> Result<Counts, Refusal> {
     let number = Number::read_nonzero(number)?;
-    if plan.len() % STEP_BYTES != 0 || plan.len() > MAX_PLAN_BYTES {
-        return Err(Refusal::new(7, 0));
+    if plan.len() % STEP_BYTES != 0 || plan.len() > PLAN_ROOM {
+        return Err(Refusal::new(PLAN_LENGTH, 0));
     }
     let steps = plan.len() / STEP_BYTES;
-    if space.len() < RECORD_BYTES * (steps + 1) {
-        return Err(Refusal::new(8, 0));
+    if space.len() < work_space(steps) {
+        return Err(Refusal::new(WORK_SPACE_TOO_SHORT, 0));
     }
 
     let mut counts = Counts::NONE;
-    Value::ONE.store(space, 0);
+    Value::one().store(space, 0);
     for (step, i) in plan.chunks_exact(STEP_BYTES).zip(1..) {
         let operation = step[0];
         let j = usize::from(u16::from_le_bytes([step[1], step[2]]));
         let k = usize::from(u16::from_le_bytes([step[3], step[4]]));
         if !matches!(operation, ADD | SUBTRACT) || j >= i || k >= i {
-            return Err(Refusal::new(9, i));
+            return Err(Refusal::new(MALFORMED_STEP, i));
         }
 
         let left = Value::load(space, j);
@@ -94,10 +94,10 @@ pub fn check(number: &[u8], plan: &[u8], space: &mut [u8]) -> Result<Counts, Ref
         }
         let value = left.plus(&right);
         if words::is_zero(&value.size) {
-            return Err(Refusal::new(10, i));
+            return Err(Refusal::new(VALUE_IS_ZERO, i));
         }
         if value.is_too_large() {
-            return Err(Refusal::new(11, i));
+            return Err(Refusal::new(VALUE_TOO_LARGE, i));
         }
         // Record i is filled only once step i is known to be sound.
         value.store(space, i);
@@ -112,7 +112,7 @@ pub fn check(number: &[u8], plan: &[u8], space: &mut [u8]) -> Result<Counts, Ref
     // The sign counts too: minus the number is refused.
     let end = Value::load(space, steps);
     if end.negative || end.size != number.widened() {
-        return Err(Refusal::new(12, steps));
+        return Err(Refusal::new(WRONG_END, steps));
     }
     Ok(counts)
 }

@@ -2,33 +2,29 @@
 
 use std::cmp::Ordering;
 
+use crate::limits::{CLEAN_WORDS, STRING_DIGITS};
+use crate::refusal::{NOT_A_DIGIT, STRING_TOO_LONG};
 use crate::{output, words, Refusal};
-
-const MAX_DIGITS: usize = 512;
-
-/// Words for the size of a digit string's value, below 2^512, and one more so
-/// that three times the size fits as well.
-pub(crate) const SIZE_WORDS: usize = MAX_DIGITS / 64 + 1;
 
 /// The value of a digit string.
 pub(crate) struct DigitValue {
     pub(crate) negative: bool,
-    pub(crate) size: [u64; SIZE_WORDS],
+    pub(crate) size: [u64; CLEAN_WORDS],
 }
 
 impl DigitValue {
     /// Refusal 5: too long. Refusal 4: not a digit, at the lowest such place.
     pub(crate) fn read(digits: &[u8]) -> Result<DigitValue, Refusal> {
-        if digits.len() > MAX_DIGITS {
-            return Err(Refusal::new(5, 0));
+        if digits.len() > STRING_DIGITS {
+            return Err(Refusal::new(STRING_TOO_LONG, 0));
         }
         if let Some(place) = digits.iter().position(|d| !matches!(d, 0x00 | 0x01 | 0xFF)) {
-            return Err(Refusal::new(4, place));
+            return Err(Refusal::new(NOT_A_DIGIT, place));
         }
 
         // The value is the number of the 1 digits less that of the minus 1 digits.
-        let mut ones = [0; SIZE_WORDS];
-        let mut minus_ones = [0; SIZE_WORDS];
+        let mut ones = [0; CLEAN_WORDS];
+        let mut minus_ones = [0; CLEAN_WORDS];
         for (index, chunk) in digits.chunks(64).enumerate() {
             let (mut one, mut minus_one) = (0, 0);
             for &digit in chunk.iter().rev() {

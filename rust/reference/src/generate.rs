@@ -1,6 +1,8 @@
 //! Deterministic inputs for the calls, chosen so that each success and each
 //! refusal of document 01 comes up often. The same seed gives the same cases.
 
+use crate::limits::*;
+use crate::refusal::WRONG_END;
 use crate::{check, clean, forecast, plan, read_back, recode};
 
 /// SplitMix64.
@@ -97,22 +99,14 @@ pub struct CheckCase {
 }
 
 /// Every allowed pair of method and width.
-pub const METHODS: [(u32, u32); 14] = [
-    (1, 0),
-    (2, 1),
-    (2, 2),
-    (2, 3),
-    (2, 4),
-    (2, 5),
-    (2, 6),
-    (3, 1),
-    (3, 2),
-    (3, 3),
-    (3, 4),
-    (3, 5),
-    (3, 6),
-    (4, 0),
-];
+pub fn methods() -> Vec<(u32, u32)> {
+    let windows = |method| WINDOW_WIDTHS.map(move |width| (method, width));
+    let mut methods = vec![(1, 0)];
+    methods.extend(windows(2));
+    methods.extend(windows(3));
+    methods.push((4, 0));
+    methods
+}
 
 const BAD_DIGITS: [u8; 8] = [2, 3, 16, 127, 128, 129, 253, 254];
 
@@ -133,14 +127,14 @@ impl Generator {
 
     pub fn recode_case(&mut self) -> RecodeCase {
         let number = self.number();
-        let needed = recode(&number, &mut [0; 512]).unwrap_or(257);
+        let needed = recode(&number, &mut [0; RECODE_ROOM]).unwrap_or(RECODE_ROOM);
         let room = self.room(needed);
         RecodeCase { number, room }
     }
 
     pub fn take_case(&mut self) -> TakeCase {
         let number = self.number();
-        let digits = recode(&number, &mut [0; 512]).unwrap_or(0);
+        let digits = recode(&number, &mut [0; RECODE_ROOM]).unwrap_or(0);
         let takes = match self.rng.below(4) {
             0 => self.rng.below(digits + 1),
             1 => digits,
@@ -151,16 +145,16 @@ impl Generator {
 
     pub fn clean_case(&mut self) -> DigitsCase {
         let digits = self.digit_string();
-        let needed = clean(&digits, &mut [0; 600]).unwrap_or(513);
+        let needed = clean(&digits, &mut [0; CLEAN_ROOM]).unwrap_or(CLEAN_ROOM);
         let room = self.room(needed);
         DigitsCase { digits, room }
     }
 
     pub fn read_back_case(&mut self) -> DigitsCase {
         let digits = self.digit_string();
-        let needed = match read_back(&digits, &mut [0; 100]) {
+        let needed = match read_back(&digits, &mut [0; READ_BACK_ROOM]) {
             Ok((_, bytes)) => bytes,
-            Err(_) => 64,
+            Err(_) => READ_BACK_ROOM,
         };
         let room = self.room(needed);
         DigitsCase { digits, room }
@@ -170,8 +164,8 @@ impl Generator {
         let number = self.number();
         let (method, width) = self.method_and_width();
         let needed = match forecast(&number, method, width) {
-            Ok(counts) => 5 * counts.total(),
-            Err(_) => 1000,
+            Ok(counts) => STEP_BYTES * counts.total(),
+            Err(_) => PLAN_ROOM,
         };
         let room = self.room(needed);
         PlanCase {
@@ -197,13 +191,13 @@ impl Generator {
             2 => self.too_long(),
             _ => number,
         };
-        let room = self.space(plan.len() / 5);
+        let room = self.space(plan.len() / STEP_BYTES);
         CheckCase { number, plan, room }
     }
 
     // Numbers.
 
-    /// A number of 0 to 40 bytes, mostly at most 32.
+    /// A number, mostly within the limit.
     pub fn number(&mut self) -> Vec<u8> {
         match self.rng.below(16) {
             0 => self.zero(),
@@ -213,17 +207,19 @@ impl Generator {
     }
 
     fn zero(&mut self) -> Vec<u8> {
-        let length = self.rng.pick(&[0, 0, 1, 2, 8, 31, 32, 32]);
+        let length = self
+            .rng
+            .pick(&[0, 0, 1, 2, 8, NUMBER_BYTES - 1, NUMBER_BYTES, NUMBER_BYTES]);
         vec![0; length]
     }
 
     fn too_long(&mut self) -> Vec<u8> {
-        let length = self.rng.between(33, 40);
+        let length = self.rng.between(NUMBER_BYTES + 1, NUMBER_BYTES + 8);
         match self.rng.below(4) {
             0 => vec![0; length],
             1 => vec![0xFF; length],
             2 => {
-                let mut bytes = self.rng.bytes(32);
+                let mut bytes = self.rng.bytes(NUMBER_BYTES);
                 bytes.resize(length, 0);
                 bytes
             }
@@ -231,34 +227,34 @@ impl Generator {
         }
     }
 
-    /// A number of at most 32 bytes that is not zero.
+    /// A number within the limit that is not zero.
     fn nonzero_number(&mut self) -> Vec<u8> {
         let mut number = match self.rng.below(14) {
             0 | 1 => {
-                let length = self.rng.between(1, 32);
+                let length = self.rng.between(1, NUMBER_BYTES);
                 self.rng.bytes(length)
             }
-            2 => self.rng.bytes(32),
+            2 => self.rng.bytes(NUMBER_BYTES),
             3 => {
-                let length = self.rng.between(1, 32);
+                let length = self.rng.between(1, NUMBER_BYTES);
                 vec![0xFF; length]
             }
             4 => {
-                let place = self.rng.below(256);
+                let place = self.rng.below(NUMBER_BITS);
                 power_of_two(place)
             }
             5 => {
                 // 2^k - 1, 2^k + 1 and other runs of ones.
-                let low = self.rng.below(256);
-                let high = self.rng.below(256);
+                let low = self.rng.below(NUMBER_BITS);
+                let high = self.rng.below(NUMBER_BITS);
                 run_of_ones(low.min(high), low.max(high))
             }
             6 => {
-                let high = self.rng.below(256);
+                let high = self.rng.below(NUMBER_BITS);
                 run_of_ones(0, high)
             }
             7 => {
-                let length = self.rng.between(1, 32);
+                let length = self.rng.between(1, NUMBER_BYTES);
                 let byte = self.rng.pick(&[0x55, 0xAA, 0x33, 0xCC, 0x6D, 0xB6, 0xDB, 0x11]);
                 vec![byte; length]
             }
@@ -271,7 +267,7 @@ impl Generator {
             12 => self.sparse(),
             _ => {
                 // Around a border between two words or bytes.
-                let place = self.rng.pick(&[7, 8, 63, 64, 65, 127, 128, 191, 192, 255]);
+                let place = self.rng.pick(&[7, 8, 63, 64, 65, 127, 128, 191, 192, NUMBER_BITS - 1]);
                 let mut bytes = power_of_two(place);
                 bytes[0] |= self.rng.next_byte();
                 bytes
@@ -281,7 +277,7 @@ impl Generator {
             number = vec![self.rng.between(1, 255) as u8];
         }
         if self.rng.one_in(4) {
-            let length = self.rng.between(number.len(), 32);
+            let length = self.rng.between(number.len(), NUMBER_BYTES);
             number.resize(length, 0);
         }
         number
@@ -289,25 +285,25 @@ impl Generator {
 
     /// Long runs of ones and zeros in turn.
     fn runs(&mut self) -> Vec<u8> {
-        let mut number = vec![0; 32];
+        let mut number = vec![0; NUMBER_BYTES];
         let longest = self.rng.pick(&[3, 8, 40, 100]);
         let mut place = self.rng.below(4);
-        while place < 256 {
-            let end = (place + self.rng.between(1, longest)).min(256);
+        while place < NUMBER_BITS {
+            let end = (place + self.rng.between(1, longest)).min(NUMBER_BITS);
             for bit in place..end {
                 number[bit / 8] |= 1 << (bit % 8);
             }
             place = end + self.rng.between(1, longest);
         }
-        let length = self.rng.between(1, 32);
+        let length = self.rng.between(1, NUMBER_BYTES);
         number.truncate(length);
         number
     }
 
     fn sparse(&mut self) -> Vec<u8> {
-        let mut number = vec![0; 32];
+        let mut number = vec![0; NUMBER_BYTES];
         for _ in 0..self.rng.between(1, 5) {
-            let place = self.rng.below(256);
+            let place = self.rng.below(NUMBER_BITS);
             number[place / 8] |= 1 << (place % 8);
         }
         number
@@ -318,16 +314,16 @@ impl Generator {
     /// A method and a width, mostly an allowed pair.
     pub fn method_and_width(&mut self) -> (u32, u32) {
         if !self.rng.one_in(6) {
-            return self.rng.pick(&METHODS);
+            return self.rng.pick(&methods());
         }
         const METHOD: [u32; 12] = [0, 1, 2, 3, 4, 5, 6, 256, 257, 258, 1 << 31, u32::MAX];
         const WIDTH: [u32; 14] = [
             0,
             1,
             2,
-            6,
-            7,
-            8,
+            *WINDOW_WIDTHS.end(),
+            *WINDOW_WIDTHS.end() + 1,
+            *WINDOW_WIDTHS.end() + 2,
             64,
             255,
             256,
@@ -337,23 +333,24 @@ impl Generator {
             u32::MAX - 1,
             u32::MAX,
         ];
+        let widest = *WINDOW_WIDTHS.end() as usize;
         match self.rng.below(4) {
             0 => (self.rng.pick(&METHOD), self.rng.pick(&WIDTH)),
-            1 => (self.rng.pick(&[1, 4]), self.rng.between(1, 7) as u32),
-            2 => (self.rng.pick(&[2, 3]), self.rng.pick(&[0, 7])),
-            _ => (self.rng.pick(&METHOD), self.rng.below(8) as u32),
+            1 => (self.rng.pick(&[1, 4]), self.rng.between(1, widest + 1) as u32),
+            2 => (self.rng.pick(&[2, 3]), self.rng.pick(&[0, widest as u32 + 1])),
+            _ => (self.rng.pick(&METHOD), self.rng.below(widest + 2) as u32),
         }
     }
 
     // Digit strings.
 
-    /// A digit string of 0 to 520 bytes, sometimes damaged.
+    /// A digit string, mostly within the limit, sometimes damaged.
     pub fn digit_string(&mut self) -> Vec<u8> {
         let length = match self.rng.below(8) {
             0 => self.rng.below(4),
-            1 => self.rng.between(508, 512),
-            2 => self.rng.pick(&[510, 511, 512, 513, 514]),
-            3 => self.rng.below(521),
+            1 => self.rng.between(STRING_DIGITS - 4, STRING_DIGITS),
+            2 => self.rng.between(STRING_DIGITS - 2, STRING_DIGITS + 2),
+            3 => self.rng.below(STRING_DIGITS + 9),
             4 => self.rng.pick(&[63, 64, 65, 127, 128, 129, 256, 257, 320]),
             _ => self.rng.below(300),
         };
@@ -415,8 +412,8 @@ impl Generator {
 
     /// A canonical string, of about the length where that can be had.
     fn canonical(&mut self, length: usize) -> Vec<u8> {
-        let digits = self.digits(length.min(512), 2);
-        let mut canonical = vec![0; 513];
+        let digits = self.digits(length.min(STRING_DIGITS), 2);
+        let mut canonical = vec![0; CLEAN_ROOM];
         let length = clean(&digits, &mut canonical).unwrap_or(0);
         canonical.truncate(length);
         canonical
@@ -459,10 +456,10 @@ impl Generator {
 
     /// A length for the work space of a plan with that many steps.
     fn space(&mut self, steps: usize) -> usize {
-        let needed = 34 * (steps + 1);
+        let needed = work_space(steps);
         match self.rng.below(24) {
             0 => needed - 1,
-            1 => needed - self.rng.pick(&[33, 34, needed]),
+            1 => needed - self.rng.pick(&[VALUE_BYTES, RECORD_BYTES, needed]),
             2 => self.rng.below(2 * needed),
             3 | 4 => needed + 1,
             5..=8 => needed + self.rng.below(100),
@@ -500,8 +497,8 @@ impl Generator {
             }
             5 => {
                 // Whole steps cut off.
-                let length = self.rng.below(steps.len() / 5 + 1);
-                steps.truncate(5 * length);
+                let length = self.rng.below(steps.len() / STEP_BYTES + 1);
+                steps.truncate(STEP_BYTES * length);
             }
             6 => {
                 for _ in 0..self.rng.between(1, 5) {
@@ -534,11 +531,11 @@ impl Generator {
             12 => {
                 // Around the longest plan.
                 let filler = match self.rng.below(3) {
-                    0 => 641,
-                    1 => self.rng.between(630, 650),
-                    _ => 640,
+                    0 => PLAN_STEPS + 1,
+                    1 => self.rng.between(PLAN_STEPS - 10, PLAN_STEPS + 10),
+                    _ => PLAN_STEPS,
                 };
-                let count = filler - (steps.len() / 5).min(filler);
+                let count = filler - (steps.len() / STEP_BYTES).min(filler);
                 steps = after(filler_steps(count), &steps);
             }
             13 => {
@@ -552,15 +549,15 @@ impl Generator {
             }
             14 => {
                 // Minus the number: n + 1, then 1 - (n + 1).
-                let end = steps.len() / 5;
+                let end = steps.len() / STEP_BYTES;
                 push(&mut steps, 0, end, 0);
                 push(&mut steps, 1, 0, end + 1);
             }
             15 => self.damage_position(&mut steps),
             16 => {
                 // A value of zero, at the end or on the way.
-                let keep = self.rng.below(steps.len() / 5 + 1);
-                let rest = steps.split_off(5 * keep);
+                let keep = self.rng.below(steps.len() / STEP_BYTES + 1);
+                let rest = steps.split_off(STEP_BYTES * keep);
                 let position = self.rng.below(keep + 1);
                 push(&mut steps, 1, position, position);
                 steps.extend(rest);
@@ -569,7 +566,7 @@ impl Generator {
                 // Any bytes whatever, mostly a whole number of steps.
                 let length = self.rng.below(40);
                 let extra = usize::from(self.rng.one_in(4));
-                steps = self.rng.bytes(5 * length + extra);
+                steps = self.rng.bytes(STEP_BYTES * length + extra);
             }
             _ => {
                 let border = self.border_plan();
@@ -585,10 +582,10 @@ impl Generator {
 
     /// The plan of a random method for a number.
     fn own_plan(&mut self, number: &[u8]) -> Vec<u8> {
-        let (method, width) = self.rng.pick(&METHODS);
-        let mut steps = vec![0; 3200];
+        let (method, width) = self.rng.pick(&methods());
+        let mut steps = vec![0; PLAN_ROOM];
         let length = match plan(number, method, width, &mut steps) {
-            Ok(counts) => 5 * counts.total(),
+            Ok(counts) => STEP_BYTES * counts.total(),
             Err(_) => 0,
         };
         steps.truncate(length);
@@ -602,10 +599,10 @@ impl Generator {
         }
         let i = match self.rng.below(3) {
             0 => 1,
-            1 => steps.len() / 5,
-            _ => self.rng.between(1, steps.len() / 5),
+            1 => steps.len() / STEP_BYTES,
+            _ => self.rng.between(1, steps.len() / STEP_BYTES),
         };
-        let step = &mut steps[5 * (i - 1)..5 * i];
+        let step = &mut steps[STEP_BYTES * (i - 1)..STEP_BYTES * i];
         let position = match self.rng.below(4) {
             0 => 65_535,
             1 => (i + 1) as u16,
@@ -622,7 +619,7 @@ impl Generator {
     /// A step with positions in order; one in `spread` of the positions is any
     /// position, the others are among the latest two.
     fn push_random_step(&mut self, steps: &mut Vec<u8>, spread: usize) {
-        let latest = steps.len() / 5;
+        let latest = steps.len() / STEP_BYTES;
         let position = |rng: &mut Rng| {
             if rng.one_in(spread) {
                 rng.below(latest + 1)
@@ -646,82 +643,84 @@ impl Generator {
     }
 
     fn random_plan(&mut self, length: usize, spread: usize) -> Vec<u8> {
-        let mut steps = Vec::with_capacity(5 * length);
+        let mut steps = Vec::with_capacity(STEP_BYTES * length);
         for _ in 0..length {
             self.push_random_step(&mut steps, spread);
         }
         steps
     }
 
-    /// Values around 2^264, below it or at it, on either side of zero.
+    /// Values around B, the limit of a size, below it or at it, on either side
+    /// of zero.
     fn border_plan(&mut self) -> Vec<u8> {
+        const TOP: usize = VALUE_BITS - 1;
         let mut steps = Vec::new();
-        for i in 0..263 {
+        for i in 0..TOP {
             push(&mut steps, 0, i, i);
         }
-        // Position 263 holds 2^263.
+        // Position TOP holds B/2.
         match self.rng.below(12) {
             0 => {}
-            1 => push(&mut steps, 0, 263, 263),
+            1 => push(&mut steps, 0, TOP, TOP),
             2 | 3 => {
-                push(&mut steps, 1, 263, 0); // 2^263 - 1
-                push(&mut steps, 0, 263, 264); // 2^264 - 1
+                push(&mut steps, 1, TOP, 0); // B/2 - 1
+                push(&mut steps, 0, TOP, TOP + 1); // B - 1
                 match self.rng.below(6) {
                     0 => {}
-                    1 => push(&mut steps, 0, 265, 0), // 2^264
-                    2 => push(&mut steps, 0, 265, 265),
-                    3 => push(&mut steps, 0, 0, 265),
-                    4 => push(&mut steps, 1, 263, 264), // 1
+                    1 => push(&mut steps, 0, TOP + 2, 0), // B
+                    2 => push(&mut steps, 0, TOP + 2, TOP + 2),
+                    3 => push(&mut steps, 0, 0, TOP + 2),
+                    4 => push(&mut steps, 1, TOP, TOP + 1), // 1
                     _ => {
-                        push(&mut steps, 1, 0, 265); // -(2^264 - 2)
-                        push(&mut steps, 1, 266, 0); // -(2^264 - 1)
+                        push(&mut steps, 1, 0, TOP + 2); // -(B - 2)
+                        push(&mut steps, 1, TOP + 3, 0); // -(B - 1)
                         if self.rng.one_in(2) {
-                            push(&mut steps, 1, 267, 0); // -2^264
+                            push(&mut steps, 1, TOP + 4, 0); // -B
                         }
                     }
                 }
             }
             4 | 5 => {
-                push(&mut steps, 1, 0, 263); // -(2^263 - 1)
-                push(&mut steps, 1, 264, 263); // -(2^264 - 1)
+                push(&mut steps, 1, 0, TOP); // -(B/2 - 1)
+                push(&mut steps, 1, TOP + 1, TOP); // -(B - 1)
                 match self.rng.below(6) {
                     0 => {}
-                    1 => push(&mut steps, 1, 265, 0), // -2^264
-                    2 => push(&mut steps, 0, 265, 265),
-                    3 => push(&mut steps, 0, 265, 0), // -(2^264 - 2)
-                    4 => push(&mut steps, 1, 0, 265), // 2^264
-                    _ => push(&mut steps, 1, 265, 265),
+                    1 => push(&mut steps, 1, TOP + 2, 0), // -B
+                    2 => push(&mut steps, 0, TOP + 2, TOP + 2),
+                    3 => push(&mut steps, 0, TOP + 2, 0), // -(B - 2)
+                    4 => push(&mut steps, 1, 0, TOP + 2), // B
+                    _ => push(&mut steps, 1, TOP + 2, TOP + 2),
                 }
             }
             6 | 7 => {
-                push(&mut steps, 0, 263, 0); // 2^263 + 1
-                push(&mut steps, 1, 0, 264); // -2^263
+                push(&mut steps, 0, TOP, 0); // B/2 + 1
+                push(&mut steps, 1, 0, TOP + 1); // -B/2
                 match self.rng.below(5) {
-                    0 => push(&mut steps, 1, 265, 263), // -2^264
-                    1 => push(&mut steps, 0, 265, 265), // -2^264
-                    2 => push(&mut steps, 1, 263, 265), // 2^264
-                    3 => push(&mut steps, 0, 263, 265), // 0
-                    _ => push(&mut steps, 0, 264, 265), // 1
+                    0 => push(&mut steps, 1, TOP + 2, TOP),     // -B
+                    1 => push(&mut steps, 0, TOP + 2, TOP + 2), // -B
+                    2 => push(&mut steps, 1, TOP, TOP + 2),     // B
+                    3 => push(&mut steps, 0, TOP, TOP + 2),     // 0
+                    _ => push(&mut steps, 0, TOP + 1, TOP + 2), // 1
                 }
             }
             8 | 9 => {
-                // 2^264 - 2^k, then 2^k or 2^k - 1 or 2^k - 2^m more.
-                let place = self.rng.below(263);
-                push(&mut steps, 1, 263, place);
-                push(&mut steps, 0, 264, 263);
+                // B - 2^k, then 2^k or 2^k - 1 or 2^k - 2^m more.
+                let place = self.rng.below(TOP);
+                push(&mut steps, 1, TOP, place);
+                push(&mut steps, 0, TOP + 1, TOP);
                 match self.rng.below(4) {
-                    0 => push(&mut steps, 0, 265, place),
-                    1 => push(&mut steps, 0, place, 265),
-                    2 => push(&mut steps, 1, place, 265),
+                    0 => push(&mut steps, 0, TOP + 2, place),
+                    1 => push(&mut steps, 0, place, TOP + 2),
+                    2 => push(&mut steps, 1, place, TOP + 2),
                     _ => {
                         let lower = self.rng.below(place + 1);
-                        push(&mut steps, 0, 265, lower);
+                        push(&mut steps, 0, TOP + 2, lower);
                     }
                 }
             }
             10 => {
                 // Down from the border in differences of powers of two.
-                let mut high = 263;
+                let mut high = TOP;
                 for _ in 0..self.rng.between(1, 20) {
                     let low = self.rng.below(high);
                     push(&mut steps, 1, high, low);
@@ -738,19 +737,20 @@ impl Generator {
     }
 
     /// The value a plan ends at, if it is sound and its end is a number above
-    /// zero of at most 32 bytes.
+    /// zero within the limit.
     fn end_of(&self, steps: &[u8]) -> Option<Vec<u8>> {
-        let count = steps.len() / 5;
-        let mut space = vec![0; 34 * (count + 1)];
+        let count = steps.len() / STEP_BYTES;
+        let mut space = vec![0; work_space(count)];
         match check(&[1], steps, &mut space) {
-            Err(refusal) if refusal.number != 12 => return None,
+            Err(refusal) if refusal.number != WRONG_END => return None,
             _ => {}
         }
-        let record = &space[34 * count..];
-        if record[0] != 0 || record[33] != 0 {
+        let record = &space[RECORD_BYTES * count..];
+        let (size, above) = record[1..].split_at(NUMBER_BYTES);
+        if record[0] != 0 || above.iter().any(|&byte| byte != 0) {
             return None;
         }
-        Some(record[1..33].to_vec())
+        Some(size.to_vec())
     }
 }
 
@@ -777,7 +777,7 @@ fn push(steps: &mut Vec<u8>, operation: u8, j: usize, k: usize) {
 
 /// Sound steps with the values 2, 3 and -1 over and over.
 fn filler_steps(count: usize) -> Vec<u8> {
-    let mut steps = Vec::with_capacity(5 * count);
+    let mut steps = Vec::with_capacity(STEP_BYTES * count);
     for i in 0..count {
         match i % 3 {
             0 => push(&mut steps, 0, 0, 0),
@@ -790,8 +790,8 @@ fn filler_steps(count: usize) -> Vec<u8> {
 
 /// A plan behind other steps: position 0 stays, all others move up.
 fn after(mut first: Vec<u8>, then: &[u8]) -> Vec<u8> {
-    let offset = first.len() / 5;
-    for step in then.chunks_exact(5) {
+    let offset = first.len() / STEP_BYTES;
+    for step in then.chunks_exact(STEP_BYTES) {
         let moved = |low: u8, high: u8| match usize::from(u16::from_le_bytes([low, high])) {
             0 => 0,
             position => position + offset,

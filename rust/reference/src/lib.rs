@@ -1,33 +1,23 @@
-//! Signed digit recoding and addition-subtraction chains for numbers of up to
-//! 256 bits, as laid down in document 01. No call allocates or panics.
+//! Signed digit recoding and addition-subtraction chains, as laid down in
+//! document 01. No call allocates or panics.
 
 #![forbid(unsafe_code)]
 
 mod check;
 mod digits;
 pub mod generate;
+pub mod limits;
 mod naf;
 mod number;
 mod plan;
+pub mod refusal;
 mod words;
 
 pub use check::check;
 pub use digits::read_back;
 pub use naf::{clean, recode, Recoder};
 pub use plan::{forecast, plan};
-
-/// A refusal: its number in the table of document 01, and its place.
-#[derive(Clone, Copy, PartialEq, Eq, Debug)]
-pub struct Refusal {
-    pub number: u8,
-    pub place: usize,
-}
-
-impl Refusal {
-    pub(crate) fn new(number: u8, place: usize) -> Refusal {
-        Refusal { number, place }
-    }
-}
+pub use refusal::Refusal;
 
 /// How many steps of each kind a plan has.
 ///
@@ -47,7 +37,7 @@ impl Counts {
         subtractions: 0,
     };
 
-    pub(crate) fn total(self) -> usize {
+    pub fn total(self) -> usize {
         self.doublings + self.additions + self.subtractions
     }
 }
@@ -55,5 +45,6 @@ impl Counts {
 /// Refusal 6 if `out` has fewer than `needed` bytes, otherwise the first
 /// `needed` bytes of it, the only ones a success may change.
 pub(crate) fn output(out: &mut [u8], needed: usize) -> Result<&mut [u8], Refusal> {
-    out.get_mut(..needed).ok_or(Refusal::new(6, needed))
+    out.get_mut(..needed)
+        .ok_or(Refusal::new(refusal::ROOM_TOO_SMALL, needed))
 }

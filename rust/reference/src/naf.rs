@@ -1,6 +1,7 @@
 //! The canonical string: the non-adjacent form of document 004.
 
 use crate::digits::DigitValue;
+use crate::limits::{NUMBER_WORDS, RECODE_WORDS};
 use crate::number::Number;
 use crate::{output, words, Refusal};
 
@@ -77,11 +78,11 @@ impl<const N: usize> Naf<N> {
 /// Refusals in order: 1, 6.
 pub fn recode(number: &[u8], out: &mut [u8]) -> Result<usize, Refusal> {
     let number = Number::read(number)?;
-    Naf::of(&number.widened()).write(out)
+    Naf::of(&number.widened::<RECODE_WORDS>()).write(out)
 }
 
 /// Cleans a digit string into the canonical string of the same value; answers
-/// the length, at most 513.
+/// the length, which may be one more than the longest string's.
 ///
 /// Refusals in order: 5, 4, 6.
 pub fn clean(digits: &[u8], out: &mut [u8]) -> Result<usize, Refusal> {
@@ -98,14 +99,14 @@ pub fn clean(digits: &[u8], out: &mut [u8]) -> Result<usize, Refusal> {
 #[derive(Clone, Copy, PartialEq, Eq, Debug)]
 pub struct Recoder {
     /// The bits of the number from the present place upwards.
-    rest: [u64; 4],
+    rest: [u64; NUMBER_WORDS],
     /// Whether 1 is carried into the present place.
     carry: bool,
 }
 
 impl Recoder {
     const ZERO: Recoder = Recoder {
-        rest: [0; 4],
+        rest: [0; NUMBER_WORDS],
         carry: false,
     };
 

@@ -1,17 +1,19 @@
-//! The number: 0 to 32 bytes, least significant first.
+//! The number, least significant byte first.
 
+use crate::limits::{NUMBER_BYTES, NUMBER_WORDS};
+use crate::refusal::{NUMBER_IS_ZERO, NUMBER_TOO_LONG};
 use crate::{words, Refusal};
 
 #[derive(Clone, Copy, PartialEq, Eq, Debug)]
 pub(crate) struct Number {
-    words: [u64; 4],
+    words: [u64; NUMBER_WORDS],
 }
 
 impl Number {
-    /// Refusal 1: more than 32 bytes, even if the high ones are zero.
+    /// Refusal 1: too many bytes, even if the high ones are zero.
     pub(crate) fn read(bytes: &[u8]) -> Result<Number, Refusal> {
-        if bytes.len() > 32 {
-            return Err(Refusal::new(1, 0));
+        if bytes.len() > NUMBER_BYTES {
+            return Err(Refusal::new(NUMBER_TOO_LONG, 0));
         }
         Ok(Number {
             words: words::from_bytes(bytes),
@@ -22,19 +24,20 @@ impl Number {
     pub(crate) fn read_nonzero(bytes: &[u8]) -> Result<Number, Refusal> {
         let number = Number::read(bytes)?;
         if words::is_zero(&number.words) {
-            return Err(Refusal::new(2, 0));
+            return Err(Refusal::new(NUMBER_IS_ZERO, 0));
         }
         Ok(number)
     }
 
-    pub(crate) fn words(&self) -> [u64; 4] {
+    pub(crate) fn words(&self) -> [u64; NUMBER_WORDS] {
         self.words
     }
 
-    /// The same value with one more word above it.
-    pub(crate) fn widened(&self) -> [u64; 5] {
-        let [a, b, c, d] = self.words;
-        [a, b, c, d, 0]
+    /// The same value in more words.
+    pub(crate) fn widened<const N: usize>(&self) -> [u64; N] {
+        let mut words = [0; N];
+        words[..NUMBER_WORDS].copy_from_slice(&self.words);
+        words
     }
 
     pub(crate) fn bit_length(&self) -> usize {
@@ -45,12 +48,12 @@ impl Number {
         words::count_ones(&self.words)
     }
 
-    /// The bit at a place below 256.
+    /// The bit at a place within the words.
     pub(crate) fn bit(&self, place: usize) -> bool {
         self.words[place / 64] >> (place % 64) & 1 == 1
     }
 
-    /// The value of `width` bits, 1 to 6 of them, from place `low` upwards;
+    /// The value of `width` bits, at most a window's, from place `low` upwards;
     /// bits past the end are zero.
     pub(crate) fn window(&self, low: usize, width: usize) -> usize {
         let (index, shift) = (low / 64, low % 64);
@@ -61,8 +64,8 @@ impl Number {
         value as usize & ((1 << width) - 1)
     }
 
-    /// The 64 bits from a place below 256 down, the bit at the place on top;
-    /// bits past the end are zero.
+    /// The 64 bits from a place within the words down, the bit at the place on
+    /// top; bits past the end are zero.
     pub(crate) fn bits_down(&self, place: usize) -> u64 {
         let (index, shift) = (place / 64, 63 - place % 64);
         let mut bits = self.words[index] << shift;

@@ -1,11 +1,11 @@
 //! Planning by the four methods, and the forecast of a plan's counts.
 
+use crate::limits::{RECODE_WORDS, STEP_BYTES, WINDOW_WIDTHS};
 use crate::naf::Naf;
 use crate::number::Number;
+use crate::refusal::METHOD_OR_WIDTH;
 use crate::{output, Counts, Refusal};
 
-/// Bytes of one step: the operation and two positions.
-pub(crate) const STEP_BYTES: usize = 5;
 pub(crate) const ADD: u8 = 0x00;
 pub(crate) const SUBTRACT: u8 = 0x01;
 
@@ -20,12 +20,12 @@ enum Method {
 impl Method {
     /// Refusal 3: no such method, or a width it does not allow.
     fn select(method: u32, width: u32) -> Result<Method, Refusal> {
-        match (method, width) {
-            (1, 0) => Ok(Method::Binary),
-            (2, 1..=6) => Ok(Method::FixedWindows(width as usize)),
-            (3, 1..=6) => Ok(Method::SlidingWindows(width as usize)),
-            (4, 0) => Ok(Method::Naf),
-            _ => Err(Refusal::new(3, 0)),
+        match method {
+            1 if width == 0 => Ok(Method::Binary),
+            2 if WINDOW_WIDTHS.contains(&width) => Ok(Method::FixedWindows(width as usize)),
+            3 if WINDOW_WIDTHS.contains(&width) => Ok(Method::SlidingWindows(width as usize)),
+            4 if width == 0 => Ok(Method::Naf),
+            _ => Err(Refusal::new(METHOD_OR_WIDTH, 0)),
         }
     }
 }
@@ -283,7 +283,7 @@ fn count_sliding_windows(number: &Number, width: usize) -> Counts {
 // Method 4.
 
 fn non_adjacent_form(number: &Number, chain: &mut Chain) {
-    let naf = Naf::of(&number.widened());
+    let naf = Naf::of(&number.widened::<RECODE_WORDS>());
     for place in (0..naf.length - 1).rev() {
         chain.double();
         if naf.is_one(place) {
@@ -295,7 +295,7 @@ fn non_adjacent_form(number: &Number, chain: &mut Chain) {
 }
 
 fn count_non_adjacent_form(number: &Number) -> Counts {
-    let naf = Naf::of(&number.widened());
+    let naf = Naf::of(&number.widened::<RECODE_WORDS>());
     Counts {
         doublings: naf.length - 1,
         additions: naf.count_ones() - 1,

@@ -1,5 +1,7 @@
 //! "Numbers to try by hand" of document 01, and the slips it names.
 
+use reference::limits::*;
+use reference::refusal::*;
 use reference::*;
 
 fn refusal(number: u8, place: usize) -> Refusal {
@@ -12,24 +14,24 @@ fn bytes(digits: &[i8]) -> Vec<u8> {
 }
 
 fn recoded(number: &[u8]) -> Vec<u8> {
-    let mut out = [7; 300];
+    let mut out = [7; RECODE_ROOM + 40];
     let length = recode(number, &mut out).unwrap();
     assert!(out[length..].iter().all(|&byte| byte == 7));
     out[..length].to_vec()
 }
 
 fn cleaned(digits: &[u8]) -> Vec<u8> {
-    let mut out = [7; 600];
+    let mut out = [7; CLEAN_ROOM + 40];
     let length = clean(digits, &mut out).unwrap();
     assert!(out[length..].iter().all(|&byte| byte == 7));
     out[..length].to_vec()
 }
 
 fn planned(number: &[u8], method: u32, width: u32) -> Vec<u8> {
-    let mut out = [7; 4000];
+    let mut out = [7; PLAN_ROOM + 40];
     let counts = plan(number, method, width, &mut out).unwrap();
     assert_eq!(forecast(number, method, width), Ok(counts));
-    let length = 5 * (counts.doublings + counts.additions + counts.subtractions);
+    let length = STEP_BYTES * counts.total();
     assert!(out[length..].iter().all(|&byte| byte == 7));
     out[..length].to_vec()
 }
@@ -42,10 +44,10 @@ fn step(operation: u8, j: u16, k: u16) -> Vec<u8> {
 }
 
 fn values(number: &[u8], steps: &[u8]) -> Vec<i64> {
-    let mut space = vec![0; 34 * (steps.len() / 5 + 1)];
+    let mut space = vec![0; work_space(steps.len() / STEP_BYTES)];
     check(number, steps, &mut space).unwrap();
     space
-        .chunks(34)
+        .chunks(RECORD_BYTES)
         .map(|record| {
             let size = i64::from_le_bytes(record[1..9].try_into().unwrap());
             if record[0] == 1 {
@@ -97,13 +99,13 @@ fn cleaning() {
     assert_eq!(cleaned(&bytes(&[1, -1, -1])), bytes(&[1]));
     assert_eq!(cleaned(&bytes(&[1, 1, 1])), bytes(&[1, 0, 0, -1]));
     assert_eq!(cleaned(&[]), Vec::<u8>::new());
-    assert_eq!(cleaned(&[0; 512]), Vec::<u8>::new());
+    assert_eq!(cleaned(&[0; STRING_DIGITS]), Vec::<u8>::new());
 }
 
 #[test]
 fn plans_for_43() {
     for (method, width, steps) in [(1, 0, 8), (2, 2, 8), (3, 3, 8), (4, 0, 9)] {
-        assert_eq!(planned(&[43], method, width).len(), 5 * steps);
+        assert_eq!(planned(&[43], method, width).len(), STEP_BYTES * steps);
     }
     assert_eq!(
         values(&[43], &planned(&[43], 4, 0)),
@@ -118,36 +120,36 @@ fn plan_for_3() {
 
 #[test]
 fn one_below_a_power_of_two() {
-    for k in 2..=256 {
-        let mut number = [0; 32];
+    for k in 2..=NUMBER_BITS {
+        let mut number = [0; NUMBER_BYTES];
         for place in 0..k {
             number[place / 8] |= 1 << (place % 8);
         }
-        assert_eq!(planned(&number, 1, 0).len(), 5 * (2 * k - 2));
-        assert_eq!(planned(&number, 4, 0).len(), 5 * (k + 1));
+        assert_eq!(planned(&number, 1, 0).len(), STEP_BYTES * (2 * k - 2));
+        assert_eq!(planned(&number, 4, 0).len(), STEP_BYTES * (k + 1));
     }
 }
 
 #[test]
 fn longest_number() {
-    let number = [0xFF; 32];
+    let number = [0xFF; NUMBER_BYTES];
     let digits = recoded(&number);
-    assert_eq!(digits.len(), 257);
-    assert_eq!((digits[0], digits[256]), (0xFF, 0x01));
-    let mut out = [7; 256];
-    assert_eq!(recode(&number, &mut out), Err(refusal(6, 257)));
-    assert_eq!(out, [7; 256]);
+    assert_eq!(digits.len(), NUMBER_BITS + 1);
+    assert_eq!((digits[0], digits[NUMBER_BITS]), (0xFF, 0x01));
+    let mut out = [7; NUMBER_BITS];
+    assert_eq!(recode(&number, &mut out), Err(refusal(ROOM_TOO_SMALL, NUMBER_BITS + 1)));
+    assert_eq!(out, [7; NUMBER_BITS]);
 }
 
 #[test]
 fn number_too_long() {
-    for number in [[0; 33], [0xFF; 33]] {
-        assert_eq!(recode(&number, &mut []), Err(refusal(1, 0)));
-        assert_eq!(plan(&number, 9, 9, &mut []), Err(refusal(1, 0)));
-        assert_eq!(forecast(&number, 9, 9), Err(refusal(1, 0)));
-        assert_eq!(check(&number, &[1], &mut []), Err(refusal(1, 0)));
+    for number in [[0; NUMBER_BYTES + 1], [0xFF; NUMBER_BYTES + 1]] {
+        assert_eq!(recode(&number, &mut []), Err(refusal(NUMBER_TOO_LONG, 0)));
+        assert_eq!(plan(&number, 9, 9, &mut []), Err(refusal(NUMBER_TOO_LONG, 0)));
+        assert_eq!(forecast(&number, 9, 9), Err(refusal(NUMBER_TOO_LONG, 0)));
+        assert_eq!(check(&number, &[1], &mut []), Err(refusal(NUMBER_TOO_LONG, 0)));
         let (mut recoder, result) = Recoder::start(&number);
-        assert_eq!(result, Err(refusal(1, 0)));
+        assert_eq!(result, Err(refusal(NUMBER_TOO_LONG, 0)));
         assert_eq!(recoder, Recoder::start(&[]).0);
         assert_eq!((recoder.take(), recoder), (None, Recoder::start(&[]).0));
     }
@@ -155,27 +157,30 @@ fn number_too_long() {
 
 #[test]
 fn longest_digit_string() {
-    let digits = cleaned(&[1; 512]);
-    assert_eq!(digits.len(), 513);
+    let digits = cleaned(&[1; STRING_DIGITS]);
+    assert_eq!(digits.len(), STRING_DIGITS + 1);
     assert_eq!(digits[0], 0xFF);
-    assert!(digits[1..512].iter().all(|&digit| digit == 0));
-    assert_eq!(digits[512], 1);
-    let mut out = [7; 600];
-    assert_eq!(clean(&digits, &mut out), Err(refusal(5, 0)));
-    assert_eq!(read_back(&digits, &mut out), Err(refusal(5, 0)));
-    assert_eq!(clean(&[9; 513], &mut out), Err(refusal(5, 0)));
-    assert_eq!(clean(&[9; 512], &mut out), Err(refusal(4, 0)));
-    assert_eq!(out, [7; 600]);
-    assert_eq!(read_back(&[0xFF; 512], &mut out), Ok((1, 64)));
-    assert_eq!(out[..64], [0xFF; 64]);
-    assert_eq!(out[64..], [7; 536]);
+    assert!(digits[1..STRING_DIGITS].iter().all(|&digit| digit == 0));
+    assert_eq!(digits[STRING_DIGITS], 1);
+    let mut out = [7; CLEAN_ROOM];
+    assert_eq!(clean(&digits, &mut out), Err(refusal(STRING_TOO_LONG, 0)));
+    assert_eq!(read_back(&digits, &mut out), Err(refusal(STRING_TOO_LONG, 0)));
+    assert_eq!(
+        clean(&[9; STRING_DIGITS + 1], &mut out),
+        Err(refusal(STRING_TOO_LONG, 0))
+    );
+    assert_eq!(clean(&[9; STRING_DIGITS], &mut out), Err(refusal(NOT_A_DIGIT, 0)));
+    assert_eq!(out, [7; CLEAN_ROOM]);
+    assert_eq!(read_back(&[0xFF; STRING_DIGITS], &mut out), Ok((1, READ_BACK_ROOM)));
+    assert_eq!(out[..READ_BACK_ROOM], [0xFF; READ_BACK_ROOM]);
+    assert!(out[READ_BACK_ROOM..].iter().all(|&byte| byte == 7));
 }
 
 #[test]
 fn reading_back_zero() {
     let mut out = [7; 4];
     assert_eq!(read_back(&[], &mut out), Ok((0, 0)));
-    assert_eq!(read_back(&[0; 512], &mut out), Ok((0, 0)));
+    assert_eq!(read_back(&[0; STRING_DIGITS], &mut out), Ok((0, 0)));
     assert_eq!(out, [7; 4]);
 }
 
@@ -186,13 +191,16 @@ fn empty_plan() {
         additions: 0,
         subtractions: 0,
     };
-    let mut space = [7; 35];
-    assert_eq!(check(&[2], &[], &mut space), Err(refusal(12, 0)));
+    let mut space = [7; RECORD_BYTES + 1];
+    assert_eq!(check(&[2], &[], &mut space), Err(refusal(WRONG_END, 0)));
     assert_eq!(check(&[1], &[], &mut space), Ok(none));
     assert_eq!(space[..2], [0, 1]);
-    assert_eq!(space[2..34], [0; 32]);
-    assert_eq!(space[34], 7);
-    assert_eq!(check(&[1], &[], &mut space[..33]), Err(refusal(8, 0)));
+    assert!(space[2..RECORD_BYTES].iter().all(|&byte| byte == 0));
+    assert_eq!(space[RECORD_BYTES], 7);
+    assert_eq!(
+        check(&[1], &[], &mut space[..RECORD_BYTES - 1]),
+        Err(refusal(WORK_SPACE_TOO_SHORT, 0))
+    );
 }
 
 #[test]
@@ -204,53 +212,62 @@ fn values_below_zero() {
         additions: 0,
         subtractions: 2,
     };
-    assert_eq!(check(&[3], &steps, &mut [0; 136]), Ok(counts));
+    assert_eq!(check(&[3], &steps, &mut [0; work_space(3)]), Ok(counts));
 }
 
 #[test]
 fn minus_the_number() {
     let steps = [step(0, 0, 0), step(0, 1, 0), step(1, 0, 2)].concat();
-    assert_eq!(check(&[2], &steps, &mut [0; 136]), Err(refusal(12, 3)));
+    assert_eq!(check(&[2], &steps, &mut [0; work_space(3)]), Err(refusal(WRONG_END, 3)));
 }
 
 #[test]
 fn largest_values() {
-    let doublings: Vec<u8> = (0..264).flat_map(|i| step(0, i, i)).collect();
-    let mut space = vec![7; 34 * 265];
-    assert_eq!(check(&[2], &doublings, &mut space), Err(refusal(11, 264)));
-    let record = &space[34 * 263..34 * 264];
-    assert_eq!(record[..33], [0; 33]);
-    assert_eq!(record[33], 0x80);
-    assert_eq!(space[34 * 264..], [7; 34]);
-    let last = 5 * 263;
-    let sound = check(&[2], &doublings[..last], &mut space);
-    assert_eq!(sound, Err(refusal(12, 263)));
+    let doublings: Vec<u8> = (0..VALUE_BITS as u16).flat_map(|i| step(0, i, i)).collect();
+    let mut space = vec![7; work_space(VALUE_BITS)];
+    assert_eq!(
+        check(&[2], &doublings, &mut space),
+        Err(refusal(VALUE_TOO_LARGE, VALUE_BITS))
+    );
+    let (filled, last) = space.split_at(work_space(VALUE_BITS - 1));
+    let record = &filled[filled.len() - RECORD_BYTES..];
+    assert!(record[..VALUE_BYTES].iter().all(|&byte| byte == 0));
+    assert_eq!(record[VALUE_BYTES], 0x80);
+    assert_eq!(last, [7; RECORD_BYTES]);
+    let sound = &doublings[..STEP_BYTES * (VALUE_BITS - 1)];
+    assert_eq!(check(&[2], sound, &mut space), Err(refusal(WRONG_END, VALUE_BITS - 1)));
 }
 
 #[test]
 fn longest_plan() {
-    let steps = step(0, 0, 0).repeat(641);
-    let mut space = vec![0; 34 * 642];
-    assert_eq!(check(&[2], &steps, &mut space), Err(refusal(7, 0)));
+    let steps = step(0, 0, 0).repeat(PLAN_STEPS + 1);
+    let mut space = vec![0; work_space(PLAN_STEPS + 1)];
+    assert_eq!(check(&[2], &steps, &mut space), Err(refusal(PLAN_LENGTH, 0)));
     let counts = Counts {
-        doublings: 640,
+        doublings: PLAN_STEPS,
         additions: 0,
         subtractions: 0,
     };
-    assert_eq!(check(&[2], &steps[..3200], &mut space), Ok(counts));
-    assert_eq!(check(&[2], &steps[..3199], &mut []), Err(refusal(7, 0)));
+    assert_eq!(check(&[2], &steps[..PLAN_ROOM], &mut space), Ok(counts));
+    assert_eq!(
+        check(&[2], &steps[..PLAN_ROOM - 1], &mut []),
+        Err(refusal(PLAN_LENGTH, 0))
+    );
 }
 
 #[test]
 fn own_position() {
     for bad in [step(0, 1, 0), step(0, 0, 1), step(2, 0, 0), step(255, 0, 0)] {
-        let mut space = [7; 68];
-        assert_eq!(check(&[2], &bad, &mut space), Err(refusal(9, 1)));
-        assert_eq!(space[34..], [7; 34]);
+        let mut space = [7; work_space(1)];
+        assert_eq!(check(&[2], &bad, &mut space), Err(refusal(MALFORMED_STEP, 1)));
+        assert_eq!(space[RECORD_BYTES..], [7; RECORD_BYTES]);
         assert_eq!(space[..2], [0, 1]);
     }
     let zero = step(1, 0, 0);
-    assert_eq!(check(&[2], &zero, &mut [7; 68]), Err(refusal(10, 1)));
+    assert_eq!(
+        check(&[2], &zero, &mut [7; work_space(1)]),
+        Err(refusal(VALUE_IS_ZERO, 1))
+    );
 }
 
 #[test]
@@ -258,14 +275,14 @@ fn window_tables() {
     // Below 2^d the table of method 2 stops at the number.
     for number in 1..64u8 {
         let steps = planned(&[number], 2, 6);
-        assert_eq!(steps.len(), 5 * (usize::from(number) - 1));
+        assert_eq!(steps.len(), STEP_BYTES * (usize::from(number) - 1));
     }
     // 2 by method 3, width 2: the whole table, then a doubling of position 0.
     let steps = [step(0, 0, 0), step(0, 1, 0), step(0, 0, 0)].concat();
     assert_eq!(planned(&[2], 3, 2), steps);
     assert_eq!(planned(&[1], 3, 6), Vec::<u8>::new());
-    assert_eq!(planned(&[3], 3, 6).len(), 10);
-    assert_eq!(planned(&[63], 3, 6).len(), 5 * 32);
+    assert_eq!(planned(&[3], 3, 6).len(), STEP_BYTES * 2);
+    assert_eq!(planned(&[63], 3, 6).len(), STEP_BYTES * 32);
 }
 
 #[test]
@@ -274,15 +291,15 @@ fn methods_and_widths() {
         for width in [0, 1, 2, 3, 4, 5, 6, 7, 256, 257, u32::MAX] {
             let allowed = match method {
                 1 | 4 => width == 0,
-                2 | 3 => (1..=6).contains(&width),
+                2 | 3 => WINDOW_WIDTHS.contains(&width),
                 _ => false,
             };
             assert_eq!(forecast(&[5], method, width).is_ok(), allowed);
             if !allowed {
-                assert_eq!(forecast(&[5], method, width), Err(refusal(3, 0)));
-                assert_eq!(plan(&[5], method, width, &mut []), Err(refusal(3, 0)));
+                assert_eq!(forecast(&[5], method, width), Err(refusal(METHOD_OR_WIDTH, 0)));
+                assert_eq!(plan(&[5], method, width, &mut []), Err(refusal(METHOD_OR_WIDTH, 0)));
             }
-            assert_eq!(forecast(&[0], method, width), Err(refusal(2, 0)));
+            assert_eq!(forecast(&[0], method, width), Err(refusal(NUMBER_IS_ZERO, 0)));
         }
     }
 }

@@ -1,4 +1,5 @@
 //! The answers that the command line's tests store are those of this crate.
+use reference::limits::*;
 use reference::{check, clean, forecast, plan, read_back, recode, Counts, Refusal};
 use std::collections::HashMap;
 
@@ -65,7 +66,7 @@ fn steps(plan: &[u8]) -> String {
     };
     match plan.is_empty() {
         true => "none".to_string(),
-        false => plan.chunks(5).map(step).collect::<Vec<_>>().join(" "),
+        false => plan.chunks(STEP_BYTES).map(step).collect::<Vec<_>>().join(" "),
     }
 }
 
@@ -88,10 +89,10 @@ fn files() -> HashMap<String, Vec<u8>> {
         ("own-position.plan", bytes(&[[0, 0, 0], [0, 2, 0]])),
         ("operation.plan", bytes(&[[0, 0, 0], [2, 0, 0]])),
         ("part.plan", vec![0; 4]),
-        ("doublings-263.plan", doublings(263)),
-        ("doublings-264.plan", doublings(264)),
-        ("steps-640.plan", vec![0; 5 * 640]),
-        ("steps-641.plan", vec![0; 5 * 641]),
+        ("doublings-263.plan", doublings(VALUE_BITS as u16 - 1)),
+        ("doublings-264.plan", doublings(VALUE_BITS as u16)),
+        ("steps-640.plan", vec![0; PLAN_ROOM]),
+        ("steps-641.plan", vec![0; PLAN_ROOM + STEP_BYTES]),
     ]
     .iter()
     .map(|(name, bytes)| (name.to_string(), bytes.clone()))
@@ -100,7 +101,7 @@ fn files() -> HashMap<String, Vec<u8>> {
 
 /// The answer to a request; a plan may go into a file.
 fn answer(words: &[&str], files: &mut HashMap<String, Vec<u8>>) -> String {
-    let mut out = [0; 4096];
+    let mut out = [0; PLAN_ROOM];
     let result = match words[0] {
         "recode" => recode(&number(words[1]), &mut out).map(|n| digits(&out[..n])),
         "clean" => clean(&string(&words[1..]), &mut out).map(|n| digits(&out[..n])),
@@ -118,7 +119,7 @@ fn answer(words: &[&str], files: &mut HashMap<String, Vec<u8>>) -> String {
             let file = words.iter().position(|&word| word == "to").map(|at| words[at + 1]);
             let width = words.get(3).filter(|&&word| word != "to").map_or(0, |word| small(word));
             plan(&number(words[1]), small(words[2]), width, &mut out).map(|n| {
-                let plan = &out[..5 * (n.doublings + n.additions + n.subtractions)];
+                let plan = &out[..STEP_BYTES * n.total()];
                 match file {
                     Some(name) => {
                         files.insert(name.to_string(), plan.to_vec());
@@ -129,7 +130,7 @@ fn answer(words: &[&str], files: &mut HashMap<String, Vec<u8>>) -> String {
             })
         }
         "check" => {
-            let mut space = vec![0; 34 * 641];
+            let mut space = vec![0; work_space(PLAN_STEPS)];
             check(&number(words[1]), &files[words[2]], &mut space).map(|n| format!("accepted: {}", counts(n)))
         }
         verb => panic!("{} is no request", verb),

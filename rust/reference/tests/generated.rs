@@ -4,20 +4,22 @@
 
 mod common;
 
-use reference::generate::Generator;
+use reference::generate::{methods, Generator};
+use reference::limits::*;
+use reference::refusal::{LAST, WRONG_END};
 use reference::*;
 
 /// How often each outcome came up: index 0 for success.
 struct Tally {
     call: &'static str,
-    outcomes: [usize; 13],
+    outcomes: [usize; LAST + 1],
 }
 
 impl Tally {
     fn new(call: &'static str) -> Tally {
         Tally {
             call,
-            outcomes: [0; 13],
+            outcomes: [0; LAST + 1],
         }
     }
 
@@ -70,7 +72,7 @@ fn take_cases() {
         let case = generator.take_case();
         let (mut recoder, result) = Recoder::start(&case.number);
         tally.note(&result);
-        let mut digits = vec![0; 257];
+        let mut digits = vec![0; RECODE_ROOM];
         let expected = common::recode(&case.number, &mut digits);
         digits.truncate(expected.unwrap_or(0));
         assert_eq!(result.err(), expected.err());
@@ -107,7 +109,7 @@ fn clean_cases() {
         assert_eq!((&result, &out), (&expected, &expected_out), "{:?}", case);
         tally.note(&result);
         match result {
-            Ok(513) => longest += 1,
+            Ok(CLEAN_ROOM) => longest += 1,
             Ok(0) => empty += 1,
             Ok(length) if out[..length] == case.digits => copied += 1,
             _ => {}
@@ -145,7 +147,7 @@ fn read_back_cases() {
 fn plan_cases() {
     let mut generator = Generator::new(5);
     let mut tally = Tally::new("plan");
-    let mut methods = [[0; 7]; 5];
+    let mut planned = std::collections::HashMap::new();
     for _ in 0..CASES {
         let case = generator.plan_case();
         let mut expected_out = generator.rng().bytes(case.room);
@@ -155,12 +157,12 @@ fn plan_cases() {
         assert_eq!((&result, &out), (&expected, &expected_out), "{:?}", case);
         tally.note(&result);
         if result.is_ok() {
-            methods[case.method as usize][case.width as usize] += 1;
+            *planned.entry((case.method, case.width)).or_insert(0) += 1;
         }
     }
     tally.assert_all(&[0, 1, 2, 3, 6]);
-    for (method, width) in generate::METHODS {
-        assert!(methods[method as usize][width as usize] > CASES / 100);
+    for method in methods() {
+        assert!(planned[&method] > CASES / 100);
     }
 }
 
@@ -193,16 +195,16 @@ fn check_cases() {
         assert!(space == expected_space, "{:?}", case);
         tally.note(&result);
 
-        let steps = case.plan.len() / 5;
-        let mut records = space.chunks(34).take(steps + 1);
+        let steps = case.plan.len() / STEP_BYTES;
+        let mut records = space.chunks(RECORD_BYTES).take(steps + 1);
         match result {
             Ok(_) => {
-                full += usize::from(steps == 640);
+                full += usize::from(steps == PLAN_STEPS);
                 empty += usize::from(steps == 0);
                 below_zero += usize::from(records.clone().any(|record| record[0] == 1));
-                large += usize::from(records.any(|record| record[33] == 0xFF));
+                large += usize::from(records.any(|record| record[VALUE_BYTES] == 0xFF));
             }
-            Err(Refusal { number: 12, .. }) => {
+            Err(Refusal { number: WRONG_END, .. }) => {
                 let last = records.next_back().unwrap();
                 let end = common::Big::from_bytes(&last[1..]);
                 let same_size = end == common::Big::from_bytes(&case.number);

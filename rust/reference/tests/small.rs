@@ -1,7 +1,8 @@
 //! Small numbers against plain integers and brute force, and the totals that
 //! source document 004 publishes.
 
-use reference::generate::METHODS;
+use reference::generate::methods;
+use reference::limits::*;
 use reference::*;
 
 fn recoded(number: u64) -> Vec<i8> {
@@ -70,16 +71,15 @@ fn recode_has_fewest_nonzero_digits() {
 fn plans_end_at_the_number() {
     for number in 1..2000i128 {
         let bytes = (number as u16).to_le_bytes();
-        for (method, width) in METHODS {
-            let mut out = [0; 1000];
+        for (method, width) in methods() {
+            let mut out = [0; PLAN_ROOM];
             let counts = plan(&bytes, method, width, &mut out).unwrap();
             assert_eq!(forecast(&bytes, method, width), Ok(counts));
-            let steps = counts.doublings + counts.additions + counts.subtractions;
-            let steps = &out[..5 * steps];
+            let steps = &out[..STEP_BYTES * counts.total()];
 
             let mut values = vec![1i128];
             let mut counted = [0; 3];
-            for step in steps.chunks(5) {
+            for step in steps.chunks(STEP_BYTES) {
                 let j = usize::from(u16::from_le_bytes([step[1], step[2]]));
                 let k = usize::from(u16::from_le_bytes([step[3], step[4]]));
                 let (value, kind) = match step[0] {
@@ -94,12 +94,12 @@ fn plans_end_at_the_number() {
             assert_eq!(values.last(), Some(&number));
             assert_eq!(counted, [counts.doublings, counts.additions, counts.subtractions]);
 
-            let mut space = vec![0; 34 * values.len()];
+            let mut space = vec![0; work_space(values.len() - 1)];
             assert_eq!(check(&bytes, steps, &mut space), Ok(counts));
-            for (record, value) in space.chunks(34).zip(&values) {
+            for (record, value) in space.chunks(RECORD_BYTES).zip(&values) {
                 assert_eq!(record[0], u8::from(*value < 0));
                 assert_eq!(record[1..17], value.unsigned_abs().to_le_bytes());
-                assert_eq!(record[17..], [0; 17]);
+                assert!(record[17..].iter().all(|&byte| byte == 0));
             }
         }
     }

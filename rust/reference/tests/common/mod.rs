@@ -4,7 +4,9 @@
 
 #![allow(dead_code)]
 
-use reference::{Counts, Refusal};
+use reference::limits::*;
+use reference::refusal::*;
+use reference::Counts;
 use std::cmp::Ordering;
 
 pub fn refusal(number: u8, place: usize) -> Refusal {
@@ -155,26 +157,26 @@ pub fn value_of(digits: &[u8]) -> Big {
 
 fn read_number(number: &[u8]) -> Result<Big, Refusal> {
     match number.len() {
-        0..=32 => Ok(Big::from_bytes(number)),
-        _ => Err(refusal(1, 0)),
+        0..=NUMBER_BYTES => Ok(Big::from_bytes(number)),
+        _ => Err(refusal(NUMBER_TOO_LONG, 0)),
     }
 }
 
 fn read_nonzero(number: &[u8]) -> Result<Big, Refusal> {
     let number = read_number(number)?;
     if number.is_zero() {
-        return Err(refusal(2, 0));
+        return Err(refusal(NUMBER_IS_ZERO, 0));
     }
     Ok(number)
 }
 
 fn read_digits(digits: &[u8]) -> Result<Big, Refusal> {
-    if digits.len() > 512 {
-        return Err(refusal(5, 0));
+    if digits.len() > STRING_DIGITS {
+        return Err(refusal(STRING_TOO_LONG, 0));
     }
     for (place, digit) in digits.iter().enumerate() {
         if ![0, 1, 255].contains(digit) {
-            return Err(refusal(4, place));
+            return Err(refusal(NOT_A_DIGIT, place));
         }
     }
     Ok(value_of(digits))
@@ -182,7 +184,7 @@ fn read_digits(digits: &[u8]) -> Result<Big, Refusal> {
 
 fn put(answer: &[u8], out: &mut [u8]) -> Result<(), Refusal> {
     if answer.len() > out.len() {
-        return Err(refusal(6, answer.len()));
+        return Err(refusal(ROOM_TOO_SMALL, answer.len()));
     }
     out[..answer.len()].copy_from_slice(answer);
     Ok(())
@@ -216,11 +218,11 @@ fn bits_value(bits: &[bool]) -> usize {
 fn steps_of(e: &Big, method: u32, width: u32) -> Result<Vec<Step>, Refusal> {
     let allowed = match method {
         1 | 4 => width == 0,
-        2 | 3 => (1..=6).contains(&width),
+        2 | 3 => WINDOW_WIDTHS.contains(&width),
         _ => false,
     };
     if !allowed {
-        return Err(refusal(3, 0));
+        return Err(refusal(METHOD_OR_WIDTH, 0));
     }
     let d = width as usize;
     let bits = e.bits();
@@ -348,7 +350,7 @@ pub fn forecast(number: &[u8], method: u32, width: u32) -> Result<Counts, Refusa
 }
 
 fn put_record(space: &mut [u8], position: usize, value: &Big) {
-    let record = &mut space[34 * position..34 * position + 34];
+    let record = &mut space[RECORD_BYTES * position..RECORD_BYTES * (position + 1)];
     record.fill(0);
     record[0] = u8::from(value.negative);
     record[1..1 + value.size.len()].copy_from_slice(&value.size);
@@ -356,39 +358,39 @@ fn put_record(space: &mut [u8], position: usize, value: &Big) {
 
 pub fn check(number: &[u8], plan: &[u8], space: &mut [u8]) -> Result<Counts, Refusal> {
     let number = read_nonzero(number)?;
-    if plan.len() % 5 != 0 || plan.len() > 3200 {
-        return Err(refusal(7, 0));
+    if plan.len() % STEP_BYTES != 0 || plan.len() > PLAN_ROOM {
+        return Err(refusal(PLAN_LENGTH, 0));
     }
-    let r = plan.len() / 5;
-    if space.len() < 34 * (r + 1) {
-        return Err(refusal(8, 0));
+    let r = plan.len() / STEP_BYTES;
+    if space.len() < work_space(r) {
+        return Err(refusal(WORK_SPACE_TOO_SHORT, 0));
     }
     let mut values = vec![Big::small(1)];
     let mut steps = Vec::new();
     put_record(space, 0, &values[0]);
     for i in 1..=r {
-        let step = &plan[5 * i - 5..5 * i];
+        let step = &plan[STEP_BYTES * (i - 1)..STEP_BYTES * i];
         let j = usize::from(step[1]) + 256 * usize::from(step[2]);
         let k = usize::from(step[3]) + 256 * usize::from(step[4]);
         if step[0] > 1 || j >= i || k >= i {
-            return Err(refusal(9, i));
+            return Err(refusal(MALFORMED_STEP, i));
         }
         let value = match step[0] {
             0 => values[j].plus(&values[k]),
             _ => values[j].minus(&values[k]),
         };
         if value.is_zero() {
-            return Err(refusal(10, i));
+            return Err(refusal(VALUE_IS_ZERO, i));
         }
-        if value.size.len() > 33 {
-            return Err(refusal(11, i));
+        if value.size.len() > VALUE_BYTES {
+            return Err(refusal(VALUE_TOO_LARGE, i));
         }
         put_record(space, i, &value);
         values.push(value);
         steps.push((step[0], j, k));
     }
     if values[r] != number {
-        return Err(refusal(12, r));
+        return Err(refusal(WRONG_END, r));
     }
     Ok(counts_of(&steps))
 }

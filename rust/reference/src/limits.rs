@@ -1,0 +1,41 @@
+//! The limits of document 01, each beside its sentence, and what follows from them. No other file
+//! of this crate writes one as a number.
+
+use std::ops::RangeInclusive;
+
+/// "Number: 0 to 32 bytes."
+pub const NUMBER_BYTES: usize = 32;
+/// "Digit string: 0 to 512 bytes, one digit each."
+pub const STRING_DIGITS: usize = 512;
+/// "Plan: r steps of 5 bytes, r from 0 to 640."
+pub const STEP_BYTES: usize = 5;
+pub const PLAN_STEPS: usize = 640;
+/// "Any value of size 2^264 or more is refused too."
+pub const VALUE_BITS: usize = 264;
+/// "Record i of the space is 34 bytes: a sign byte (0, or 1 below zero), then 33 bytes of size."
+pub const RECORD_BYTES: usize = 34;
+pub const VALUE_BYTES: usize = 33;
+/// "Width is 0 for methods 1 and 4, and 1 to 6 for methods 2 and 3."
+pub const WINDOW_WIDTHS: RangeInclusive<u32> = 1..=6;
+
+pub const NUMBER_BITS: usize = 8 * NUMBER_BYTES;
+
+/// Room for every answer of `recode`, `clean`, `read_back` and `plan`.
+pub const RECODE_ROOM: usize = NUMBER_BITS + 1;
+pub const CLEAN_ROOM: usize = STRING_DIGITS + 1;
+pub const READ_BACK_ROOM: usize = (STRING_DIGITS + 7) / 8;
+pub const PLAN_ROOM: usize = STEP_BYTES * PLAN_STEPS;
+
+/// The work space that the check of a plan of so many steps takes.
+pub const fn work_space(steps: usize) -> usize {
+    RECORD_BYTES * (steps + 1)
+}
+
+/// Words of 64 bits for a number.
+pub(crate) const NUMBER_WORDS: usize = (NUMBER_BITS + 63) / 64;
+/// Words for three times a number, and for three times the size of a digit string's value: two bits
+/// more, of which the top one stays 0.
+pub(crate) const RECODE_WORDS: usize = (NUMBER_BITS + 2) / 64 + 1;
+pub(crate) const CLEAN_WORDS: usize = (STRING_DIGITS + 2) / 64 + 1;
+/// Words for the size of a sum of two values: one bit more.
+pub(crate) const VALUE_WORDS: usize = VALUE_BITS / 64 + 1;

@@ -3,6 +3,7 @@
 
 #![forbid(unsafe_code)]
 
+pub mod cases;
 mod check;
 mod digits;
 pub mod generate;

@@ -1,0 +1,185 @@
+// Answers the requests on standard input, one a line, by the functions that C and Rust link. A
+// request is the name of a call, the room to lend, then the inputs of the call:
+//
+//     recode ROOM NUMBER
+//     take TIMES NUMBER
+//     clean ROOM DIGITS
+//     readback ROOM DIGITS
+//     plan ROOM NUMBER METHOD WIDTH
+//     forecast 0 NUMBER METHOD WIDTH
+//     check ROOM NUMBER PLAN
+//
+// NUMBER, DIGITS and PLAN are bytes in hexadecimal, or `-` for none; all else is decimal. A request
+// is copied, and behind it stand the fields of the answer in the order of include/lesmutka.h, then
+// the lent buffer: its bytes up to the last one that changed, and how many above it did not. A take
+// has instead what each take answers, then the words of the recoder. A request that does not fit is
+// answered with one word. A line that is empty or begins with `# ` is copied and not answered.
+mod line;
+mod show;
+
+use lesmutka::lesmutka_check;
+use lesmutka::lesmutka_clean;
+use lesmutka::lesmutka_forecast;
+use lesmutka::lesmutka_plan;
+use lesmutka::lesmutka_read_back;
+use lesmutka::lesmutka_recode;
+use lesmutka::lesmutka_start;
+use lesmutka::lesmutka_take;
+use libc::STDIN_FILENO;
+use line::LINE_BYTES;
+use line::Line;
+use line::empty;
+use line::part;
+use line::with;
+use rules::NUMBER_WORDS;
+use rules::PLAN_STEPS;
+use rules::RECORD_BYTES;
+use show::FILL;
+use show::put;
+use show::put_buffer;
+use show::put_number;
+use show::put_steps;
+use show::put_three;
+
+// The most room that is lent: a record more than the longest plan takes.
+const ROOM_BYTES: usize = RECORD_BYTES * (PLAN_STEPS + 2);
+
+// The names of the calls: their letters in base 256.
+const RECODE: u64 = 0x7265636f6465;
+
+const TAKE: u64 = 0x74616b65;
+
+const CLEAN: u64 = 0x636c65616e;
+
+const READBACK: u64 = 0x726561646261636b;
+
+const PLAN: u64 = 0x706c616e;
+
+const FORECAST: u64 = 0x666f726563617374;
+
+const CHECK: u64 = 0x636865636b;
+
+// The first word of a comment, `#`. That of an empty line is 0.
+const COMMENT: u64 = 0x23;
+
+// Takes so many digits. What a recoder holds is fixed only once it is done: zeros.
+fn take(number: &[u8], times: usize) {
+    let mut recoder = [0; NUMBER_WORDS + 1];
+    let a = lesmutka_start(number, &mut recoder);
+    put_number(a.refusal);
+    put_number(a.place);
+    let mut i = 0;
+    while i < times {
+        put_number(lesmutka_take(&mut recoder) as usize);
+        i += 1;
+    }
+    let mut k = 0;
+    while k < NUMBER_WORDS + 1 {
+        put_number(recoder[k] as usize);
+        k += 1;
+    }
+}
+
+// Makes the call of a name.
+fn call(name: u64, input: &[u8], plan: &[u8], method: u32, width: u32, out: &mut [u8]) {
+    put(b":");
+    match name {
+        RECODE => {
+            let a = lesmutka_recode(input, out);
+            put_three(a.refusal, a.place, a.length);
+            put_buffer(out);
+        }
+        TAKE => {
+            take(input, out.len());
+        }
+        CLEAN => {
+            let a = lesmutka_clean(input, out);
+            put_three(a.refusal, a.place, a.length);
+            put_buffer(out);
+        }
+        READBACK => {
+            let a = lesmutka_read_back(input, out);
+            put_three(a.refusal, a.place, a.sign);
+            put_number(a.length);
+            put_buffer(out);
+        }
+        PLAN => {
+            let a = lesmutka_plan(input, method, width, out);
+            put_steps(a.refusal, a.place, a.doublings, a.additions, a.subtractions);
+            put_buffer(out);
+        }
+        FORECAST => {
+            let a = lesmutka_forecast(input, method, width);
+            put_steps(a.refusal, a.place, a.doublings, a.additions, a.subtractions);
+        }
+        CHECK => {
+            let a = lesmutka_check(input, plan, out);
+            put_steps(a.refusal, a.place, a.doublings, a.additions, a.subtractions);
+            put_buffer(out);
+        }
+        _ => put(b" unknown"),
+    }
+}
+
+// Answers a line, if it is a request.
+fn answer(line: Line, bytes: &[u8; LINE_BYTES]) {
+    if line.names[0] <= COMMENT {
+        return;
+    }
+    if 2 * LINE_BYTES < line.digits {
+        put(b": long");
+        return;
+    }
+    let room = line.numbers[1] as usize;
+    if ROOM_BYTES < room {
+        put(b": room");
+        return;
+    }
+    let mut space = [FILL; ROOM_BYTES];
+    call(
+        line.names[0],
+        part(bytes, line.starts[2], line.starts[3]),
+        part(bytes, line.starts[3], line.starts[4]),
+        (line.numbers[3] % 0x100000000) as u32,
+        (line.numbers[4] % 0x100000000) as u32,
+        &mut space[0..room],
+    );
+}
+
+// Copies a byte of the input. Where it ends a line, the answer comes before it.
+fn read_byte(byte: u8, line: Line, bytes: &mut [u8; LINE_BYTES]) -> Line {
+    if byte == b'\n' {
+        let ended = with(line, b' ', bytes);
+        answer(ended, bytes);
+        put(b"\n");
+        return empty();
+    }
+    put(&[byte]);
+    with(line, byte, bytes)
+}
+
+fn read_block(block: &[u8], before: Line, bytes: &mut [u8; LINE_BYTES]) -> Line {
+    let mut line = before;
+    let mut i = 0;
+    while i < block.len() {
+        line = read_byte(block[i], line, bytes);
+        i += 1;
+    }
+    line
+}
+
+// Nothing says that the input ends, so the loop counts down from a number that no run uses up.
+fn main() {
+    let mut block = io::large_buffer();
+    let mut bytes = [0; LINE_BYTES];
+    let mut line = empty();
+    let mut turns = u64::MAX;
+    while 0 < turns {
+        let length = io::read_full(STDIN_FILENO, &mut block);
+        if length == 0 {
+            return;
+        }
+        line = read_block(&block[0..length], line, &mut bytes);
+        turns -= 1;
+    }
+}

@@ -1,0 +1,490 @@
+//! The requests of the proved program `cases` (crates/cases/stdin), and their answers by this crate
+//! alone, which the program must write (crates/cases/stdout). `crates/cases/src/main.rt` has the
+//! form of both. A case is a line here; then
+//!
+//! ```text
+//! cargo run --manifest-path rust/Cargo.toml -p reference --example cases
+//! ```
+//!
+//! writes the two files again.
+
+use crate::generate::methods;
+use crate::limits::*;
+use crate::refusal::Refusal;
+use crate::{check, clean, forecast, plan, read_back, recode, Counts, Recoder};
+
+/// What the program fills a buffer with before it lends it.
+const FILL: u8 = 0xA5;
+
+/// What a take answers where no digit is left.
+const DONE: usize = 0x100;
+
+// Answers.
+
+/// The lines of the requests, each request with its answer behind it.
+pub fn answers(requests: &str) -> String {
+    requests
+        .lines()
+        .map(|line| match line.is_empty() || line.starts_with("# ") {
+            true => format!("{}\n", line),
+            false => format!("{}: {}\n", line, answer(line)),
+        })
+        .collect()
+}
+
+fn answer(request: &str) -> String {
+    let words: Vec<&str> = request.split(' ').collect();
+    let room = decimal(words[1]) as usize;
+    let input = bytes(words[2]);
+    let mut out = vec![FILL; room];
+    match (words[0], &words[3..]) {
+        ("recode", []) => fields(recode(&input, &mut out).map(|length| [length])) + &buffer(&out),
+        ("take", []) => take(&input, room),
+        ("clean", []) => fields(clean(&input, &mut out).map(|length| [length])) + &buffer(&out),
+        ("readback", []) => {
+            let value = read_back(&input, &mut out);
+            fields(value.map(|(sign, length)| [usize::from(sign), length])) + &buffer(&out)
+        }
+        ("plan", [method, width]) => {
+            let counts = plan(&input, decimal(method), decimal(width), &mut out);
+            fields(counts.map(numbers)) + &buffer(&out)
+        }
+        ("forecast", [method, width]) => fields(forecast(&input, decimal(method), decimal(width)).map(numbers)),
+        ("check", [plan]) => {
+            let counts = check(&input, &bytes(plan), &mut out);
+            fields(counts.map(numbers)) + &buffer(&out)
+        }
+        _ => panic!("{} is no request", request),
+    }
+}
+
+fn decimal(word: &str) -> u32 {
+    let value: u32 = word.parse().expect(word);
+    assert_eq!(value.to_string(), word);
+    value
+}
+
+fn bytes(word: &str) -> Vec<u8> {
+    if word == "-" {
+        return Vec::new();
+    }
+    let digits: Vec<u8> = word
+        .chars()
+        .map(|digit| digit.to_digit(16).expect(word) as u8)
+        .collect();
+    let bytes: Vec<u8> = digits.chunks(2).map(|pair| 16 * pair[0] + pair[1]).collect();
+    assert_eq!(hexadecimal(&bytes), word);
+    bytes
+}
+
+fn hexadecimal(bytes: &[u8]) -> String {
+    bytes.iter().map(|byte| format!("{:02x}", byte)).collect()
+}
+
+/// All fields of an answer: refusal and place, 0 where there is none, then the values, 0 where it
+/// is refused.
+fn fields<const N: usize>(answer: Result<[usize; N], Refusal>) -> String {
+    let (refusal, place, values) = match answer {
+        Ok(values) => (0, 0, values),
+        Err(refusal) => (refusal.number, refusal.place, [0; N]),
+    };
+    let values: String = values.iter().map(|value| format!(" {}", value)).collect();
+    format!("{} {}{}", refusal, place, values)
+}
+
+fn numbers(counts: Counts) -> [usize; 3] {
+    [counts.doublings, counts.additions, counts.subtractions]
+}
+
+/// The bytes up to the last one that is not the fill, and how many stand above it.
+fn buffer(out: &[u8]) -> String {
+    let end = out.iter().rposition(|&byte| byte != FILL).map_or(0, |last| last + 1);
+    format!(" {}+{}", hexadecimal(&out[..end]), out.len() - end)
+}
+
+/// The words of a recoder are fixed only where it stands for zero: all are 0.
+fn take(number: &[u8], times: usize) -> String {
+    let (mut recoder, result) = Recoder::start(number);
+    let mut answer = fields(result.map(|_| []));
+    for _ in 0..times {
+        answer += &format!(" {}", recoder.take().map_or(DONE, usize::from));
+    }
+    assert_eq!(recoder, Recoder::start(&[]).0, "a recoder with digits left");
+    answer + &" 0".repeat(NUMBER_WORDS + 1)
+}
+
+// Requests.
+
+/// All requests, in sections.
+pub fn requests() -> String {
+    let mut requests = Requests(String::new());
+    requests.numbers();
+    requests.strings();
+    requests.plans();
+    requests.checks();
+    requests.families();
+    requests.0
+}
+
+struct Requests(String);
+
+/// The bytes of a small number, without a high zero byte.
+fn small(number: usize) -> Vec<u8> {
+    let mut bytes = number.to_le_bytes().to_vec();
+    while bytes.last() == Some(&0) {
+        bytes.pop();
+    }
+    bytes
+}
+
+fn padded(number: usize, length: usize) -> Vec<u8> {
+    let mut bytes = small(number);
+    bytes.resize(length, 0);
+    bytes
+}
+
+/// 2^k - 1.
+fn ones(k: usize) -> Vec<u8> {
+    let mut number = vec![0xFF; k / 8];
+    if k % 8 > 0 {
+        number.push((1 << (k % 8)) - 1);
+    }
+    number
+}
+
+/// A number of the longest kind, with runs of ones and zeros of several lengths.
+fn long() -> Vec<u8> {
+    (0..NUMBER_BYTES).map(|i| (37 * i + 11) as u8).collect()
+}
+
+/// The bytes of digits as prose writes them, most significant first.
+fn digits(digits: &[i8]) -> Vec<u8> {
+    digits.iter().rev().map(|&digit| digit as u8).collect()
+}
+
+fn add(j: usize, k: usize) -> Vec<u8> {
+    step(0, j, k)
+}
+
+fn subtract(j: usize, k: usize) -> Vec<u8> {
+    step(1, j, k)
+}
+
+fn step(operation: u8, j: usize, k: usize) -> Vec<u8> {
+    let mut bytes = vec![operation];
+    bytes.extend((j as u16).to_le_bytes());
+    bytes.extend((k as u16).to_le_bytes());
+    bytes
+}
+
+fn doublings(steps: usize) -> Vec<u8> {
+    (0..steps).flat_map(|i| add(i, i)).collect()
+}
+
+/// Room for the records of a few steps.
+const FEW: usize = work_space(4);
+
+impl Requests {
+    fn title(&mut self, words: &str) {
+        if !self.0.is_empty() {
+            self.0.push('\n');
+        }
+        self.0 += &format!("# {}\n", words);
+    }
+
+    fn line(&mut self, name: &str, room: usize, input: &[u8], more: &str) {
+        self.0 += &format!("{} {} {}{}\n", name, room, Requests::word(input), more);
+    }
+
+    fn word(bytes: &[u8]) -> String {
+        match bytes.is_empty() {
+            true => "-".to_string(),
+            false => hexadecimal(bytes),
+        }
+    }
+
+    fn recode(&mut self, room: usize, number: &[u8]) {
+        self.line("recode", room, number, "");
+    }
+
+    fn take(&mut self, times: usize, number: &[u8]) {
+        self.line("take", times, number, "");
+    }
+
+    fn clean(&mut self, room: usize, digits: &[u8]) {
+        self.line("clean", room, digits, "");
+    }
+
+    fn read_back(&mut self, room: usize, digits: &[u8]) {
+        self.line("readback", room, digits, "");
+    }
+
+    fn plan(&mut self, room: usize, number: &[u8], method: u32, width: u32) {
+        self.line("plan", room, number, &format!(" {} {}", method, width));
+    }
+
+    fn forecast(&mut self, number: &[u8], method: u32, width: u32) {
+        self.line("forecast", 0, number, &format!(" {} {}", method, width));
+    }
+
+    fn check(&mut self, room: usize, number: &[u8], plan: &[u8]) {
+        self.line("check", room, number, &format!(" {}", Requests::word(plan)));
+    }
+
+    /// The canonical string, whole and digit by digit, done twice over.
+    fn recoded(&mut self, number: &[u8]) {
+        let length = recode(number, &mut [0; RECODE_ROOM]).unwrap_or(0);
+        self.recode(RECODE_ROOM, number);
+        self.take(length + 2, number);
+    }
+
+    fn read(&mut self, digits: &[u8]) {
+        self.clean(CLEAN_ROOM, digits);
+        self.read_back(READ_BACK_ROOM, digits);
+    }
+
+    /// Cleaned and read back, and what was written once more.
+    fn cleaned(&mut self, digits: &[u8]) {
+        let mut out = [0; CLEAN_ROOM];
+        let length = clean(digits, &mut out).unwrap();
+        self.read(digits);
+        self.read(&out[..length]);
+    }
+
+    fn planned(&mut self, number: &[u8], method: u32, width: u32) {
+        self.plan(PLAN_ROOM, number, method, width);
+        self.forecast(number, method, width);
+    }
+
+    /// Into just the room that it takes, and into a byte less.
+    fn fitted(&mut self, number: &[u8], method: u32, width: u32) {
+        let room = STEP_BYTES * forecast(number, method, width).unwrap().total();
+        self.plan(room, number, method, width);
+        if room > 0 {
+            self.plan(room - 1, number, method, width);
+        }
+    }
+
+    /// The check of a plan of our own.
+    fn accepted(&mut self, number: &[u8], method: u32, width: u32) {
+        let mut out = [0; PLAN_ROOM];
+        let steps = plan(number, method, width, &mut out).unwrap().total();
+        self.check(work_space(steps), number, &out[..STEP_BYTES * steps]);
+    }
+
+    fn numbers(&mut self) {
+        self.title(
+            "Document 01, numbers to try by hand: recoded, then taken digit by digit until done, and done again",
+        );
+        for number in [0, 1, 3, 7, 15, 25, 27, 43] {
+            self.recoded(&small(number));
+        }
+        self.title("The longest number, room for its digits and for one less, and a byte too many");
+        self.recoded(&[0xFF; NUMBER_BYTES]);
+        self.recode(RECODE_ROOM - 1, &[0xFF; NUMBER_BYTES]);
+        self.recoded(&[0; NUMBER_BYTES + 1]);
+        self.recoded(&[0xFF; NUMBER_BYTES + 1]);
+        self.recode(0, &[0xFF; NUMBER_BYTES + 1]);
+        self.title("High zero bytes");
+        for number in [
+            padded(0, 1),
+            padded(0, NUMBER_BYTES),
+            padded(3, 2),
+            padded(3, NUMBER_BYTES),
+        ] {
+            self.recoded(&number);
+        }
+        self.title("Room");
+        self.recode(0, &[]);
+        for room in [7, 6, 40, 0] {
+            self.recode(room, &small(43));
+        }
+        self.title("Source document 004, table, column NAF");
+        for number in 1..40 {
+            self.recoded(&small(number));
+        }
+    }
+
+    fn strings(&mut self) {
+        self.title("Document 01, numbers to try by hand: cleaned and read back, then what was written");
+        self.cleaned(&digits(&[1, 1]));
+        self.cleaned(&digits(&[-1, 1]));
+        self.cleaned(&digits(&[0, 0, 1]));
+        self.cleaned(&digits(&[1, -1, -1]));
+        self.title("The longest strings, and a digit too many");
+        self.cleaned(&[0x01; STRING_DIGITS]);
+        self.cleaned(&[0xFF; STRING_DIGITS]);
+        self.cleaned(&[0x00; STRING_DIGITS]);
+        self.read(&[0x00; STRING_DIGITS + 1]);
+        self.title("A run of three, values below zero, zero, a size of two bytes");
+        self.cleaned(&digits(&[1, 1, 1]));
+        self.cleaned(&digits(&[-1, -1]));
+        self.read(&digits(&[0]));
+        self.read(&digits(&[0, 0, 0]));
+        let two_bytes = digits(&[1, 0, 0, 0, 0, 0, 0, 0, -1, 0]);
+        self.read(&two_bytes);
+        self.title("Bytes that are no digits: the lowest counts, and a string too long is refused as such");
+        self.read(&[2, 0, 255, 0, 1]);
+        self.read(&[255, 0, 2, 0, 1]);
+        self.read(&[255, 0, 255, 0, 2]);
+        self.read(&[255, 2, 0, 2, 1]);
+        self.read(&[254]);
+        let mut longest = [0; STRING_DIGITS];
+        (longest[0], longest[STRING_DIGITS - 1]) = (1, 2);
+        self.read(&longest);
+        let mut too_long = [0; STRING_DIGITS + 1];
+        (too_long[0], too_long[STRING_DIGITS]) = (2, 1);
+        self.read(&too_long);
+        self.title("Room for just the answer, for a byte less, for more; none, where 5 or 4 comes first");
+        for room in [3, 2, 40] {
+            self.clean(room, &digits(&[1, 1]));
+        }
+        self.clean(CLEAN_ROOM - 1, &[0x01; STRING_DIGITS]);
+        for room in [2, 1, 40] {
+            self.read_back(room, &two_bytes);
+        }
+        self.read_back(READ_BACK_ROOM - 1, &[0x01; STRING_DIGITS]);
+        for string in [&[][..], &[1, 2], &[1; STRING_DIGITS + 1]] {
+            self.clean(0, string);
+            self.read_back(0, string);
+        }
+        self.title("What recode writes, read back");
+        for number in [small(0), small(43), long(), ones(NUMBER_BITS)] {
+            let mut out = [0; RECODE_ROOM];
+            let length = recode(&number, &mut out).unwrap();
+            self.recode(RECODE_ROOM, &number);
+            self.read_back(NUMBER_BYTES, &out[..length]);
+        }
+    }
+
+    fn plans(&mut self) {
+        self.title("Document 01, numbers to try by hand: planned and forecast");
+        for (method, width) in [(1, 0), (2, 2), (2, 3), (3, 2), (3, 3), (4, 0)] {
+            self.planned(&small(43), method, width);
+        }
+        self.planned(&small(3), 1, 0);
+        self.title("The number 1, and high zero bytes");
+        for (method, width) in [(1, 0), (2, 1), (2, 6), (3, 1), (3, 6), (4, 0)] {
+            self.planned(&small(1), method, width);
+        }
+        self.planned(&padded(43, 2), 1, 0);
+        self.planned(&padded(43, NUMBER_BYTES), 4, 0);
+        self.title("Numbers that are refused");
+        self.planned(&[0x00; NUMBER_BYTES + 1], 1, 0);
+        self.planned(&[0xFF; NUMBER_BYTES + 1], 4, 0);
+        self.planned(&[], 1, 0);
+        self.planned(&padded(0, 1), 2, 2);
+        self.planned(&padded(0, NUMBER_BYTES), 4, 0);
+        self.title("Methods and widths that are refused");
+        let wide = WINDOW_WIDTHS.end() + 1;
+        for (method, width) in [
+            (0, 0),
+            (5, 0),
+            (u32::MAX, 0),
+            (2, 0),
+            (3, 0),
+            (2, wide),
+            (3, wide),
+            (1, 1),
+            (4, 1),
+        ] {
+            self.planned(&small(43), method, width);
+        }
+        self.title("Room for just the plan, and for a byte less");
+        for (method, width) in methods() {
+            self.fitted(&small(43), method, width);
+        }
+        for (method, width) in methods() {
+            self.fitted(&long(), method, width);
+        }
+        self.plan(0, &small(43), 4, 0);
+        self.plan(0, &small(1), 1, 0);
+        self.title("Order: 1, 2, 3, 6");
+        self.plan(0, &[0; NUMBER_BYTES + 1], 0, 0);
+        self.plan(0, &padded(0, 1), 0, 0);
+        self.plan(0, &small(43), 0, 0);
+    }
+
+    fn checks(&mut self) {
+        self.title("Document 01, numbers to try by hand: plans checked");
+        self.check(FEW, &small(3), &[add(0, 0), subtract(0, 1), subtract(1, 2)].concat());
+        self.check(FEW, &small(1), &[]);
+        self.check(FEW, &small(2), &[]);
+        self.check(FEW, &small(3), &[add(0, 0), add(1, 0)].concat());
+        self.title("A plan that ends at minus the number");
+        self.check(FEW, &small(1), &[add(0, 0), subtract(0, 1)].concat());
+        self.title("Plans of our own");
+        for (method, width) in [(1, 0), (2, 2), (3, 3), (4, 0)] {
+            self.accepted(&small(43), method, width);
+        }
+        self.accepted(&long(), 4, 0);
+        self.title("The longest plan and a step more; part of a step");
+        self.check(work_space(PLAN_STEPS + 1), &small(2), &[0; PLAN_ROOM]);
+        self.check(work_space(PLAN_STEPS + 1), &small(2), &[0; PLAN_ROOM + STEP_BYTES]);
+        self.check(FEW, &small(2), &[0; STEP_BYTES - 1]);
+        self.check(FEW, &small(2), &[0; STEP_BYTES + 1]);
+        self.title("The largest values: doublings up to the limit, one more, an unknown operation there");
+        let room = work_space(VALUE_BITS + 3);
+        let top = VALUE_BITS - 1;
+        self.check(room, &small(1), &doublings(top));
+        self.check(room, &small(1), &doublings(top + 1));
+        self.check(room, &small(1), &[doublings(top), step(2, top, top)].concat());
+        let mut number = padded(0, NUMBER_BYTES);
+        number[NUMBER_BYTES - 1] = 0x80;
+        self.check(room, &number, &doublings(NUMBER_BITS - 1));
+        self.title("Below zero: 1 less half the limit, 1 less the limit, which is fine, then minus the limit");
+        let below = [subtract(0, top), subtract(top + 1, top), subtract(top + 2, 0)].concat();
+        self.check(room, &small(1), &[doublings(top), below].concat());
+        self.title("Steps that are refused");
+        self.check(FEW, &small(2), &add(1, 0));
+        self.check(FEW, &small(2), &add(0, 1));
+        self.check(FEW, &small(4), &[add(0, 0), add(1, 2)].concat());
+        self.check(FEW, &small(2), &step(2, 0, 0));
+        self.check(FEW, &small(2), &step(255, 0, 0));
+        self.check(FEW, &small(2), &add(256, 0));
+        self.check(FEW, &small(2), &add(0, 256));
+        self.check(FEW, &small(1), &subtract(0, 0));
+        self.check(FEW, &small(1), &subtract(1, 1));
+        self.check(FEW, &small(1), &[subtract(0, 0), add(2, 2)].concat());
+        self.check(FEW, &small(1), &[add(1, 1), subtract(0, 0)].concat());
+        self.title("Order: 1, 2, 7, 8, then the steps");
+        self.check(0, &[0; NUMBER_BYTES + 1], &[0; STEP_BYTES - 1]);
+        self.check(0, &padded(0, 1), &[0; STEP_BYTES - 1]);
+        self.check(0, &[], &[]);
+        self.check(0, &small(1), &[0; STEP_BYTES - 1]);
+        self.check(0, &small(1), &step(2, 0, 0));
+        self.title("High zero bytes, and one too many");
+        self.check(FEW, &padded(2, NUMBER_BYTES), &add(0, 0));
+        self.check(FEW, &padded(2, NUMBER_BYTES + 1), &add(0, 0));
+        self.title("Work spaces that just fit, and a byte less");
+        self.check(work_space(1), &small(2), &add(0, 0));
+        self.check(work_space(1) - 1, &small(2), &add(0, 0));
+        self.check(work_space(0), &small(1), &[]);
+        self.check(work_space(0) - 1, &small(1), &[]);
+    }
+
+    fn families(&mut self) {
+        self.title(ONES);
+        for k in 2..=NUMBER_BITS {
+            self.forecast(&ones(k), 1, 0);
+            self.forecast(&ones(k), 4, 0);
+        }
+        self.title(SMALL);
+        for number in 1..1024 {
+            self.forecast(&small(number), 1, 0);
+            self.forecast(&small(number), 4, 0);
+        }
+        self.title("Small numbers by windows of every width");
+        for (method, width) in methods() {
+            if width > 0 {
+                for number in 1..=130 {
+                    self.forecast(&small(number), method, width);
+                }
+            }
+        }
+    }
+}
+
+/// The titles of two sections.
+pub const ONES: &str = "2^k - 1 for each k of 2 or more, by methods 1 and 4";
+pub const SMALL: &str = "1 to 1,023, by methods 1 and 4";

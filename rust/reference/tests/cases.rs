@@ -1,0 +1,121 @@
+//! What the proved program `cases` is given and must write (crates/cases): both files are as
+//! `reference::cases` makes them, so the program answers as this crate does, and what they hold
+//! agrees with document 01 and with source document 004.
+
+use reference::cases::{answers, requests, ONES, SMALL};
+use reference::limits::NUMBER_BITS;
+use reference::refusal::{LAST, WORK_SPACE_TOO_SHORT};
+
+const STDIN: &str = include_str!("../../../crates/cases/stdin");
+const STDOUT: &str = include_str!("../../../crates/cases/stdout");
+
+/// Equal line by line, which says where they differ, and as a whole.
+fn assert_same(file: &str, stored: &str, made: &str) {
+    for (number, (stored, made)) in stored.lines().zip(made.lines()).enumerate() {
+        assert_eq!(stored, made, "crates/cases/{}, line {}", file, number + 1);
+    }
+    assert!(stored == made, "crates/cases/{} is longer or shorter", file);
+}
+
+#[test]
+fn requests_are_stored() {
+    assert_same("stdin", STDIN, &requests());
+}
+
+#[test]
+fn stored_answers() {
+    assert_same("stdout", STDOUT, &answers(STDIN));
+}
+
+/// An answer that is stored: the words of the request and of the answer.
+struct Stored {
+    request: Vec<&'static str>,
+    answer: Vec<&'static str>,
+}
+
+impl Stored {
+    fn read(line: &'static str) -> Option<Stored> {
+        if line.is_empty() || line.starts_with('#') {
+            return None;
+        }
+        let (request, answer) = line.split_once(": ").expect(line);
+        Some(Stored {
+            request: request.split(' ').collect(),
+            answer: answer.split(' ').collect(),
+        })
+    }
+
+    fn field(&self, index: usize) -> usize {
+        self.answer[index].parse().unwrap()
+    }
+
+    /// The counts of a forecast that was not refused, and its method.
+    fn forecast(&self) -> (&str, [usize; 3]) {
+        assert_eq!((self.request[0], self.field(0)), ("forecast", 0));
+        (self.request[3], [self.field(2), self.field(3), self.field(4)])
+    }
+}
+
+/// The answers below a title.
+fn section(title: &str) -> Vec<Stored> {
+    let title = format!("# {}", title);
+    let lines = STDOUT.lines().skip_while(move |&line| line != title).skip(1);
+    lines
+        .take_while(|line| !line.starts_with('#'))
+        .filter_map(Stored::read)
+        .collect()
+}
+
+/// Refusals 1 to 8 leave what was lent as it was.
+#[test]
+fn every_refusal_is_stored() {
+    let mut seen = [0; LAST + 1];
+    for stored in STDOUT.lines().filter_map(Stored::read) {
+        let refusal = stored.field(0);
+        seen[refusal] += 1;
+        let lends = !["take", "forecast"].contains(&stored.request[0]);
+        if lends && refusal > 0 && refusal <= usize::from(WORK_SPACE_TOO_SHORT) {
+            let buffer = *stored.answer.last().unwrap();
+            assert_eq!(buffer, format!("+{}", stored.request[1]), "{:?}", stored.request);
+        }
+    }
+    assert!(seen.iter().all(|&times| times > 0), "{:?}", seen);
+}
+
+/// 2^k - 1 takes 2k - 2 steps by method 1 and k + 1 by method 4 (source document 004).
+#[test]
+fn one_below_a_power_of_two() {
+    let stored = section(ONES);
+    assert_eq!(stored.len(), 2 * (NUMBER_BITS - 1));
+    for (k, pair) in (2..).zip(stored.chunks(2)) {
+        assert_eq!(pair[0].request[2], pair[1].request[2]);
+        assert_eq!(pair[0].forecast(), ("1", [k - 1, k - 1, 0]));
+        assert_eq!(pair[1].forecast(), ("4", [k, 0, 1]));
+    }
+}
+
+/// Each plan has one doubling less than the digits and one other step less than the nonzero digits,
+/// so over all numbers below 2^10 source document 004's totals give the sums (propositions 7 and 8).
+#[test]
+fn published_totals() {
+    let stored = section(SMALL);
+    let numbers = 1023;
+    assert_eq!(stored.len(), 2 * numbers);
+    let sums = |method: &str| {
+        let mut sums = [0; 3];
+        for stored in &stored {
+            let (by, counts) = stored.forecast();
+            if by == method {
+                for (sum, count) in sums.iter_mut().zip(counts) {
+                    *sum += count;
+                }
+            }
+        }
+        sums
+    };
+    assert_eq!(sums("1"), [9217 - numbers, 5120 - numbers, 0]);
+    let [doublings, additions, subtractions] = sums("4");
+    assert_eq!(doublings, 9894 - numbers);
+    assert_eq!(additions + subtractions, 3868 - numbers);
+    assert_eq!((additions, subtractions), (1252, 1593));
+}

@@ -397,6 +397,7 @@ impl Requests {
         for (method, width) in methods() {
             self.fitted(&long(), method, width);
         }
+        self.plan(44, &small(43), 2, 3);
         self.plan(0, &small(43), 4, 0);
         self.plan(0, &small(1), 1, 0);
         self.title("Order: 1, 2, 3, 6");

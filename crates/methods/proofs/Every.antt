@@ -1,66 +1,149 @@
--- Every method and width allowed: sound steps that end at the number, and no more than a plan may have. Assumes nothing.
-use mathlib.Core.Path.{_≡_, refl}
-use mathlib.Core.Logic.{_≢_}
-use mathlib.Core.Bool.{Bool, true, false, cond}
-use mathlib.Core.List.{List}
-use Prim.Native.Nat.{ℕ, _+_, _*_, _-_, _^_, _<_, _≤_}
-use borrow.Author.Tests.{eqb-true, leb-true}
+-- Every method that is allowed: which they are, and that the steps are sound, end at the number, and are no more than a plan may have. Assumes nothing.
+use mathlib.Core.Path.{_≡_, refl, sym}
+use mathlib.Core.Logic.{_↔_, _≢_, ⊎-elim}
+use mathlib.Core.List.{List, [], _∷_, map, List·Memᴰ, List·Memᴰ·head, List·Memᴰ·tail, List·Memᴰ·not-nil, List·Memᴰ·cases-cons, List·Memᴰ·append-cases, Memᴰ·cast, Memᴰ·append-left, Memᴰ·append-right, Memᴰ·map, Memᴰ·of-map}
+use Prim.Native.Nat.{ℕ, zero, suc, _+_, _*_, _-_, _^_, _<_, _≤_}
+use borrow.Author.Tests.{le-leb, lt-leb}
+use native.Mathlib.Decide.{decLt, ℕ-discrete}
 use native.Mathlib.Nat.{lt-of-le-of-lt}
 use native.Mathlib.Omega.{arith}
-use lib.Dec.{eqb, leb, lit<}
+use lib.Dec.{lit<}
 use lib.ListN.{length}
 use lib.Pow.{pow-mono}
 use Rattle.rules.specs.Limits.{numberBytes, planSteps}
+use Rattle.rules.specs.declared.Refusal.{Refusal}
+use Rattle.rules.specs.declared.Refusal.the-variants.{MethodOrWidth}
 use Rattle.integers.specs.Positional.{bytesValue}
 use Rattle.integers.specs.Bits.{bitLength}
 use Rattle.integers.proofs.Positional.{Below, positional-lt}
 use Rattle.integers.proofs.Bits.{bit-length-iff}
 use Rattle.chains.specs.Steps.{Step}
-use Rattle.methods.specs.Method.{isWindow, isAllowed, stepsBy}
+use Rattle.methods.specs.declared.Method.{Method}
+use Rattle.methods.specs.declared.Method.the-variants.{Binary, FixedWindows, SlidingWindows, Naf}
+use Rattle.methods.specs.declared.Chosen.{Chosen}
+use Rattle.methods.specs.Widths.{fixedWindowBits, slidingWindowBits}
+use Rattle.methods.specs.Method.{stepsBy, methodNumber, methodWidth, Entry, methods, within, numbered, methodOf, Allowed, countFrom, everyWidth, choices}
 use Rattle.methods.proofs.Laws.{Small, small-below, number-small, Made}
 use Rattle.methods.proofs.Binary.{binary-made, binary-short}
 use Rattle.methods.proofs.FixedWindows.{fixed-made, fixed-short}
 use Rattle.methods.proofs.SlidingWindows.{sliding-made, sliding-short}
 use Rattle.methods.proofs.NonAdjacentForm.{naf-made, naf-short, naf-bits}
 
+-- ---- what two numbers ask for
+
+module _ (method : Method) (width least most : ℕ) where
+  -- the method, or refusal 3 for a width that is too narrow or too wide
+  pub data Within : Chosen → Type 0 where
+    allowed : {m : Method} → m ≡ method → least ≤ width → width ≤ most → Within (Chosen.Method m)
+    too-narrow : {r : Refusal} → r ≡ MethodOrWidth → width < least → Within (Chosen.Refused r)
+    too-wide : {r : Refusal} → r ≡ MethodOrWidth → least ≤ width → most < width → Within (Chosen.Refused r)
+
+  pub within-only : {c : Chosen} → Within c → within method width least most ≡ c
+  unfolding within
+  within-only (allowed e l h) = rw (le-leb least width l, le-leb width most h, e)
+  within-only (too-narrow e h) = rw (lt-leb least width h, e)
+  within-only (too-wide e l h) = rw (le-leb least width l, lt-leb width most h, e)
+
+  within-one : Within (within method width least most)
+  within-one = go (decLt width least) (decLt most width)
+    where
+      go : Dec (width < least) → Dec (most < width) → Within (within method width least most)
+      go (yes h) _ = let t = too-narrow refl h in rw (within-only t) t
+      go (no n) (yes h) = let t = too-wide refl (omega arith) h in rw (within-only t) t
+      go (no n) (no h) = let t = allowed refl (omega arith) (omega arith) in rw (within-only t) t
+
+  within-is : {m : Method} → within method width least most ≡ Chosen.Method m → (m ≡ method) × (least ≤ width) × (width ≤ most)
+  within-is e = elim (rw e at within-one) [ allowed q l h ↦ (q, l, h) ]
+
+  within-3 : {r : Refusal} → within method width least most ≡ Chosen.Refused r → r ≡ MethodOrWidth
+  within-3 e = elim (rw e at within-one) [ too-narrow q h ↦ q | too-wide q l h ↦ q ]
+
+-- the two numbers that ask for a method are its own
+pub asked : (method width : ℕ) {m : Method} → methodOf method width ≡ Chosen.Method m → (methodNumber m ≡ method) × (methodWidth m ≡ width)
+unfolding methodOf numbered
+asked zero width e = let z : _≡_ {A = ℕ} 0 1 = cc in absurd (omega arith)
+asked (suc zero) width e = let w = within-is Binary width 0 0 e in rw (w .0) (refl, omega arith)
+asked (suc (suc zero)) width e = let w = within-is (FixedWindows width) width 1 fixedWindowBits e in rw (w .0) (refl, refl)
+asked (suc (suc (suc zero))) width e = let w = within-is (SlidingWindows width) width 1 slidingWindowBits e in rw (w .0) (refl, refl)
+asked (suc (suc (suc (suc zero)))) width e = let w = within-is Naf width 0 0 e in rw (w .0) (refl, omega arith)
+asked (suc (suc (suc (suc (suc n))))) width e = let z : _≡_ {A = ℕ} 0 1 = cc in absurd (omega arith)
+
+pub is-allowed : (method width : ℕ) {m : Method} → methodOf method width ≡ Chosen.Method m → Allowed m
+is-allowed method width e = let a = asked method width e in rw (a .0, a .1) e
+
+numbered-3 : (ms : List Entry) (n width : ℕ) {r : Refusal} → numbered ms n width ≡ Chosen.Refused r → r ≡ MethodOrWidth
+unfolding numbered
+numbered-3 [] n width e = cc
+numbered-3 (m ∷ ms) zero width e = within-3 (m .method width) width (m .least) (m .most) e
+numbered-3 (m ∷ ms) (suc n) width e = numbered-3 ms n width e
+
+-- any other two are refused by 3
+pub refused-3 : (method width : ℕ) {r : Refusal} → methodOf method width ≡ Chosen.Refused r → r ≡ MethodOrWidth
+unfolding methodOf
+refused-3 zero width e = cc
+refused-3 (suc n) width e = numbered-3 methods n width e
+
+-- ---- the list of choices has the methods that are allowed, and no other
+
+counted : (k n d : ℕ) → k ≤ d → d < k + n → List·Memᴰ d (countFrom k n)
+unfolding countFrom
+counted k zero d l h = absurd (omega arith)
+counted k (suc n) d l h =
+    elim (ℕ-discrete d k) [ yes e ↦ List·Memᴰ·head e | no e ↦ List·Memᴰ·tail (counted (suc k) n d (omega arith) (omega arith)) ]
+
+between : (k n d : ℕ) → List·Memᴰ d (countFrom k n) → (k ≤ d) × (d < k + n)
+unfolding countFrom
+between k zero d m = absurd (List·Memᴰ·not-nil m)
+between k (suc n) d m =
+    ⊎-elim (λ (e : d ≡ k). (omega arith, omega arith)) (λ t. let b = between (suc k) n d t in (omega arith, omega arith)) (List·Memᴰ·cases-cons m)
+
+in-list : (ms : List Entry) (n width : ℕ) {m : Method} → numbered ms n width ≡ Chosen.Method m → List·Memᴰ m (everyWidth ms)
+unfolding numbered everyWidth
+in-list [] n width e = let z : _≡_ {A = ℕ} 0 1 = cc in absurd (omega arith)
+in-list (x ∷ ms) zero width e =
+    let w = within-is (x .method width) width (x .least) (x .most) e in
+    Memᴰ·append-left (everyWidth ms) (Memᴰ·cast (w .0) (Memᴰ·map (x .method) (counted (x .least) (suc (x .most) - x .least) width (w .1) (omega arith))))
+in-list (x ∷ ms) (suc n) width e =
+    Memᴰ·append-right (map (x .method) (countFrom (x .least) (suc (x .most) - x .least))) (in-list ms n width e)
+
+from-list : (ms : List Entry) {m : Method} → List·Memᴰ m (everyWidth ms) → (n : ℕ) × (width : ℕ) × (numbered ms n width ≡ Chosen.Method m)
+unfolding numbered everyWidth
+from-list [] h = absurd (List·Memᴰ·not-nil h)
+from-list (x ∷ ms) {m} h =
+    ⊎-elim
+    (λ (here : List·Memᴰ m (map (x .method) (countFrom (x .least) (suc (x .most) - x .least)))).
+    let w = Memᴰ·of-map (x .method) (countFrom (x .least) (suc (x .most) - x .least)) here in
+    let b = between (x .least) (suc (x .most) - x .least) (w .0) (w .1) in
+    (0, w .0, within-only (x .method (w .0)) (w .0) (x .least) (x .most) (allowed (sym (w .2)) (b .0) (omega arith))))
+    (λ later. let w = from-list ms later in (suc (w .0), w .1, w .2))
+    (List·Memᴰ·append-cases (map (x .method) (countFrom (x .least) (suc (x .most) - x .least))) h)
+
+choice : (method width : ℕ) {m : Method} → methodOf method width ≡ Chosen.Method m → List·Memᴰ m choices
+unfolding methodOf
+choice zero width e = let z : _≡_ {A = ℕ} 0 1 = cc in absurd (omega arith)
+choice (suc n) width e = in-list methods n width e
+
+pub listed : (m : Method) → List·Memᴰ m choices ↔ Allowed m
+unfolding methodOf
+listed m =
+    (λ h. let w = from-list methods h in is-allowed (suc (w .0)) (w .1) (w .2), λ e. choice (methodNumber m) (methodWidth m) e)
+
+-- ---- the widths of windows
+
+pub fixed-widths : {d : ℕ} → Allowed (FixedWindows d) → (1 ≤ d) × (d ≤ fixedWindowBits)
+unfolding methodOf numbered
+fixed-widths {d} e = let w = within-is (FixedWindows d) d 1 fixedWindowBits e in (w .1, w .2)
+
+pub sliding-widths : {d : ℕ} → Allowed (SlidingWindows d) → (1 ≤ d) × (d ≤ slidingWindowBits)
+unfolding methodOf numbered
+sliding-widths {d} e = let w = within-is (SlidingWindows d) d 1 slidingWindowBits e in (w .1, w .2)
+
+-- ---- the steps
+
 -- a plan that is sound, ends at the number, and keeps to the limit
 pub record Fit (steps : List Step) (e : ℕ) : Type 0 where
   pub made : Made steps e
   pub few : length steps ≤ planSteps
-
--- the method by its number, with what its width allows
-pub data Allowed : ℕ → ℕ → Type 0 where
-  binary : Allowed 1 0
-  fixed : {d : ℕ} → 1 ≤ d → d ≤ 6 → Allowed 2 d
-  sliding : {d : ℕ} → 1 ≤ d → d ≤ 6 → Allowed 3 d
-  naf : Allowed 4 0
-
-window : (width : ℕ) → isWindow width ≡ true → (1 ≤ width) × (width ≤ 6)
-window width h = go (leb 1 width) refl h
-  where
-    go : (t : Bool) → leb 1 width ≡ t → cond t (leb width 6) false ≡ true → (1 ≤ width) × (width ≤ 6)
-    go true p q = (leb-true 1 width p, leb-true width 6 q)
-    go false p q = let z : _≡_ {A = ℕ} 0 1 = cc in absurd (omega arith)
-
-pub allowed : (method width : ℕ) → isAllowed method width ≡ true → Allowed method width
-unfolding isAllowed
-allowed method width h = one (eqb method 1) refl h
-  where
-    four : (t : Bool) → eqb method 4 ≡ t → cond t (eqb width 0) false ≡ true → Allowed method width
-    four true p q = rw (eqb-true method 4 p, eqb-true width 0 q) naf
-    four false p q = let z : _≡_ {A = ℕ} 0 1 = cc in absurd (omega arith)
-
-    three : (t : Bool) → eqb method 3 ≡ t → cond t (isWindow width) (cond (eqb method 4) (eqb width 0) false) ≡ true → Allowed method width
-    three true p q = let w = window width q in rw (eqb-true method 3 p) (sliding (w .0) (w .1))
-    three false p q = four (eqb method 4) refl q
-
-    two : (t : Bool) → eqb method 2 ≡ t → cond t (isWindow width) (cond (eqb method 3) (isWindow width) (cond (eqb method 4) (eqb width 0) false)) ≡ true → Allowed method width
-    two true p q = let w = window width q in rw (eqb-true method 2 p) (fixed (w .0) (w .1))
-    two false p q = three (eqb method 3) refl q
-
-    one : (t : Bool) → eqb method 1 ≡ t → cond t (eqb width 0) (cond (eqb method 2) (isWindow width) (cond (eqb method 3) (isWindow width) (cond (eqb method 4) (eqb width 0) false))) ≡ true → Allowed method width
-    one true p q = rw (eqb-true method 1 p, eqb-true width 0 q) binary
-    one false p q = two (eqb method 2) refl q
 
 module _ (number : List ℕ) (bytes : Below 256 number) (short : length number ≤ numberBytes) (nonzero : bytesValue number ≢ 0) where
   some : 0 < bytesValue number
@@ -74,24 +157,21 @@ module _ (number : List ℕ) (bytes : Below 256 number) (short : length number �
       let h : bytesValue number < 256 ^ numberBytes = positional-lt 256 numberBytes number short bytes in
       bit-length-iff (bytesValue number) (8 * numberBytes) .1 h
 
-  tables : (d : ℕ) → d ≤ 6 → 2 ^ d ≤ 2 ^ 6
-  tables d h = pow-mono h
-
-  table-small : (d : ℕ) → d ≤ 6 → Small (2 ^ d)
+  pub every-fit : (m : Method) → Allowed m → Fit (stepsBy m (bytesValue number)) (bytesValue number)
   unfolding Small
-  table-small d h = lt-of-le-of-lt (tables d h) (lit< tt)
-
-  pub every-fit : (method width : ℕ) → Allowed method width → Fit (stepsBy method width (bytesValue number)) (bytesValue number)
-  unfolding stepsBy
-  every-fit method width binary =
+  every-fit Binary a =
       let e : ℕ = bytesValue number in
       record { made = binary-made e some (small-below e (e + 1) (omega arith) small); few = omega (arith, bits, binary-short e some (small-below e (e + 1) (omega arith) small)) }
-  every-fit method width (fixed a b) =
+  every-fit (FixedWindows d) a =
       let e : ℕ = bytesValue number in
-      record { made = fixed-made e width some a (small-below e (e + 1) (omega arith) small) (table-small width b); few = omega (arith, bits, tables width b, fixed-short e width some a) }
-  every-fit method width (sliding a b) =
+      let w = fixed-widths a in
+      let t : 2 ^ d ≤ 2 ^ fixedWindowBits = pow-mono (w .1) in
+      record { made = fixed-made e d some (w .0) (small-below e (e + 1) (omega arith) small) (lt-of-le-of-lt t (lit< tt)); few = omega (arith, bits, fixed-short e d some (w .0)) }
+  every-fit (SlidingWindows d) a =
       let e : ℕ = bytesValue number in
-      record { made = sliding-made e width some a (small-below e (e + 1) (omega arith) small) (table-small width b); few = omega (arith, bits, tables width b, sliding-short e width some a) }
-  every-fit method width naf =
+      let w = sliding-widths a in
+      let t : 2 ^ d ≤ 2 ^ slidingWindowBits = pow-mono (w .1) in
+      record { made = sliding-made e d some (w .0) (small-below e (e + 1) (omega arith) small) (lt-of-le-of-lt t (lit< tt)); few = omega (arith, bits, sliding-short e d some (w .0)) }
+  every-fit Naf a =
       let e : ℕ = bytesValue number in
       record { made = naf-made e some small; few = omega (arith, bits, naf-bits e, naf-short e some small) }

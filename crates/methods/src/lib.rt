@@ -1,7 +1,23 @@
-// The steps of the planning methods: definitions in specs/, theorems in proofs/, and no code but the
-// widths that each method allows. The code that writes and counts a method's steps cites them.
+// The planning methods: definitions in specs/, theorems in proofs/, and no code but the type of a
+// method and the widths that each allows. The code that writes and counts a method's steps cites
+// them.
+use rules::Refusal;
 
 // Windows have from 1 to so many bits.
 pub const FIXED_WINDOW_BITS: usize = 6;
 
 pub const SLIDING_WINDOW_BITS: usize = 6;
+
+// A method, with its width if it has one.
+pub enum Method {
+    Binary,
+    FixedWindows(usize),
+    SlidingWindows(usize),
+    Naf,
+}
+
+// The method that is asked for, or why there is none.
+pub enum Chosen {
+    Method(Method),
+    Refused(Refusal),
+}

@@ -1,3 +1,3 @@
-pub mod Granted
+pub mod Requests
 pub mod Outcomes
 pub mod Promises

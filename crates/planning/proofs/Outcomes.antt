@@ -1,36 +1,46 @@
 -- The two outcomes of plan for a request that is granted. Assumes nothing.
 use mathlib.Core.Path.{_≡_, ap, _∙_}
 use mathlib.Core.List.{List, _++_}
-use Prim.Native.Nat.{ℕ, _+_, _*_, _<_, _≤_}
+use Prim.Native.Nat.{ℕ, _*_, _<_, _≤_}
 use lib.ListN.{length, drop}
 use Rattle.rules.specs.Limits.{stepBytes}
 use Rattle.rules.specs.declared.Refusal.the-variants.{RoomTooSmall}
-use Rattle.rules.specs.declared.Verdict.the-variants.{Passed}
 use Rattle.rules.specs.declared.Counts.{Counts}
 use Rattle.rules.specs.declared.Counted.the-variants.{Steps, Refused}
 use Rattle.rules.proofs.Fitted.{too-small, fits}
-use Rattle.chains.specs.Steps.{planBytesOf}
+use Rattle.integers.specs.Positional.{bytesValue}
+use Rattle.chains.specs.Steps.{Step, planBytesOf}
 use Rattle.chains.specs.Counts.{countsOf, total}
 use Rattle.chains.proofs.Bytes.{length-plan}
+use Rattle.methods.specs.declared.Method.{Method}
+use Rattle.methods.specs.declared.Chosen.{Chosen}
+use Rattle.methods.specs.Method.{stepsBy}
 use Rattle.methods.proofs.Counted.{length-counted}
-use Rattle.planning.specs.Plan.{request, stepsFor, planAnswer, planBuffer}
+use Rattle.planning.specs.Plan.{request, planAnswer, planBuffer}
 
-module _ (number : List ℕ) (method width : ℕ) (out : List ℕ) (h : request number method width ≡ Passed) (c : Counts) (counted : c ≡ countsOf (stepsFor number method width)) where
-  bytes : List ℕ
-  bytes = planBytesOf (stepsFor number method width)
+module _ (steps : List Step) (c : Counts) (counted : c ≡ countsOf steps) where
+  -- the counts tell how many steps there are, and how many bytes they need
+  all-counted : length steps ≡ total c
+  all-counted = length-counted steps ∙ rw (← counted)
 
-  -- the counts tell the bytes needed
-  pub needed : length (planBytesOf (stepsFor number method width)) ≡ stepBytes * total c
-  needed = length-plan (stepsFor number method width) ∙ ap (λ (n : ℕ). stepBytes * n) (length-counted (stepsFor number method width) ∙ rw (← counted))
+  needed : length (planBytesOf steps) ≡ stepBytes * total c
+  needed = length-plan steps ∙ ap (λ (n : ℕ). stepBytes * n) all-counted
 
+  pub room-for : {room : ℕ} → stepBytes * total c ≤ room → stepBytes * length steps ≤ room
+  room-for l = rw all-counted l
+
+module _ (number : List ℕ) (method width : ℕ) (out : List ℕ) {m : Method} (granted : request number method width ≡ Chosen.Method m) (c : Counts)
+    (counted : c ≡ countsOf (stepsBy m (bytesValue number))) where
   pub no-room : length out < stepBytes * total c
       → (Refused (RoomTooSmall (stepBytes * total c)) ≡ planAnswer number method width (length out)) × (out ≡ planBuffer number method width out)
   no-room l =
-      let s = too-small (planBytesOf (stepsFor number method width)) (length out) (rw needed l) in
-      (rw (h, s, needed), rw (h, s))
+      let n = needed (stepsBy m (bytesValue number)) c counted in
+      let s = too-small (planBytesOf (stepsBy m (bytesValue number))) (length out) (rw n l) in
+      (rw (granted, s, n), rw (granted, s))
 
   pub done : stepBytes * total c ≤ length out
-      → (Steps c ≡ planAnswer number method width (length out)) × (planBytesOf (stepsFor number method width) ++ drop (length (planBytesOf (stepsFor number method width))) out ≡ planBuffer number method width out)
+      → (Steps c ≡ planAnswer number method width (length out))
+      × (planBytesOf (stepsBy m (bytesValue number)) ++ drop (length (planBytesOf (stepsBy m (bytesValue number)))) out ≡ planBuffer number method width out)
   done l =
-      let s = fits (planBytesOf (stepsFor number method width)) (length out) (rw needed l) in
-      (rw (h, s, counted), rw (h, s))
+      let s = fits (planBytesOf (stepsBy m (bytesValue number))) (length out) (rw (needed (stepsBy m (bytesValue number)) c counted) l) in
+      (rw (granted, s, counted), rw (granted, s))

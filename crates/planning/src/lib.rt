@@ -1,8 +1,11 @@
 // Plans and forecasts for a number, by method and width.
-use integers::significant;
+use methods::Chosen;
+use methods::FIXED_WINDOW_BITS;
+use methods::Method;
+use methods::SLIDING_WINDOW_BITS;
+use numbers::positive_verdict;
 use rules::Counted;
 use rules::Counts;
-use rules::NUMBER_BYTES;
 use rules::Refusal;
 use rules::STEP_BYTES;
 use rules::Verdict;
@@ -11,103 +14,87 @@ ghost use mathlib.Core.List.{_++_};
 ghost use Prim.Native.Nat.{_*_, _≤_};
 ghost use lib.ListN.{length, drop};
 ghost use Rattle.rules.specs.Limits.{stepBytes};
-ghost use Rattle.rules.specs.declared.Verdict.the-variants.{Passed};
+ghost use Rattle.integers.specs.Positional.{bytesValue};
+ghost use Rattle.numbers.specs.Admission.{Positive};
 ghost use Rattle.chains.specs.Steps.{planBytesOf};
 ghost use Rattle.chains.specs.Counts.{countsOf};
-ghost use Rattle.methods.specs.Method.{isWindow, isAllowed};
-ghost use Rattle.planning.specs.Plan.{request, stepsFor, forecastAnswer, planAnswer, planBuffer};
+ghost use Rattle.methods.specs.Method.{methodOf, within, Allowed, stepsBy};
+ghost use Rattle.planning.specs.Plan.{request, forecastAnswer, planAnswer, planBuffer};
 
-// Whether a width is one that window methods allow.
-fn is_window(width: u32) -> bool
-    ensures { λ r. ⌜ r ≡ isWindow width ⌝ }
+// The method, if its width is from the least to the most that it allows; else refusal 3.
+fn within(method: Method, width: usize, least: usize, most: usize) -> Chosen
+    ensures { λ r. ⌜ r ≡ within method width least most ⌝ }
 {
-    if 1 <= width {
-        return width <= 6;
+    if width < least {
+        return Chosen::Refused(Refusal::MethodOrWidth);
     }
-    false
+    if most < width {
+        return Chosen::Refused(Refusal::MethodOrWidth);
+    }
+    Chosen::Method(method)
 }
 
-// Whether there is such a method and it allows the width. A line a method.
-fn is_allowed(method: u32, width: u32) -> bool
-    ensures { λ r. ⌜ r ≡ isAllowed method width ⌝ }
+// The method that the two numbers ask for. A line a method.
+fn method_of(method: u32, width: u32) -> Chosen
+    ensures { λ r. ⌜ r ≡ methodOf method width ⌝ }
 {
-    if method == 1 {
-        return width == 0;
+    let d = width as usize;
+    match method {
+        1 => within(Method::Binary, d, 0, 0),
+        2 => within(Method::FixedWindows(d), d, 1, FIXED_WINDOW_BITS),
+        3 => within(Method::SlidingWindows(d), d, 1, SLIDING_WINDOW_BITS),
+        4 => within(Method::Naf, d, 0, 0),
+        _ => Chosen::Refused(Refusal::MethodOrWidth),
     }
-    if method == 2 {
-        return is_window(width);
-    }
-    if method == 3 {
-        return is_window(width);
-    }
-    if method == 4 {
-        return width == 0;
-    }
-    false
 }
 
-// Refusals 1, 2 and 3, in this order.
-fn requested(number: &[u8], method: u32, width: u32) -> Verdict
+// The same, after refusals 1 and 2.
+fn requested(number: &[u8], method: u32, width: u32) -> Chosen
     ensures { λ r. ⌜ r ≡ request (now (number .entry)) method width ⌝ }
 {
-    if NUMBER_BYTES < number.len() {
-        return Verdict::Failed(Refusal::NumberTooLong);
+    if let Verdict::Failed(refusal) = positive_verdict(number) {
+        return Chosen::Refused(refusal);
     }
-    if significant(number) == 0 {
-        return Verdict::Failed(Refusal::NumberIsZero);
-    }
-    if is_allowed(method, width) {
-        return Verdict::Passed;
-    }
-    Verdict::Failed(Refusal::MethodOrWidth)
+    method_of(method, width)
 }
 
-// The counts of the steps that a method gives, for a request that is granted. A line a method.
-fn counts(number: &[u8], method: u32, width: u32) -> Counts
-    requires { ⌜ request (now number) method width ≡ Passed ⌝ }
-    ensures { λ r. ⌜ r ≡ countsOf (stepsFor (now (number .entry)) method width) ⌝ }
+// The counts of the steps that a method gives for a number. A line a method.
+fn counts(number: &[u8], method: Method) -> Counts
+    requires { ⌜ Positive (now number) ⌝ }
+    requires { ⌜ Allowed method ⌝ }
+    ensures { λ r. ⌜ r ≡ countsOf (stepsBy method (bytesValue (now (number .entry)))) ⌝ }
 {
-    if method == 1 {
-        return method_binary::counts(number);
+    match method {
+        Method::Binary => method_binary::counts(number),
+        Method::FixedWindows(d) => method_fixed_windows::counts(number, d),
+        Method::SlidingWindows(d) => method_sliding_windows::counts(number, d),
+        Method::Naf => method_naf::counts(number),
     }
-    if method == 2 {
-        return method_fixed_windows::counts(number, width as usize);
-    }
-    if method == 3 {
-        return method_sliding_windows::counts(number, width as usize);
-    }
-    method_naf::counts(number)
 }
 
 // Writes those steps. A line a method.
-fn write(number: &[u8], method: u32, width: u32, out: &mut [u8])
-    requires { ⌜ request (now number) method width ≡ Passed ⌝ }
-    requires { ⌜ stepBytes * length (stepsFor (now number) method width) ≤ length (now out) ⌝ }
-    ensures { λ _. ⌜ now (out .exit) ≡ planBytesOf (stepsFor (now (number .entry)) method width) ++ drop (length (planBytesOf (stepsFor (now (number .entry)) method width))) (now (out .entry)) ⌝ }
+fn write(number: &[u8], method: Method, out: &mut [u8])
+    requires { ⌜ Positive (now number) ⌝ }
+    requires { ⌜ Allowed method ⌝ }
+    requires { ⌜ stepBytes * length (stepsBy method (bytesValue (now number))) ≤ length (now out) ⌝ }
+    ensures { λ _. ⌜ now (out .exit) ≡ planBytesOf (stepsBy method (bytesValue (now (number .entry)))) ++ drop (length (planBytesOf (stepsBy method (bytesValue (now (number .entry)))))) (now (out .entry)) ⌝ }
 {
-    if method == 1 {
-        method_binary::write(number, out);
-        return;
+    match method {
+        Method::Binary => method_binary::write(number, out),
+        Method::FixedWindows(d) => method_fixed_windows::write(number, d, out),
+        Method::SlidingWindows(d) => method_sliding_windows::write(number, d, out),
+        Method::Naf => method_naf::write(number, out),
     }
-    if method == 2 {
-        method_fixed_windows::write(number, width as usize, out);
-        return;
-    }
-    if method == 3 {
-        method_sliding_windows::write(number, width as usize, out);
-        return;
-    }
-    method_naf::write(number, out);
 }
 
 // The counts of the steps of a plan, without the plan.
 pub fn forecast(number: &[u8], method: u32, width: u32) -> Counted
     ensures { λ r. ⌜ r ≡ forecastAnswer (now (number .entry)) method width ⌝ }
 {
-    if let Verdict::Failed(refusal) = requested(number, method, width) {
-        return Counted::Refused(refusal);
+    match requested(number, method, width) {
+        Chosen::Refused(refusal) => Counted::Refused(refusal),
+        Chosen::Method(chosen) => Counted::Steps(counts(number, chosen)),
     }
-    Counted::Steps(counts(number, method, width))
 }
 
 // Writes the plan for a number by a method, and answers the counts of its steps.
@@ -115,14 +102,16 @@ pub fn plan(number: &[u8], method: u32, width: u32, out: &mut [u8]) -> Counted
     ensures answer { λ r. ⌜ r ≡ planAnswer (now (number .entry)) method width (length (now (out .entry))) ⌝ }
     ensures buffer { λ r. ⌜ now (out .exit) ≡ planBuffer (now (number .entry)) method width (now (out .entry)) ⌝ }
 {
-    if let Verdict::Failed(refusal) = requested(number, method, width) {
-        return Counted::Refused(refusal);
+    match requested(number, method, width) {
+        Chosen::Refused(refusal) => Counted::Refused(refusal),
+        Chosen::Method(chosen) => {
+            let steps = counts(number, chosen);
+            let needed = STEP_BYTES * (steps.doublings + steps.additions + steps.subtractions);
+            if out.len() < needed {
+                return Counted::Refused(Refusal::RoomTooSmall(needed));
+            }
+            write(number, chosen, out);
+            Counted::Steps(steps)
+        }
     }
-    let steps = counts(number, method, width);
-    let needed = STEP_BYTES * (steps.doublings + steps.additions + steps.subtractions);
-    if out.len() < needed {
-        return Counted::Refused(Refusal::RoomTooSmall(needed));
-    }
-    write(number, method, width, out);
-    Counted::Steps(steps)
 }

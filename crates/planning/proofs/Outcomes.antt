@@ -38,9 +38,9 @@ module _ (number : List ℕ) (method width : ℕ) (out : List ℕ) {m : Method} 
       let s = too-small (planBytesOf (stepsBy m (bytesValue number))) (length out) (rw n l) in
       (rw (granted, s, n), rw (granted, s))
 
-  pub done : stepBytes * total c ≤ length out
-      → (Steps c ≡ planAnswer number method width (length out))
-      × (planBytesOf (stepsBy m (bytesValue number)) ++ drop (length (planBytesOf (stepsBy m (bytesValue number)))) out ≡ planBuffer number method width out)
-  done l =
+  pub done : stepBytes * total c ≤ length out → {after : List ℕ}
+      → after ≡ planBytesOf (stepsBy m (bytesValue number)) ++ drop (length (planBytesOf (stepsBy m (bytesValue number)))) out
+      → (Steps c ≡ planAnswer number method width (length out)) × (after ≡ planBuffer number method width out)
+  done l e =
       let s = fits (planBytesOf (stepsBy m (bytesValue number))) (length out) (rw (needed (stepsBy m (bytesValue number)) c counted) l) in
-      (rw (granted, s, counted), rw (granted, s))
+      (rw (granted, s, counted), rw (granted, s) e)

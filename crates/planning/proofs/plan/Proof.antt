@@ -29,8 +29,8 @@ returns-3 : tie.Need-returns-3
 returns-3 c =
     let n = c .before .before .before .before .before .before .before in
     let e = sym (n .before .before .before .before .requested .ensures) ∙ n .before .before .chosen .given .1 in
-    let o = done _ _ _ (n .before .before .before .before .before .before .before .args .out .now) e (n .counts .result) (n .counts .ensures) (c .before .before .before .before .if1 .left) in
-    (o .0, c .before .before .write .ensures ∙ o .1)
+    let room = c .before .before .before .before .if1 .left in
+    done _ _ _ (n .before .before .before .before .before .before .before .args .out .now) e (n .counts .result) (n .counts .ensures) room (c .before .before .write .ensures)
 
 requested-requires : tie.Need-requested-requires
 requested-requires c κs = search needs

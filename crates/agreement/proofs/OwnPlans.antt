@@ -15,7 +15,8 @@ use Rattle.chains.proofs.Bytes.{length-plan, steps-of-plan}
 use Rattle.methods.specs.declared.Method.{Method}
 use Rattle.methods.specs.declared.Chosen.{Chosen}
 use Rattle.methods.specs.Method.{methodOf, stepsBy}
-use Rattle.methods.proofs.Every.{Fit, is-allowed, every-fit}
+use Rattle.methods.proofs.Laws.{Fit}
+use Rattle.methods.proofs.Every.{is-allowed, plannable, every-fit}
 use Rattle.planning.specs.Plan.{forecastAnswer, planAnswer}
 use Rattle.planning.proofs.Promises.{forecast-answers, plan-answers}
 use Rattle.checking.specs.Check.{checkAnswer, roomFor}
@@ -30,7 +31,7 @@ module _ (number : List ℕ) (bytes : Below 256 number) (positive : Positive num
   plan = planBytesOf steps
 
   fit : Fit steps (bytesValue number)
-  fit = every-fit number bytes (positive .admitted .short) (positive .nonzero) m (is-allowed method width asked)
+  fit = every-fit m (bytesValue number) (is-allowed method width asked) (plannable number bytes (positive .admitted .short) (positive .nonzero))
 
   -- a plan has at most as many steps as the limit
   pub few-steps : length steps ≤ planSteps
@@ -51,6 +52,5 @@ module _ (number : List ℕ) (bytes : Below 256 number) (positive : Positive num
   pub accepted : (room : ℕ) → roomFor (length plan) ≤ room → countedOutcome (checkAnswer number plan room) ≡ answered (countValues (countsOf steps))
   accepted room h =
       let e = length-plan steps in
-      ap countedOutcome
-      (accepts number plan room (countsOf steps) .1
-      (record { short = positive .admitted .short; nonzero = positive .nonzero; whole = omega arith; few = omega (arith, few-steps); fits = h }, rw read-steps (fit .made .sound), rw read-steps (fit .made .end), ap countsOf (sym read-steps)))
+      accepts number plan room (countValues (countsOf steps)) .1
+      (record { positive = positive; whole = omega arith; few = omega (arith, few-steps); fits = h }, rw read-steps (fit .made .sound), rw read-steps (fit .made .end), ap (λ (l : List Step). countValues (countsOf l)) (sym read-steps))

@@ -16,18 +16,18 @@ use Rattle.rules.specs.declared.Refusal.the-variants.{MethodOrWidth}
 use Rattle.integers.specs.Positional.{bytesValue}
 use Rattle.integers.specs.Bits.{bitLength}
 use Rattle.integers.proofs.Positional.{Below, positional-lt}
-use Rattle.integers.proofs.Bits.{bit-length-iff}
+use Rattle.integers.proofs.Bits.{bytes-length}
 use Rattle.chains.specs.Steps.{Step}
 use Rattle.methods.specs.declared.Method.{Method}
 use Rattle.methods.specs.declared.Method.the-variants.{Binary, FixedWindows, SlidingWindows, Naf}
 use Rattle.methods.specs.declared.Chosen.{Chosen}
 use Rattle.methods.specs.Widths.{fixedWindowBits, slidingWindowBits}
 use Rattle.methods.specs.Method.{stepsBy, methodNumber, methodWidth, Entry, methods, within, numbered, methodOf, Allowed, countFrom, everyWidth, choices}
-use Rattle.methods.proofs.Laws.{Small, small-below, number-small, Made}
-use Rattle.methods.proofs.Binary.{binary-made, binary-short}
-use Rattle.methods.proofs.FixedWindows.{fixed-made, fixed-short}
-use Rattle.methods.proofs.SlidingWindows.{sliding-made, sliding-short}
-use Rattle.methods.proofs.NonAdjacentForm.{naf-made, naf-short, naf-bits}
+use Rattle.methods.proofs.Laws.{Plannable, Fit}
+use Rattle.methods.proofs.Binary.{binary-fit}
+use Rattle.methods.proofs.FixedWindows.{fixed-fit}
+use Rattle.methods.proofs.SlidingWindows.{sliding-fit}
+use Rattle.methods.proofs.NonAdjacentForm.{naf-fit}
 
 -- ---- what two numbers ask for
 
@@ -140,38 +140,13 @@ sliding-widths {d} e = let w = within-is (SlidingWindows d) d 1 slidingWindowBit
 
 -- ---- the steps
 
--- a plan that is sound, ends at the number, and keeps to the limit
-pub record Fit (steps : List Step) (e : ℕ) : Type 0 where
-  pub made : Made steps e
-  pub few : length steps ≤ planSteps
+-- a number within the limit can be planned for
+pub plannable : (number : List ℕ) → Below 256 number → length number ≤ numberBytes → bytesValue number ≢ 0 → Plannable (bytesValue number)
+plannable number bytes short nonzero = record { some = omega arith; bits = bytes-length number numberBytes bytes short }
 
-module _ (number : List ℕ) (bytes : Below 256 number) (short : length number ≤ numberBytes) (nonzero : bytesValue number ≢ 0) where
-  some : 0 < bytesValue number
-  some = omega arith
-
-  small : Small (bytesValue number + 1)
-  small = number-small number bytes short
-
-  bits : bitLength (bytesValue number) ≤ 8 * numberBytes
-  bits =
-      let h : bytesValue number < 256 ^ numberBytes = positional-lt 256 numberBytes number short bytes in
-      bit-length-iff (bytesValue number) (8 * numberBytes) .1 h
-
-  pub every-fit : (m : Method) → Allowed m → Fit (stepsBy m (bytesValue number)) (bytesValue number)
-  unfolding Small
-  every-fit Binary a =
-      let e : ℕ = bytesValue number in
-      record { made = binary-made e some (small-below e (e + 1) (omega arith) small); few = omega (arith, bits, binary-short e some (small-below e (e + 1) (omega arith) small)) }
-  every-fit (FixedWindows d) a =
-      let e : ℕ = bytesValue number in
-      let w = fixed-widths a in
-      let t : 2 ^ d ≤ 2 ^ fixedWindowBits = pow-mono (w .1) in
-      record { made = fixed-made e d some (w .0) (small-below e (e + 1) (omega arith) small) (lt-of-le-of-lt t (lit< tt)); few = omega (arith, bits, fixed-short e d some (w .0)) }
-  every-fit (SlidingWindows d) a =
-      let e : ℕ = bytesValue number in
-      let w = sliding-widths a in
-      let t : 2 ^ d ≤ 2 ^ slidingWindowBits = pow-mono (w .1) in
-      record { made = sliding-made e d some (w .0) (small-below e (e + 1) (omega arith) small) (lt-of-le-of-lt t (lit< tt)); few = omega (arith, bits, sliding-short e d some (w .0)) }
-  every-fit Naf a =
-      let e : ℕ = bytesValue number in
-      record { made = naf-made e some small; few = omega (arith, bits, naf-bits e, naf-short e some small) }
+-- a line a method
+pub every-fit : (m : Method) (e : ℕ) → Allowed m → Plannable e → Fit (stepsBy m e) e
+every-fit Binary e a p = binary-fit e p
+every-fit (FixedWindows d) e a p = let w = fixed-widths a in fixed-fit e d p (w .0) (w .1)
+every-fit (SlidingWindows d) e a p = let w = sliding-widths a in sliding-fit e d p (w .0) (w .1)
+every-fit Naf e a p = naf-fit e p

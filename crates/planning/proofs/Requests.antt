@@ -14,7 +14,7 @@ use Rattle.chains.specs.Counts.{countsOf, total}
 use Rattle.methods.specs.declared.Method.{Method}
 use Rattle.methods.specs.declared.Chosen.{Chosen}
 use Rattle.methods.specs.Method.{methodOf, Allowed, stepsBy}
-use Rattle.methods.proofs.Every.{is-allowed, every-fit}
+use Rattle.methods.proofs.Every.{is-allowed, plannable, every-fit}
 use Rattle.methods.proofs.Counted.{length-counted}
 use Rattle.planning.specs.Plan.{request}
 
@@ -46,4 +46,4 @@ module _ (number : List ℕ) (method width : ℕ) where
   pub counted-few : Below 256 number → {m : Method} → request number method width ≡ Chosen.Method m → total (countsOf (stepsBy m (bytesValue number))) ≤ planSteps
   counted-few b {m} e =
       let g = granted-allowed e in
-      rw (← length-counted (stepsBy m (bytesValue number))) (every-fit number b (g .0 .admitted .short) (g .0 .nonzero) m (g .1) .few)
+      rw (← length-counted (stepsBy m (bytesValue number))) (every-fit m (bytesValue number) (g .1) (plannable number b (g .0 .admitted .short) (g .0 .nonzero)) .few)

@@ -2,22 +2,17 @@
 use mathlib.Core.Path.{_≡_, refl, sym}
 use mathlib.Core.Logic.{_↔_, _≢_, ⊎-elim}
 use mathlib.Core.List.{List, [], _∷_, map, List·Memᴰ, List·Memᴰ·head, List·Memᴰ·tail, List·Memᴰ·not-nil, List·Memᴰ·cases-cons, List·Memᴰ·append-cases, Memᴰ·cast, Memᴰ·append-left, Memᴰ·append-right, Memᴰ·map, Memᴰ·of-map}
-use Prim.Native.Nat.{ℕ, zero, suc, _+_, _*_, _-_, _^_, _<_, _≤_}
+use Prim.Native.Nat.{ℕ, zero, suc, _+_, _-_, _<_, _≤_}
 use borrow.Author.Tests.{le-leb, lt-leb}
 use native.Mathlib.Decide.{decLt, ℕ-discrete}
-use native.Mathlib.Nat.{lt-of-le-of-lt}
 use native.Mathlib.Omega.{arith}
-use lib.Dec.{lit<}
 use lib.ListN.{length}
-use lib.Pow.{pow-mono}
-use Rattle.rules.specs.Limits.{numberBytes, planSteps}
+use Rattle.rules.specs.Limits.{numberBytes}
 use Rattle.rules.specs.declared.Refusal.{Refusal}
 use Rattle.rules.specs.declared.Refusal.the-variants.{MethodOrWidth}
 use Rattle.integers.specs.Positional.{bytesValue}
-use Rattle.integers.specs.Bits.{bitLength}
-use Rattle.integers.proofs.Positional.{Below, positional-lt}
+use Rattle.integers.proofs.Positional.{Below}
 use Rattle.integers.proofs.Bits.{bytes-length}
-use Rattle.chains.specs.Steps.{Step}
 use Rattle.methods.specs.declared.Method.{Method}
 use Rattle.methods.specs.declared.Method.the-variants.{Binary, FixedWindows, SlidingWindows, Naf}
 use Rattle.methods.specs.declared.Chosen.{Chosen}

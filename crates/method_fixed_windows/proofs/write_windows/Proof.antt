@@ -1,5 +1,5 @@
 -- `method_fixed_windows::write_windows` meets its contract: the table and the steps of the windows from i on are written. Assumes nothing.
-use mathlib.Core.Path.{_≡_, refl, sym, ap, _∙_}
+use mathlib.Core.Path.{_≡_, refl, ap}
 use mathlib.Core.List.{List}
 use Prim.Native.Nat.{ℕ, suc, _≤_, _-_, _^_}
 use native.Mathlib.Nat.{mul-le-mul-left}

@@ -3,7 +3,7 @@ use mathlib.Core.Path.{_≡_, sym, ap}
 use mathlib.Core.List.{List, _++_}
 use Prim.Native.Nat.{ℕ, _<_, _≤_}
 use lib.IntN.{pos}
-use lib.ListN.{length, drop}
+use lib.ListN.{length, drop, length-map}
 use Rattle.rules.specs.declared.Refusal.{Refusal}
 use Rattle.rules.specs.declared.Refusal.the-variants.{RoomTooSmall}
 use Rattle.rules.specs.declared.Verdict.the-variants.{Failed}
@@ -14,6 +14,7 @@ use Rattle.integers.specs.Tabulate.{tabulate}
 use Rattle.numbers.specs.Admission.{numberVerdict, Admitted}
 use Rattle.numbers.proofs.Tests.{number-only, admitted}
 use Rattle.signed_digits.specs.Naf.{canonical}
+use Rattle.signed_digits.specs.Bytes.{digitByte}
 use Rattle.digit_strings.specs.Places.{placeByte}
 use Rattle.digit_strings.proofs.Places.{bytes-table}
 use Rattle.recoding.specs.Recode.{recoding, recodeAnswer}
@@ -27,6 +28,11 @@ module _ (number : List ℕ) (room : ℕ) where
 
   pub length-answered : Admitted number → length (recoding number) ≤ room → recodeAnswer number room ≡ Length (length (recoding number))
   length-answered a h = rw (number-only number (admitted a), fits (recoding number) room h)
+
+-- a byte a digit
+pub length-recoding : (number : List ℕ) → length (recoding number) ≡ length (canonical (pos (bytesValue number)))
+unfolding recoding
+length-recoding number = length-map (canonical (pos (bytesValue number))) digitByte
 
 -- the bytes of all its places are the string
 pub places-written : (number out : List ℕ) (n : ℕ) → n ≡ length (recoding number)

@@ -25,7 +25,7 @@ use Rattle.signed_digits.specs.Bytes.{digitBytes}
 use Rattle.signed_digits.proofs.Canonical.{canonical-form, canonical-value, canonical-only}
 use Rattle.signed_digits.proofs.Length.{length-at-most}
 use Rattle.recoding.specs.Recode.{recoding, recodeAnswer, recodeBuffer}
-use Rattle.recoding.proofs.Count.{length-recoding}
+use Rattle.recoding.proofs.Outcomes.{length-recoding}
 
 -- ---- each refusal is given exactly when the rules say, and no other
 

@@ -1,2 +1,1 @@
 pub mod Recode
-pub mod Internal

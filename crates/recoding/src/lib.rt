@@ -1,7 +1,7 @@
 // Recoding a number into its canonical string, the non-adjacent form.
-mod digits;
-
 use numbers::number_verdict;
+use recoding_digits::count;
+use recoding_digits::write;
 use rules::Refusal;
 use rules::Verdict;
 use rules::Written;
@@ -17,10 +17,10 @@ pub fn recode(number: &[u8], out: &mut [u8]) -> Written
     if let Verdict::Failed(refusal) = number_verdict(number) {
         return Written::Refused(refusal);
     }
-    let length = digits::count(number);
+    let length = count(number);
     if out.len() < length {
         return Written::Refused(Refusal::RoomTooSmall(length));
     }
-    digits::write(number, out, length);
+    write(number, out, length);
     Written::Length(length)
 }

@@ -7,7 +7,7 @@ use lib.IntN.{ℤ, pos}
 use lib.ListN.{length}
 use Rattle.integers.specs.Positional.{bytesValue}
 use Rattle.signed_digits.specs.Naf.{canonical}
-use Rattle.recoding.proofs.Triple.{digit-count}
+use Rattle.recoding_digits.proofs.Triple.{digit-count}
 use Rattle.methods.proofs.Laws.{Small, number-small}
 use Rattle.methods.proofs.NonAdjacentForm.{some-digits, top-digit, naf-counts}
 use Rattle.method_naf.proofs.Tally.{plus-digits, minus-digits, some-plus}

@@ -16,7 +16,7 @@ use Rattle.numbers.proofs.Tests.{admitted-is}
 use Rattle.signed_digits.specs.Naf.{canonical}
 use Rattle.digit_strings.specs.Places.{placeByte}
 use Rattle.recoding.specs.Recode.{recoding, recodeAnswer, recodeBuffer}
-use Rattle.recoding.proofs.Outcomes.{number-refused, room-refused, length-answered, places-written}
+use Rattle.recoding.proofs.Outcomes.{number-refused, room-refused, length-answered, length-recoding, places-written}
 use borrow.Author.Needs.{needs}
 use Rattle.recoding.proofs.recode.Statement.{statement}
 use Rattle.recoding.proofs.recode.Tie as tie
@@ -51,9 +51,9 @@ count-requires c κs = passed c
 returns-2 : tie.Need-returns-2
 returns-2 c =
     let args = c .before .before .before .before .before .before .before .args in
-    let n = c .before .count in
-    let answer = room-refused (args .number .now) (length (args .out .now)) (passed (c .before .before)) (rw (n .ensures) at (c .if1 .taken)) in
-    (ap (λ (k : ℕ). Refused (RoomTooSmall k)) (n .ensures) ∙ sym answer, left (args .number .now) (args .out .now) answer)
+    let n : c .before .count .result ≡ length (recoding (args .number .now)) = c .before .count .ensures ∙ sym (length-recoding (args .number .now)) in
+    let answer = room-refused (args .number .now) (length (args .out .now)) (passed (c .before .before)) (rw n at (c .if1 .taken)) in
+    (ap (λ (k : ℕ). Refused (RoomTooSmall k)) n ∙ sym answer, left (args .number .now) (args .out .now) answer)
 
 write-requires : tie.Need-write-requires
 write-requires c κs = search needs
@@ -67,11 +67,12 @@ returns-3 c =
     let args = told .before .before .before .before .before .args in
     let number = args .number .now in
     let out = args .out .now in
-    let n = c .before .before .before .before .before .count in
-    let l : length (recoding number) ≤ length out = omega (arith, n .ensures) in
+    let count = c .before .before .before .before .before .count in
+    let n : count .result ≡ length (recoding number) = count .ensures ∙ sym (length-recoding number) in
+    let l : length (recoding number) ≤ length out = omega arith in
     let answer = length-answered number (length out) (passed told) l in
-    let places : c .before .before .write .last .1 .0 ≡ tabulate (placeByte (canonical (pos (bytesValue number)))) (n .result) ++ drop (n .result) out = c .before .before .write .ensures in
-    (ap Length (n .ensures) ∙ sym answer, places ∙ places-written number out (n .result) (n .ensures) ∙ left number out answer)
+    let places : c .before .before .write .last .1 .0 ≡ tabulate (placeByte (canonical (pos (bytesValue number)))) (count .result) ++ drop (count .result) out = c .before .before .write .ensures in
+    (ap Length n ∙ sym answer, places ∙ places-written number out (count .result) n ∙ left number out answer)
 
 pub recode-spec : {M : Type 1} → statement M
 recode-spec =

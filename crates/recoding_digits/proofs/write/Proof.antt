@@ -1,4 +1,4 @@
--- `recoding::digits::write` meets its contract: after k turns the digits of the k low bytes stand. Assumes nothing.
+-- `recoding_digits::write` meets its contract: after k turns the digits of the k low bytes stand. Assumes nothing.
 use mathlib.Core.Path.{_≡_, refl, sym}
 use mathlib.Core.List.{_++_}
 use Prim.Native.Nat.{ℕ, _≤_, _-_, _+_, _*_}
@@ -10,11 +10,11 @@ use Rattle.integers.specs.Tabulate.{tabulate}
 use Rattle.integers.proofs.Tabulate.{tabulate-join}
 use Rattle.signed_digits.specs.Naf.{canonical}
 use Rattle.digit_strings.specs.Places.{placeByte}
-use Rattle.recoding.specs.Internal.{tripleCarry}
-use Rattle.recoding.proofs.Triple.{carry-none}
+use Rattle.recoding_digits.specs.Internal.{tripleCarry}
+use Rattle.recoding_digits.proofs.Triple.{carry-none}
 use borrow.Author.Needs.{needs}
-use Rattle.recoding.proofs.digits.write.Statement.{statement}
-use Rattle.recoding.proofs.digits.write.Tie as tie
+use Rattle.recoding_digits.proofs.write.Statement.{statement}
+use Rattle.recoding_digits.proofs.write.Tie as tie
 
 abbrev Inv-loop : tie.InvT-loop
 Inv-loop number out₀ count carry₀ k₀ out carry k =

@@ -1,8 +1,8 @@
--- `recoding::digits::spread` meets its contract. Assumes nothing.
-use Rattle.recoding.proofs.Spread.{spread-is}
+-- `recoding_digits::spread` meets its contract. Assumes nothing.
+use Rattle.recoding_digits.proofs.SpreadBits.{spread-is}
 use borrow.Author.Needs.{needs}
-use Rattle.recoding.proofs.digits.spread.Statement.{statement}
-use Rattle.recoding.proofs.digits.spread.Tie as tie
+use Rattle.recoding_digits.proofs.spread.Statement.{statement}
+use Rattle.recoding_digits.proofs.spread.Tie as tie
 
 mul-halves : tie.Need-mul-halves
 mul-halves c = search needs

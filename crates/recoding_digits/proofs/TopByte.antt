@@ -5,27 +5,21 @@ use Prim.Native.Nat.{ℕ, zero, suc, _+_, _*_, _-_, _/_, _^_, _<_, _≤_}
 use native.Mathlib.Omega.{arith}
 use lib.Count.{leadingZeros, leading-length}
 use lib.IntN.{pos}
-use lib.ListN.{length, getD, length-map}
+use lib.ListN.{length, getD}
 use Rattle.integers.specs.Positional.{bytesValue, Significant}
 use Rattle.integers.proofs.Positional.{Below, positional-nonzero}
 use Rattle.integers.proofs.Bits.{top-byte, length-from}
 use Rattle.signed_digits.specs.Naf.{canonical}
-use Rattle.signed_digits.specs.Bytes.{digitByte}
 use Rattle.signed_digits.proofs.Steps.{naf-zero}
-use Rattle.recoding.specs.Recode.{recoding}
-use Rattle.recoding.specs.Internal.{tripleCarry}
-use Rattle.recoding.proofs.Triple.{triple-div, digit-count}
-
-pub length-recoding : (number : List ℕ) → length (recoding number) ≡ length (canonical (pos (bytesValue number)))
-unfolding recoding
-length-recoding number = length-map (canonical (pos (bytesValue number))) digitByte
+use Rattle.recoding_digits.specs.Internal.{tripleCarry}
+use Rattle.recoding_digits.proofs.Triple.{triple-div, digit-count}
 
 module _ (number : List ℕ) (n : ℕ) (bytes : Below 256 number) (s : Significant number n) (some : 0 < n) where
   top-triple : 3 * getD number (n - 1) 0 + tripleCarry (bytesValue number) (n - 1) ≡ 3 * bytesValue number / 256 ^ (n - 1)
   top-triple = rw (top-byte number n bytes s some, triple-div)
 
   pub count-is : (top : ℕ) → top ≡ 3 * getD number (n - 1) 0 + tripleCarry (bytesValue number) (n - 1) → top < 2 ^ 64
-      → (leadingZeros 64 top ≤ 63) × (8 * (n - 1) + (63 - leadingZeros 64 top) ≡ length (recoding number))
+      → (leadingZeros 64 top ≤ 63) × (8 * (n - 1) + (63 - leadingZeros 64 top) ≡ length (canonical (pos (bytesValue number))))
   count-is top e h =
       let nonzero : 0 < getD number (n - 1) 0 = omega (arith, s .top some) in
       let (m, zeros, low, high) = leading-length 64 top h in
@@ -34,7 +28,7 @@ module _ (number : List ℕ) (n : ℕ) (bytes : Below 256 number) (s : Significa
       let positive : 0 < bytesValue number = go (bytesValue number) refl in
       let d = digit-count (bytesValue number) positive in
       let some-digits : 1 ≤ m = least m low in
-      (omega arith, omega (arith, length-recoding number))
+      (omega arith, omega arith)
     where
       go : (v : ℕ) → bytesValue number ≡ v → 0 < v
       go zero z = absurd (positional-nonzero 256 number (n - 1) (omega arith) (s .top some) z)
@@ -45,5 +39,5 @@ module _ (number : List ℕ) (n : ℕ) (bytes : Below 256 number) (s : Significa
       least (suc m) l = omega arith
 
 -- a number with no significant byte is zero
-pub count-zero : (number : List ℕ) → bytesValue number ≡ 0 → length (recoding number) ≡ 0
-count-zero number z = length-recoding number ∙ ap (λ (e : ℕ). length (canonical (pos e))) z ∙ ap length (naf-zero 2)
+pub count-zero : (number : List ℕ) → bytesValue number ≡ 0 → length (canonical (pos (bytesValue number))) ≡ 0
+count-zero number z = ap (λ (e : ℕ). length (canonical (pos e))) z ∙ ap length (naf-zero 2)

@@ -1,4 +1,4 @@
--- `recoding::digits::write_differences` meets its contract. Assumes nothing.
+-- `recoding_digits::write_differences` meets its contract. Assumes nothing.
 use mathlib.Core.Path.{_≡_, refl, sym}
 use mathlib.Core.List.{_++_}
 use Prim.Native.Nat.{_≤_, _-_, _+_, _*_, _/_, _%_, _^_}
@@ -7,11 +7,11 @@ use native.Mathlib.Nat.{add-zero}
 use lib.ListN.{length, take, drop, take-append-drop}
 use Rattle.integers.specs.Tabulate.{tabulate}
 use Rattle.integers.proofs.Tabulate.{block-more}
-use Rattle.recoding.specs.Internal.{difference}
-use Rattle.recoding.proofs.Spread.{stored}
+use Rattle.recoding_digits.specs.Internal.{difference}
+use Rattle.recoding_digits.proofs.SpreadBits.{stored}
 use borrow.Author.Needs.{needs}
-use Rattle.recoding.proofs.digits.write_differences.Statement.{statement}
-use Rattle.recoding.proofs.digits.write_differences.Tie as tie
+use Rattle.recoding_digits.proofs.write_differences.Statement.{statement}
+use Rattle.recoding_digits.proofs.write_differences.Tie as tie
 
 abbrev Inv-loop : tie.InvT-loop
 Inv-loop out₀ at count more less bytes j₀ out j = (j ≤ count) × (length out ≡ length out₀) × (out ≡ take at out₀ ++ (tabulate (difference more less) j ++ drop (at + j) out₀))

@@ -1,14 +1,14 @@
--- `recoding::digits::carry_into` meets its contract. Assumes nothing.
+-- `recoding_digits::carry_into` meets its contract. Assumes nothing.
 use mathlib.Core.Path.{_≡_, sym, _∙_}
 use Prim.Native.Nat.{_≤_, _-_, _/_, _%_, _^_}
 use native.Mathlib.Omega.{arith}
 use Rattle.integers.specs.Positional.{bytesValue}
 use Rattle.integers.proofs.Positional.{positional-at}
-use Rattle.recoding.specs.Internal.{tripleCarry}
-use Rattle.recoding.proofs.Triple.{carry-none, carry-step}
+use Rattle.recoding_digits.specs.Internal.{tripleCarry}
+use Rattle.recoding_digits.proofs.Triple.{carry-none, carry-step}
 use borrow.Author.Needs.{needs}
-use Rattle.recoding.proofs.digits.carry_into.Statement.{statement}
-use Rattle.recoding.proofs.digits.carry_into.Tie as tie
+use Rattle.recoding_digits.proofs.carry_into.Statement.{statement}
+use Rattle.recoding_digits.proofs.carry_into.Tie as tie
 
 abbrev Inv-loop : tie.InvT-loop
 Inv-loop number n carry₀ k₀ carry k = (k ≤ n) × (carry ≤ 2) × (carry ≡ tripleCarry (bytesValue number) k)

@@ -14,7 +14,7 @@ use Rattle.signed_digits.specs.Naf.{canonical}
 use Rattle.signed_digits.proofs.Length.{length-at-most}
 use Rattle.signed_digits.proofs.Triple.{digit-byte-at}
 use Rattle.digit_strings.specs.Places.{placeByte}
-use Rattle.recoding.specs.Internal.{tripleCarry, difference}
+use Rattle.recoding_digits.specs.Internal.{tripleCarry, difference}
 
 -- the quotient of the triple: the triple of the quotient, and what is carried
 pub triple-div : (e k : ℕ) → 3 * e / 256 ^ k ≡ 3 * (e / 256 ^ k) + tripleCarry e k

@@ -14,8 +14,7 @@ ghost use Rattle.integers.specs.Tabulate.{tabulate};
 ghost use Rattle.numbers.specs.Admission.{Admitted};
 ghost use Rattle.signed_digits.specs.Naf.{canonical};
 ghost use Rattle.digit_strings.specs.Places.{placeByte};
-ghost use Rattle.recoding.specs.Recode.{recoding};
-ghost use Rattle.recoding.specs.Internal.{tripleCarry, difference};
+ghost use Rattle.recoding_digits.specs.Internal.{tripleCarry, difference};
 
 // What three times the low n bytes carry into byte n.
 fn carry_into(number: &[u8], n: usize) -> u64
@@ -34,7 +33,7 @@ fn carry_into(number: &[u8], n: usize) -> u64
 // How many digits the canonical string has: one less than three times the number has in binary.
 pub fn count(number: &[u8]) -> usize
     requires { ⌜ Admitted (now number) ⌝ }
-    ensures { λ r. ⌜ r ≡ length (recoding (now (number .entry))) ⌝ }
+    ensures { λ r. ⌜ r ≡ length (canonical (pos (bytesValue (now (number .entry))))) ⌝ }
 {
     let n = significant(number);
     if n == 0 {

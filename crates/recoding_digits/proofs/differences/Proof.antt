@@ -1,9 +1,9 @@
--- `recoding::digits::differences` meets its contract. Assumes nothing.
+-- `recoding_digits::differences` meets its contract. Assumes nothing.
 use native.Mathlib.Omega.{arith}
-use Rattle.recoding.proofs.Spread.{fits, below, differences-are}
+use Rattle.recoding_digits.proofs.SpreadBits.{fits, below, differences-are}
 use borrow.Author.Needs.{needs}
-use Rattle.recoding.proofs.digits.differences.Statement.{statement}
-use Rattle.recoding.proofs.digits.differences.Tie as tie
+use Rattle.recoding_digits.proofs.differences.Statement.{statement}
+use Rattle.recoding_digits.proofs.differences.Tie as tie
 
 spread-requires : tie.Need-spread-requires
 spread-requires c κs = search needs

@@ -15,7 +15,7 @@ use Rattle.integers.specs.Tabulate.{tabulate}
 use Rattle.integers.proofs.Bits.{bit-small, low-bits, power-of-bytes}
 use Rattle.integers.proofs.Positional.{Below, positional-append, positional-at, positional-lt}
 use Rattle.integers.proofs.Tabulate.{length-tabulate, tabulate-same, getD-tabulate}
-use Rattle.recoding.specs.Internal.{difference}
+use Rattle.recoding_digits.specs.Internal.{difference}
 
 -- ---- the number whose bytes are f 0, f 1, .., f (n - 1)
 

@@ -1,22 +1,23 @@
--- `recoding::digits::count` meets its contract. Assumes nothing.
+-- `recoding_digits::count` meets its contract. Assumes nothing.
 use mathlib.Core.Path.{_≡_, sym}
 use Prim.Native.Nat.{ℕ, _+_, _*_, _-_, _≤_}
 use native.Mathlib.Omega.{arith}
 use lib.Count.{leadingZeros}
+use lib.IntN.{pos}
 use lib.ListN.{length}
 use Rattle.integers.specs.Positional.{positional, bytesValue}
-use Rattle.recoding.specs.Recode.{recoding}
-use Rattle.recoding.proofs.Triple.{carry-small}
-use Rattle.recoding.proofs.Count.{count-is, count-zero}
+use Rattle.signed_digits.specs.Naf.{canonical}
+use Rattle.recoding_digits.proofs.Triple.{carry-small}
+use Rattle.recoding_digits.proofs.TopByte.{count-is, count-zero}
 use borrow.Author.Needs.{needs}
-use Rattle.recoding.proofs.digits.count.Statement.{statement}
-use Rattle.recoding.proofs.digits.count.Tie as tie
+use Rattle.recoding_digits.proofs.count.Statement.{statement}
+use Rattle.recoding_digits.proofs.count.Tie as tie
 
 -- at the end: the count is right, and the subtraction in it does not wrap
 counted : (c : tie.After-carry-into)
     → (leadingZeros 64 (3 * c .before .byte-at .result + c .carry-into .result) ≤ 63)
     × (8 * (c .before .before .before .significant .result - 1) + (63 - leadingZeros 64 (3 * c .before .byte-at .result + c .carry-into .result))
-    ≡ length (recoding (c .before .before .before .before .before .args .number .now)))
+    ≡ length (canonical (pos (bytesValue (c .before .before .before .before .before .args .number .now)))))
 counted c =
     let start = c .before .before .before .before .before in
     let number = start .args .number .now in

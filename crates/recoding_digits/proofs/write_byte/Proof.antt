@@ -1,4 +1,4 @@
--- `recoding::digits::write_byte` meets its contract. Assumes nothing.
+-- `recoding_digits::write_byte` meets its contract. Assumes nothing.
 use mathlib.Core.Path.{_≡_, sym, _∙_}
 use mathlib.Core.List.{_++_}
 use Prim.Native.Nat.{ℕ, _+_, _*_, _/_, _%_, _^_}
@@ -11,11 +11,11 @@ use Rattle.integers.proofs.Positional.{Below, positional-at}
 use Rattle.integers.proofs.Tabulate.{tabulate-same}
 use Rattle.signed_digits.specs.Naf.{canonical}
 use Rattle.digit_strings.specs.Places.{placeByte}
-use Rattle.recoding.specs.Internal.{difference}
-use Rattle.recoding.proofs.Triple.{carry-small, carry-step, byte-digit, moreOf, lessOf}
+use Rattle.recoding_digits.specs.Internal.{difference}
+use Rattle.recoding_digits.proofs.Triple.{carry-small, carry-step, byte-digit, moreOf, lessOf}
 use borrow.Author.Needs.{needs}
-use Rattle.recoding.proofs.digits.write_byte.Statement.{statement}
-use Rattle.recoding.proofs.digits.write_byte.Tie as tie
+use Rattle.recoding_digits.proofs.write_byte.Statement.{statement}
+use Rattle.recoding_digits.proofs.write_byte.Tie as tie
 
 byte-at-requires : tie.Need-byte-at-requires
 byte-at-requires c κs = search needs

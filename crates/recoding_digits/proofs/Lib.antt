@@ -1,0 +1,3 @@
+pub mod Triple
+pub mod SpreadBits
+pub mod TopByte

@@ -1,3 +1,4 @@
+pub mod Admission
 pub mod Places
-pub mod Checked
+pub mod Raised
 pub mod Internal

@@ -1,39 +1,50 @@
-// Digit strings that are handed in: the test that clean and read back share.
+// The tests that every call makes of the digit string that it is handed (docs/RULES.md, "Digit
+// strings"), over the width of its digits.
+use rules::Refusal;
+use rules::STRING_DIGITS;
+use rules::Verdict;
 ghost use mathlib.Core.Path.{_≡_};
 ghost use mathlib.Core.Bool.{true};
 ghost use Prim.Native.Nat.{_+_, _≤_};
 ghost use lib.ListN.{length};
-ghost use Rattle.digit_strings.specs.Checked.{isDigit, firstBad};
-ghost use Rattle.digit_strings.specs.Internal.{DigitsFor};
+ghost use Rattle.digit_strings.specs.Admission.{digitUpTo, firstFailing, stringVerdict};
+ghost use Rattle.digit_strings.specs.Internal.{PassFor};
 
-// Whether a byte is a digit: 00, 01 or FF. No branch goes by which of them it is.
-fn is_digit(byte: u8) -> bool
-    ensures { λ r. ⌜ r ≡ isDigit byte ⌝ }
+// The width of the canonical string, whose digits are 0, 1 and -1.
+pub const CANONICAL_WIDTH: usize = 2;
+
+// Whether a byte is 0, or an odd digit of at most the size of the largest. No branch goes by which.
+// Up to the size 1 only 0 is even, so at width 2 the second test falls away.
+fn is_digit(byte: u8, largest: u8) -> bool
+    requires { ⌜ largest ≤ 127 ⌝ }
+    ensures { λ r. ⌜ r ≡ digitUpTo largest byte ⌝ }
 {
-    (byte < 2) | (byte == 255)
+    ((byte <= largest) | (255 - byte < largest)) & ((byte == 0) | (byte % 2 == 1) | (largest < 2))
 }
 
 // Whether the eight bytes from `from` on are digits. The compiler tests them all at once.
-fn are_digits(digits: &[u8], from: usize) -> bool
+fn are_digits(digits: &[u8], from: usize, largest: u8) -> bool
     requires { ⌜ from + 8 ≤ length (now digits) ⌝ }
-    ensures { λ r. ⌜ (r ≡ true → DigitsFor (now (digits .entry)) from 8) ⌝ }
+    requires { ⌜ largest ≤ 127 ⌝ }
+    ensures { λ r. ⌜ (r ≡ true → PassFor (digitUpTo largest) (now (digits .entry)) from 8) ⌝ }
 {
     let mut all = true;
     let mut j: usize = 0;
     while j < 8 {
-        all = all & is_digit(digits[from + j]);
+        all = all & is_digit(digits[from + j], largest);
         j += 1;
     }
     all
 }
 
 // A place below which all bytes are digits, eight at a time.
-fn whole_digits(digits: &[u8]) -> usize
-    ensures { λ r. ⌜ (r ≤ length (now (digits .entry))) × DigitsFor (now (digits .entry)) 0 r ⌝ }
+fn whole_digits(digits: &[u8], largest: u8) -> usize
+    requires { ⌜ largest ≤ 127 ⌝ }
+    ensures { λ r. ⌜ (r ≤ length (now (digits .entry))) × PassFor (digitUpTo largest) (now (digits .entry)) 0 r ⌝ }
 {
     let mut i = 0;
     while i + 8 <= digits.len() {
-        if are_digits(digits, i) {
+        if are_digits(digits, i, largest) {
             i += 8;
         } else {
             return i;
@@ -43,16 +54,32 @@ fn whole_digits(digits: &[u8]) -> usize
 }
 
 // The lowest place whose byte is no digit; the length where there is none.
-pub fn first_bad(digits: &[u8]) -> usize
-    ensures { λ r. ⌜ r ≡ firstBad (now (digits .entry)) ⌝ }
+fn first_bad(digits: &[u8], largest: u8) -> usize
+    requires { ⌜ largest ≤ 127 ⌝ }
+    ensures { λ r. ⌜ r ≡ firstFailing (digitUpTo largest) (now (digits .entry)) ⌝ }
 {
-    let mut i = whole_digits(digits);
+    let mut i = whole_digits(digits, largest);
     while i < digits.len() {
-        if is_digit(digits[i]) {
+        if is_digit(digits[i], largest) {
             i += 1;
         } else {
             return i;
         }
     }
     i
+}
+
+// Refusal 5, then 4, for digits of this width.
+pub fn string_verdict(digits: &[u8], width: usize) -> Verdict
+    requires { ⌜ (2 ≤ width) × (width ≤ 8) ⌝ }
+    ensures { λ r. ⌜ r ≡ stringVerdict width (now (digits .entry)) ⌝ }
+{
+    if STRING_DIGITS < digits.len() {
+        return Verdict::Failed(Refusal::StringTooLong);
+    }
+    let bad = first_bad(digits, ((1usize << (width - 1)) - 1) as u8);
+    if bad < digits.len() {
+        return Verdict::Failed(Refusal::NotADigit(bad));
+    }
+    Verdict::Passed
 }

@@ -1,25 +1,23 @@
 -- `digit_strings::are_digits` meets its contract: the first j bytes are digits, if all so far were. Assumes nothing.
 use mathlib.Core.Path.{_≡_, sym, _∙_}
-use mathlib.Core.Bool.{true}
+use mathlib.Core.Bool.{true, and-eq-true-iff}
 use Prim.Native.Nat.{_-_, _≤_}
 use native.Mathlib.Omega.{arith}
-use Rattle.digit_strings.specs.Internal.{DigitsFor}
-use Rattle.digit_strings.proofs.Scan.{none-yet, one-more, both-true}
+use Rattle.digit_strings.specs.Admission.{digitUpTo}
+use Rattle.digit_strings.specs.Internal.{PassFor}
+use Rattle.digit_strings.proofs.Scan.{none-yet, one-more}
 use borrow.Author.Needs.{needs}
 use Rattle.digit_strings.proofs.are_digits.Statement.{statement}
 use Rattle.digit_strings.proofs.are_digits.Tie as tie
-use Rattle.digit_strings.proofs.are_digits.Reads as reads
-use Rattle.digit_strings.proofs.are_digits.Lts as lts
-use Rattle.digit_strings.proofs.is_digit.Reads as is-digit-reads
 
 abbrev Inv-loop : tie.InvT-loop
-Inv-loop digits from all₀ j₀ all j = (j ≤ 8) × (all ≡ true → DigitsFor digits from j)
+Inv-loop digits from largest all₀ j₀ all j = (j ≤ 8) × (all ≡ true → PassFor (digitUpTo largest) digits from j)
 
 abbrev μ-loop : tie.MeasureT-loop
-μ-loop digits from all₀ j₀ all j = 8 - j
+μ-loop digits from largest all₀ j₀ all j = 8 - j
 
 loop-holds : tie.Need-loop-holds Inv-loop μ-loop
-loop-holds c = (search needs, λ _. none-yet (c .before .args .digits .now) (c .before .args .from))
+loop-holds c = (search needs, λ _. none-yet (digitUpTo (c .before .args .largest)) (c .before .args .digits .now) (c .before .args .from))
 
 add-is-digit : tie.Need-add-is-digit Inv-loop μ-loop
 add-is-digit c = search needs
@@ -42,8 +40,8 @@ loop-again c =
     let args = c .before .before .before .before .before .args in (
       search needs,
       λ h.
-          let b = both-true (loop .all) (c .is-digit .result) h in
-          one-more (args .digits .now) (args .from) (loop .j) (search needs) (sym (c .is-digit .ensures) ∙ b .1) (loop .inv .1 (b .0)),
+          let b = and-eq-true-iff (loop .all) (c .is-digit .result) .0 h in
+          one-more (digitUpTo (args .largest)) (args .digits .now) (args .from) (loop .j) (search needs) (sym (c .is-digit .ensures) ∙ b .1) (loop .inv .1 (b .0)),
     )
 
 returns : tie.Need-returns Inv-loop μ-loop

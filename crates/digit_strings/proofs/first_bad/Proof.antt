@@ -4,20 +4,17 @@ use Prim.Native.Nat.{ℕ, _≤_, _-_, _+_}
 use native.Mathlib.Nat.{zero-add}
 use native.Mathlib.Omega.{arith}
 use lib.ListN.{length, drop}
-use Rattle.digit_strings.specs.Checked.{firstBad}
-use Rattle.digit_strings.proofs.Scan.{bad-here, digit-here, none-bad-above}
+use Rattle.digit_strings.specs.Admission.{digitUpTo, firstFailing}
+use Rattle.digit_strings.proofs.Scan.{fails-here, passes-here, none-above}
 use borrow.Author.Needs.{needs}
 use Rattle.digit_strings.proofs.first_bad.Statement.{statement}
 use Rattle.digit_strings.proofs.first_bad.Tie as tie
-use Rattle.digit_strings.proofs.first_bad.Reads as reads
-use Rattle.digit_strings.proofs.first_bad.Lts as lts
-use Rattle.digit_strings.proofs.is_digit.Reads as is-digit-reads
 
 abbrev Inv-loop : tie.InvT-loop
-Inv-loop digits i₀ i = (i ≤ length digits) × (firstBad digits ≡ i + firstBad (drop i digits))
+Inv-loop digits largest i₀ i = (i ≤ length digits) × (firstFailing (digitUpTo largest) digits ≡ i + firstFailing (digitUpTo largest) (drop i digits))
 
 abbrev μ-loop : tie.MeasureT-loop
-μ-loop digits i₀ i = length digits - i
+μ-loop digits largest i₀ i = length digits - i
 
 whole-digits-requires : tie.Need-whole-digits-requires Inv-loop μ-loop
 whole-digits-requires c κs = search needs
@@ -36,8 +33,9 @@ is-digit-requires c κs = search needs
 returns : tie.Need-returns Inv-loop μ-loop
 returns c =
     let loop = c .before .before .before .before .loop in
-    let digits = c .before .before .before .before .before .before .before .args .digits .now in
-    omega (arith, loop .inv .1, bad-here digits (loop .i) (search needs) (sym (c .before .is-digit .ensures) ∙ c .if1 .left))
+    let start = c .before .before .before .before .before .before .before in
+    let digits = start .args .digits .now in
+    omega (arith, loop .inv .1, fails-here (digitUpTo (start .args .largest)) digits (loop .i) (search needs) (sym (c .before .is-digit .ensures) ∙ c .if1 .left))
 
 add-i : tie.Need-add-i Inv-loop μ-loop
 add-i c = search needs
@@ -48,14 +46,16 @@ loop-less c = search needs
 loop-again : tie.Need-loop-again Inv-loop μ-loop
 loop-again c =
     let loop = c .before .before .before .before .loop in
-    let digits = c .before .before .before .before .before .before .before .args .digits .now in
-    (search needs, omega (arith, loop .inv .1, digit-here digits (loop .i) (search needs) (sym (c .before .is-digit .ensures) ∙ c .if1 .taken)))
+    let start = c .before .before .before .before .before .before .before in
+    let digits = start .args .digits .now in
+    (search needs, omega (arith, loop .inv .1, passes-here (digitUpTo (start .args .largest)) digits (loop .i) (search needs) (sym (c .before .is-digit .ensures) ∙ c .if1 .taken)))
 
 returns-2 : tie.Need-returns-2 Inv-loop μ-loop
 returns-2 c =
-    let digits = c .before .before .before .before .args .digits .now in
+    let start = c .before .before .before .before in
+    let digits = start .args .digits .now in
     let e : c .before .loop .i ≡ length digits = omega arith in
-    omega (arith, c .before .loop .inv .1, none-bad-above digits, ap (λ (n : ℕ). firstBad (drop n digits)) e)
+    omega (arith, c .before .loop .inv .1, none-above (digitUpTo (start .args .largest)) digits, ap (λ (n : ℕ). firstFailing (digitUpTo (start .args .largest)) (drop n digits)) e)
 
 pub first-bad-spec : {M : Type 1} → statement M
 first-bad-spec =

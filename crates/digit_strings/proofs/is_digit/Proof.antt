@@ -1,16 +1,14 @@
 -- `digit_strings::is_digit` meets its contract. Assumes nothing.
-use mathlib.Core.Path.{_≡_, refl}
-use mathlib.Core.Bool.{Bool, true, false, cond, _||_}
-use lib.Dec.{ltb, eqb}
+use borrow.Author.Needs.{needs}
+use Rattle.digit_strings.proofs.Digits.{tested}
 use Rattle.digit_strings.proofs.is_digit.Statement.{statement}
 use Rattle.digit_strings.proofs.is_digit.Tie as tie
 
-either : (a b : Bool) → (a || b) ≡ cond a true b
-either true b = refl
-either false b = refl
+sub-result : tie.Need-sub-result
+sub-result c = search needs
 
 returns : tie.Need-returns
-returns c = either (ltb (c .args .byte) 2) (eqb (c .args .byte) 255)
+returns c = tested (c .args .largest) (c .args .byte) (c .pre) (search needs)
 
 pub is-digit-spec : {M : Type 1} → statement M
-is-digit-spec = tie.close (tie.spec returns)
+is-digit-spec = tie.close (tie.spec sub-result returns)

@@ -1,23 +1,21 @@
 -- `digit_strings::whole_digits` meets its contract: the bytes below i are digits. Assumes nothing.
 use Prim.Native.Nat.{_-_, _≤_}
 use lib.ListN.{length}
-use Rattle.digit_strings.specs.Internal.{DigitsFor}
-use Rattle.digit_strings.proofs.Scan.{none-yet, digits-joined}
+use Rattle.digit_strings.specs.Admission.{digitUpTo}
+use Rattle.digit_strings.specs.Internal.{PassFor}
+use Rattle.digit_strings.proofs.Scan.{none-yet, joined}
 use borrow.Author.Needs.{needs}
 use Rattle.digit_strings.proofs.whole_digits.Statement.{statement}
 use Rattle.digit_strings.proofs.whole_digits.Tie as tie
-use Rattle.digit_strings.proofs.whole_digits.Reads as reads
-use Rattle.digit_strings.proofs.whole_digits.Lts as lts
-use Rattle.digit_strings.proofs.are_digits.Reads as are-digits-reads
 
 abbrev Inv-loop : tie.InvT-loop
-Inv-loop digits i₀ i = (i ≤ length digits) × DigitsFor digits 0 i
+Inv-loop digits largest i₀ i = (i ≤ length digits) × PassFor (digitUpTo largest) digits 0 i
 
 abbrev μ-loop : tie.MeasureT-loop
-μ-loop digits i₀ i = length digits - i
+μ-loop digits largest i₀ i = length digits - i
 
 loop-holds : tie.Need-loop-holds Inv-loop μ-loop
-loop-holds c = (search needs, none-yet (c .before .args .digits .now) 0)
+loop-holds c = (search needs, none-yet (digitUpTo (c .before .args .largest)) (c .before .args .digits .now) 0)
 
 add-loop : tie.Need-add-loop Inv-loop μ-loop
 add-loop c = search needs
@@ -35,7 +33,7 @@ loop-again : tie.Need-loop-again Inv-loop μ-loop
 loop-again c =
     let loop = c .before .before .before .loop in
     let args = c .before .before .before .before .before .args in
-    (search needs, digits-joined (args .digits .now) (loop .i) 8 (loop .inv .1) (c .before .are-digits .ensures (c .if1 .taken)))
+    (search needs, joined (digitUpTo (args .largest)) (args .digits .now) (loop .i) 8 (loop .inv .1) (c .before .are-digits .ensures (c .if1 .taken)))
 
 returns : tie.Need-returns Inv-loop μ-loop
 returns c = c .before .before .before .loop .inv

@@ -1,13 +1,12 @@
--- Clean (document 01, "The calls"): a digit string into the canonical string of the same value. Refusals in the order 5, 4, 6.
+-- Clean (docs/RULES.md, "Calls"): a digit string into the canonical string of the same value. Refusals in the order 5, 4, 6.
 use Prim.Native.Nat.{ℕ, _≤_}
 use mathlib.Core.List.{List}
 use lib.ListN.{length, take}
-use Rattle.rules.specs.Memory.{fitted, leaves}
+use Rattle.rules.specs.Memory.{written, leaves, lengthWritten}
 use Rattle.rules.specs.declared.Written.{Written}
-use Rattle.rules.specs.declared.Written.the-variants.{Length, Refused}
 use Rattle.signed_digits.specs.Naf.{canonical}
 use Rattle.signed_digits.specs.Bytes.{digitBytes}
-use Rattle.digit_strings.specs.Checked.{stringValue, checked}
+use Rattle.digit_strings.specs.Admission.{canonicalWidth, stringVerdict, stringValue}
 
 -- the canonical string of the value, one byte a digit
 unfoldable pub cleaning : List ℕ → List ℕ
@@ -15,7 +14,7 @@ cleaning digits = digitBytes (canonical (stringValue digits))
 
 -- the answer, by the string and the bytes lent
 abbrev pub cleanAnswer : List ℕ → ℕ → Written
-cleanAnswer digits room = checked Refused digits (fitted (cleaning digits) room)
+cleanAnswer digits room = written (stringVerdict canonicalWidth digits) (cleaning digits) room
 
 -- the second buffer afterwards
 abbrev pub cleanBuffer : List ℕ → List ℕ → List ℕ
@@ -28,9 +27,5 @@ abbrev pub RoomEnough : List ℕ → List ℕ → Type 0
 RoomEnough digits out = length (canonical (stringValue digits)) ≤ length out
 
 -- what is written is as many bytes as the length answered, from the start of the buffer
-abbrev pub lengthAnswered : Written → ℕ
-lengthAnswered (Length n) = n
-lengthAnswered (Refused r) = 0
-
 unfoldable pub bytesWritten : List ℕ → List ℕ → List ℕ
-bytesWritten digits out = take (lengthAnswered (cleanAnswer digits (length out))) (cleanBuffer digits out)
+bytesWritten digits out = take (lengthWritten (cleanAnswer digits (length out))) (cleanBuffer digits out)

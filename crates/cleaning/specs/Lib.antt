@@ -1,2 +1,1 @@
 pub mod Clean
-pub mod Internal

@@ -1,9 +1,10 @@
 // Cleaning a digit string into the canonical string of the same value.
-mod carry;
-
-use digit_strings::first_bad;
+use cleaning_digits::count;
+use cleaning_digits::write;
+use digit_strings::CANONICAL_WIDTH;
+use digit_strings::string_verdict;
 use rules::Refusal;
-use rules::STRING_DIGITS;
+use rules::Verdict;
 use rules::Written;
 ghost use mathlib.Core.Path.{_≡_};
 ghost use lib.ListN.{length};
@@ -14,17 +15,13 @@ pub fn clean(digits: &[u8], out: &mut [u8]) -> Written
     ensures answer { λ r. ⌜ r ≡ cleanAnswer (now (digits .entry)) (length (now (out .entry))) ⌝ }
     ensures buffer { λ r. ⌜ now (out .exit) ≡ cleanBuffer (now (digits .entry)) (now (out .entry)) ⌝ }
 {
-    if STRING_DIGITS < digits.len() {
-        return Written::Refused(Refusal::StringTooLong);
+    if let Verdict::Failed(refusal) = string_verdict(digits, CANONICAL_WIDTH) {
+        return Written::Refused(refusal);
     }
-    let bad = first_bad(digits);
-    if bad < digits.len() {
-        return Written::Refused(Refusal::NotADigit(bad));
-    }
-    let length = carry::count(digits);
+    let length = count(digits);
     if out.len() < length {
         return Written::Refused(Refusal::RoomTooSmall(length));
     }
-    carry::write(digits, out, length);
+    write(digits, out, length);
     Written::Length(length)
 }

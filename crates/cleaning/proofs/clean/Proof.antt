@@ -2,70 +2,64 @@
 use mathlib.Core.Path.{_≡_, sym, _∙_}
 use mathlib.Core.List.{_++_}
 use lib.ListN.{drop}
+use Rattle.rules.specs.declared.Verdict.the-variants.{Passed}
 use Rattle.integers.specs.Tabulate.{tabulate}
-use Rattle.digit_strings.specs.Checked.{DigitString}
-use Rattle.digit_strings.proofs.Scan.{all-digits}
-use Rattle.cleaning.specs.Internal.{placeByte}
-use Rattle.cleaning.proofs.Outcomes.{too-long, bad-digit, no-room, done}
+use Rattle.signed_digits.specs.Naf.{canonical}
+use Rattle.digit_strings.specs.Admission.{canonicalWidth, stringVerdict, stringValue}
+use Rattle.digit_strings.specs.Places.{placeByte}
+use Rattle.digit_strings.proofs.Tests.{digit-string-is}
+use Rattle.cleaning.proofs.Outcomes.{no-room, all-fits}
 use borrow.Author.Needs.{needs}
 use Rattle.cleaning.proofs.clean.Statement.{statement}
 use Rattle.cleaning.proofs.clean.Tie as tie
 
--- past the scan the string is one of digits
-good : (c : tie.Else2) → DigitString (c .before .before .before .before .before .args .digits .now)
-good c =
-    let bad = c .before .first-bad in
-    all-digits (c .before .before .before .before .before .args .digits .now) (search needs) (rw (← bad .ensures) (search needs))
+-- past refusals 5 and 4
+passed : (c : tie.After-count) → stringVerdict canonicalWidth (c .before .before .before .before .before .before .args .digits .now) ≡ Passed
+passed c = sym (c .before .before .before .string-verdict .ensures) ∙ c .before .enum-told .given .1
+
+string-verdict-requires : tie.Need-string-verdict-requires
+string-verdict-requires c κs = search needs
+
+enum-known-refusal : tie.Need-enum-known-refusal
+enum-known-refusal c = search needs
 
 returns : tie.Need-returns
-returns c =
-    let args = c .before .before .before .args in
-    let o = too-long (args .digits .now) (args .out .now) (c .if1 .taken) in
-    (sym (o .0), sym (o .1))
+returns c = let e = sym (c .before .before .before .string-verdict .ensures) ∙ c .before .refusal .given .1 in (rw e, rw e)
 
-first-bad-requires : tie.Need-first-bad-requires
-first-bad-requires c κs = search needs
-
-returns-2 : tie.Need-returns-2
-returns-2 c =
-    let args = c .before .before .before .before .before .args in
-    let bad = c .before .first-bad in
-    let o = bad-digit (args .digits .now) (args .out .now) (bad .result) (bad .ensures) (search needs) (c .if2 .taken) in
-    (sym (o .0), sym (o .1))
+enum-told : tie.Need-enum-told
+enum-told c = search needs
 
 count-requires : tie.Need-count-requires
-count-requires c κs = good c
+count-requires c κs = digit-string-is _ _ .0 (sym (c .before .before .string-verdict .ensures) ∙ c .enum-told .given .1)
 
-returns-3 : tie.Need-returns-3
-returns-3 c =
-    let args = c .before .before .before .before .before .before .before .args in
-    let n = c .before .count in
-    let o = no-room (args .digits .now) (args .out .now) (n .result) (n .ensures) (good (c .before .before)) (c .if3 .taken) in
-    (sym (o .0), sym (o .1))
+returns-2 : tie.Need-returns-2
+returns-2 c = no-room _ _ _ (cc) (search needs) (search needs)
 
 write-requires : tie.Need-write-requires
-write-requires c κs = (good (c .before .before .before), search needs)
+write-requires c κs = (digit-string-is _ _ .0 (passed (c .before .before)), search needs)
 
 same-length : tie.Need-same-length
 same-length c = search needs
 
-returns-4 : tie.Need-returns-4
-returns-4 c =
-    let args = c .before .before .before .before .before .before .before .before .before .before .before .args in
-    let n = c .before .before .before .before .before .count in
-    let o = done (args .digits .now) (args .out .now) (n .result) (n .ensures) (good (c .before .before .before .before .before .before)) (search needs) in
-    let w : _ ≡ tabulate (placeByte (args .digits .now)) (n .result) ++ drop (n .result) (args .out .now) = c .before .before .write .ensures in
-    (sym (o .0), w ∙ sym (o .1))
+returns-3 : tie.Need-returns-3
+returns-3 c =
+    let found = c .before .before .before .before .before in
+    let args = found .before .before .before .before .before .before .args in
+    let n = found .count in
+    let o = all-fits (args .digits .now) (args .out .now) (n .result) (passed found) (n .ensures) (search needs) in
+    let w : _ ≡ tabulate (placeByte (canonical (stringValue (args .digits .now)))) (n .result) ++ drop (n .result) (args .out .now) = c .before .before .write .ensures in
+    (o .0, w ∙ o .1)
 
 pub clean-spec : {M : Type 1} → statement M
 clean-spec =
     tie.close
     (tie.spec
+    string-verdict-requires
+    enum-known-refusal
     returns
-    first-bad-requires
-    returns-2
+    enum-told
     count-requires
-    returns-3
+    returns-2
     write-requires
     same-length
-    returns-4)
+    returns-3)

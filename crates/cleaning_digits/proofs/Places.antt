@@ -1,14 +1,13 @@
 -- The sums of digit and carry give the canonical digits, place by place. Assumes nothing.
 use mathlib.Core.Path.{_≡_, refl, sym, _∙_}
 use mathlib.Core.Logic.{_≢_}
-use mathlib.Core.Bool.{true}
 use mathlib.Core.List.{List, [], _∷_}
 use Prim.Native.Nat.{ℕ, zero, suc, _+_, _*_, _-_, _/_, _%_, _<_, _≤_}
 use native.Mathlib.Decide.{decLt}
 use native.Mathlib.Omega.{arith}
-use borrow.Author.Tests.{le-ltb, eqb-true, eq-eqb}
+use borrow.Author.Tests.{eq-eqb}
 use lib.IntN.{ℤ, pos, negsuc, natAbs, _+ℤ_, _*ℤ_}
-use lib.ListN.{length, getD, drop, List·getD-map, List·getD-eq-default}
+use lib.ListN.{getD, drop, List·getD-map}
 use Rattle.signed_digits.specs.Strings.{value, digitAt}
 use Rattle.signed_digits.specs.Naf.{lowDigit, rest, canonical}
 use Rattle.signed_digits.specs.Bytes.{digitByte, byteDigit, stringOf}
@@ -16,8 +15,11 @@ use Rattle.signed_digits.proofs.Parts.{positivePart, negativePart, from-parts, 
 use Rattle.signed_digits.proofs.Exists.{Shape, even, odd, step}
 use Rattle.signed_digits.proofs.Steps.{low-digit-2, rest-2, by-four}
 use Rattle.signed_digits.proofs.Cons.{digits-taken}
-use Rattle.digit_strings.specs.Checked.{isDigit, DigitString, stringValue}
-use Rattle.cleaning.specs.Internal.{raisedAt, sumAt, pairAt, placeByte}
+use Rattle.digit_strings.specs.Admission.{canonicalWidth, DigitString, stringValue}
+use Rattle.digit_strings.specs.Places.{placeByte}
+use Rattle.digit_strings.proofs.Scan.{digit-at}
+use Rattle.digit_strings.proofs.Raised.{raised-is}
+use Rattle.cleaning_digits.specs.Sums.{raisedAt, sumAt, pairAt}
 
 -- ---- one step of width 2
 
@@ -45,6 +47,9 @@ rest-grows a b h = go (decLt a b)
     go (yes l) = omega (arith, near a, near b)
     go (no l) = let e : a ≡ b = omega arith in rw e (omega arith)
 
+rest-near : (a r : ℕ) → a ≤ 4 → (r ≤ rest 2 (a + 2 * r)) × (rest 2 (a + 2 * r) ≤ r + 2)
+rest-near a r h = omega (arith, rest-is (a + 2 * r))
+
 rest-four : (n : ℕ) → 3 ≤ n → n ≤ 5 → rest 2 n ≡ 2
 rest-four = by-four _ (λ q. (
   λ l m. omega (arith, rest-2 q),
@@ -69,36 +74,22 @@ sums-drop [] (suc i) = (refl, refl)
 sums-drop (d ∷ ds) zero = (refl, refl)
 sums-drop (d ∷ ds) (suc i) = sums-drop ds i
 
--- a digit's byte b, and the digit plus 1, h
-record Held (b h : ℕ) : Type 0 where
-  parts : positivePart (byteDigit b) + 1 ≡ h + negativePart (byteDigit b)
-  small : h ≤ 2
-
-held : (b : ℕ) → isDigit b ≡ true → Held b ((b + 1) % 256)
-held zero t = record { parts = refl; small = omega arith }
-held (suc zero) t = record { parts = refl; small = omega arith }
-held (suc (suc b)) t = rw (eqb-true (suc (suc b)) 255 (rw (le-ltb (suc (suc b)) 2 (omega arith)) at t)) (record { parts = refl; small = omega arith })
-
-module _ (s : List ℕ) (given : DigitString s) where
-  digit-held : (i : ℕ) → Held (getD s i 0) (raisedAt s i)
+module _ (s : List ℕ) (given : DigitString canonicalWidth s) where
+  digit-raised : (i : ℕ) → (positivePart (byteDigit (getD s i 0)) + 1 ≡ raisedAt s i + negativePart (byteDigit (getD s i 0))) × (raisedAt s i ≤ 2)
   unfolding raisedAt
-  digit-held i = held (getD s i 0) (go (decLt i (length s)))
-    where
-      go : Dec (i < length s) → isDigit (getD s i 0) ≡ true
-      go (yes h) = given .digits i h
-      go (no h) = rw (List·getD-eq-default s 0 {n = i} (omega arith))
+  digit-raised i = raised-is canonicalWidth (getD s i 0) (omega arith) (digit-at given i)
 
-  pub held-small : (i : ℕ) → raisedAt s i ≤ 2
-  held-small i = digit-held i .small
+  pub raised-small : (i : ℕ) → raisedAt s i ≤ 2
+  raised-small i = digit-raised i .1
 
   digit-parts : (i : ℕ) → positivePart (digitAt (stringOf s) i) + 1 ≡ raisedAt s i + negativePart (digitAt (stringOf s) i)
-  digit-parts i = rw (List·getD-map byteDigit s i 0) (digit-held i .parts)
+  digit-parts i = rw (List·getD-map byteDigit s i 0) (digit-raised i .0)
 
   -- the carry is from -1 to 1
   pub sum-small : (i : ℕ) → (raisedAt s i ≤ sumAt s i) × (sumAt s i ≤ raisedAt s i + 2)
   unfolding sumAt
-  sum-small zero = omega (arith, held-small 0)
-  sum-small (suc i) = omega (arith, sum-small i, held-small i, held-small (suc i), rest-is (pairAt s i))
+  sum-small zero = omega (arith, raised-small 0)
+  sum-small (suc i) = rest-near _ (raisedAt s (suc i)) (omega (arith, sum-small i, raised-small i))
 
   digit : ℕ → ℤ
   digit i = lowDigit 2 (pairAt s i)
@@ -130,22 +121,22 @@ module _ (s : List ℕ) (given : DigitString s) where
   unfolding sumAt
   left-whole = omega (arith, from-parts, left-parts 0, sums-drop (stringOf s) 0, digit-parts 0, value-parts (stringOf s))
 
-  digit-at : (i : ℕ) → digitAt (canonical (stringValue s)) i ≡ digit i
-  digit-at i = rw (← left-whole) (digits-taken 2 (omega arith) left digit left-step left-shape i)
+  canonical-digit : (i : ℕ) → digitAt (canonical (stringValue s)) i ≡ digit i
+  canonical-digit i = rw (← left-whole) (digits-taken 2 (omega arith) left digit left-step left-shape i)
 
   -- the byte of each canonical digit
-  pub place-byte : (i : ℕ) → (256 + pairAt s i - 2 * sumAt s (suc i)) % 256 ≡ placeByte s i
+  pub place-byte : (i : ℕ) → (256 + pairAt s i - 2 * sumAt s (suc i)) % 256 ≡ placeByte (canonical (stringValue s)) i
   unfolding placeByte digit sumAt
-  place-byte i = rw (digit-at i) (sym (byte-is (pairAt s i)))
+  place-byte i = rw (canonical-digit i) (sym (byte-is (pairAt s i)))
 
   -- the digit is 0 just where the sum is even
   pub zero-place : (i : ℕ) → sumAt s i % 2 ≡ 0 → digitAt (canonical (stringValue s)) i ≡ pos 0
   unfolding digit
-  zero-place i e = digit-at i ∙ low-even (pairAt s i) (omega arith)
+  zero-place i e = canonical-digit i ∙ low-even (pairAt s i) (omega arith)
 
   pub nonzero-place : (i : ℕ) → sumAt s i % 2 ≢ 0 → digitAt (canonical (stringValue s)) i ≢ pos 0
   unfolding digit
-  nonzero-place i n e = low-odd (pairAt s i) (omega arith) (sym (digit-at i) ∙ e)
+  nonzero-place i n e = low-odd (pairAt s i) (omega arith) (sym (canonical-digit i) ∙ e)
 
   -- two zeros stop every carry
   pub stopped : (i : ℕ) → getD s i 0 ≡ 0 → getD s (suc i) 0 ≡ 0 → sumAt s (suc i) ≡ 2

@@ -7,22 +7,16 @@ use native.Mathlib.Decide.{decLt}
 use native.Mathlib.Omega.{arith}
 use borrow.Author.Tests.{eqb-true, eqb-false}
 use lib.Dec.{eqb}
-use lib.ListN.{length, getD, drop, length-map}
+use lib.ListN.{length, getD, drop, List·getD-eq-default}
 use lib.Seq.{getD-drop}
 use Rattle.integers.specs.Positional.{Significant}
 use Rattle.integers.proofs.Positional.{positional-nonzero}
 use Rattle.signed_digits.specs.Naf.{canonical}
-use Rattle.signed_digits.specs.Bytes.{digitByte}
 use Rattle.signed_digits.proofs.Canonical.{canonical-form}
 use Rattle.signed_digits.proofs.Cons.{length-by-top}
-use Rattle.digit_strings.specs.Checked.{DigitString, stringValue}
-use Rattle.cleaning.specs.Clean.{cleaning}
-use Rattle.cleaning.specs.Internal.{sumAt, Highest}
-use Rattle.cleaning.proofs.Places.{zero-place, nonzero-place, stopped}
-
-pub length-cleaning : (s : List ℕ) → length (cleaning s) ≡ length (canonical (stringValue s))
-unfolding cleaning
-length-cleaning s = length-map (canonical (stringValue s)) digitByte
+use Rattle.digit_strings.specs.Admission.{canonicalWidth, DigitString, stringValue}
+use Rattle.cleaning_digits.specs.Sums.{sumAt, Highest}
+use Rattle.cleaning_digits.proofs.Places.{zero-place, nonzero-place, stopped}
 
 -- ---- the highest odd sum
 
@@ -43,7 +37,7 @@ highest-more s r i top high l = go (eqb (sumAt s i % 2) 0) refl
         record { above = λ j p q m. absurd (omega arith); last = λ h. (omega arith, rw back (eqb-false (sumAt s i % 2) 0 e)) }
 
 -- The sums from r to n tell the length, where one of them is odd or r is the lowest place: from n on the digits are 0.
-module _ (s : List ℕ) (given : DigitString s) (n r top : ℕ) (sig : Significant s n) (high : Highest s r (n + 1) top) (found : 0 < r → 0 < top) where
+module _ (s : List ℕ) (given : DigitString canonicalWidth s) (n r top : ℕ) (sig : Significant s n) (high : Highest s r (n + 1) top) (found : 0 < r → 0 < top) where
   zero-byte : (j : ℕ) → n ≤ j → getD s j 0 ≡ 0
   zero-byte j h = go (getD s j 0) refl
     where
@@ -69,7 +63,24 @@ module _ (s : List ℕ) (given : DigitString s) (n r top : ℕ) (sig : Significa
       go (yes p) = omega (arith, high .last (found p) .0)
       go (no p) = omega arith
 
-  pub count-is : top ≡ length (cleaning s)
+  pub count-is : top ≡ length (canonical (stringValue s))
   count-is =
-      sym (length-cleaning s ∙ length-by-top (canonical (stringValue s)) top (canonical-form (stringValue s) .top)
+      sym (length-by-top (canonical (stringValue s)) top (canonical-form (stringValue s) .top)
       (λ i h. zero-place s given i (even-from i (reached i h) h)) (λ h. nonzero-place s given (top - 1) (high .last h .1)))
+
+-- one digit more than the string has, at most
+pub canonical-length : (s : List ℕ) → DigitString canonicalWidth s → length (canonical (stringValue s)) ≤ length s + 1
+canonical-length s given = go (decLt (length s + 1) n)
+  where
+    n : ℕ
+    n = length (canonical (stringValue s))
+
+    byte : (i : ℕ) → length s ≤ i → getD s i 0 ≡ 0
+    byte i h = List·getD-eq-default s 0 h
+
+    go : Dec (length s + 1 < n) → n ≤ length s + 1
+    go (yes h) =
+        let e : n - 1 ≡ suc (n - 2) = omega arith in
+        let z : sumAt s (suc (n - 2)) ≡ 2 = stopped s given (n - 2) (byte (n - 2) (omega arith)) (byte (suc (n - 2)) (omega arith)) in
+        absurd (canonical-form (stringValue s) .top (omega arith) (rw e (zero-place s given (suc (n - 2)) (rw z))))
+    go (no h) = omega arith

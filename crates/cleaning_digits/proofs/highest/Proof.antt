@@ -1,15 +1,15 @@
--- `cleaning::carry::highest` meets its contract: `length` is the highest so far. Assumes nothing.
+-- `cleaning_digits::highest` meets its contract: `length` is the highest so far. Assumes nothing.
 use mathlib.Core.Path.{_≡_}
 use Prim.Native.Nat.{_≤_, _-_, _+_, _*_}
 use native.Mathlib.Numerals.{add-one}
 use native.Mathlib.Omega.{arith}
 use Rattle.signed_digits.specs.Naf.{rest}
-use Rattle.cleaning.specs.Internal.{raisedAt, sumAt, Highest}
-use Rattle.cleaning.proofs.Places.{held-small, sum-small}
-use Rattle.cleaning.proofs.Count.{highest-none, highest-more}
+use Rattle.cleaning_digits.specs.Sums.{raisedAt, sumAt, Highest}
+use Rattle.cleaning_digits.proofs.Places.{raised-small, sum-small}
+use Rattle.cleaning_digits.proofs.Length.{highest-none, highest-more}
 use borrow.Author.Needs.{needs}
-use Rattle.cleaning.proofs.carry.highest.Statement.{statement}
-use Rattle.cleaning.proofs.carry.highest.Tie as tie
+use Rattle.cleaning_digits.proofs.highest.Statement.{statement}
+use Rattle.cleaning_digits.proofs.highest.Tie as tie
 
 abbrev Inv-loop : tie.InvT-loop
 Inv-loop digits from n start i₀ sum₀ length₀ i sum length = (from ≤ i) × (i ≤ n + 1) × (sum ≤ 4) × (sum ≡ sumAt digits i) × Highest digits from i length
@@ -24,7 +24,7 @@ loop-holds c =
     let s = args .digits .now in (
       search needs,
       search needs,
-      omega (arith, sum-small s given (args .from), held-small s given (args .from), c .before .pre .1 .1 .1),
+      omega (arith, sum-small s given (args .from), raised-small s given (args .from), c .before .pre .1 .1 .1),
       search needs,
       highest-none s (args .from),
     )

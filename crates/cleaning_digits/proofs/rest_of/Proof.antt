@@ -1,9 +1,9 @@
--- `cleaning::carry::rest_of` meets its contract. Assumes nothing.
+-- `cleaning_digits::rest_of` meets its contract. Assumes nothing.
 use mathlib.Core.Path.{sym}
-use Rattle.cleaning.proofs.Places.{rest-is}
+use Rattle.cleaning_digits.proofs.Places.{rest-is}
 use borrow.Author.Needs.{needs}
-use Rattle.cleaning.proofs.carry.rest_of.Statement.{statement}
-use Rattle.cleaning.proofs.carry.rest_of.Tie as tie
+use Rattle.cleaning_digits.proofs.rest_of.Statement.{statement}
+use Rattle.cleaning_digits.proofs.rest_of.Tie as tie
 
 add-result : tie.Need-add-result
 add-result c = search needs

@@ -1,10 +1,10 @@
--- `cleaning::carry::count` meets its contract. Assumes nothing.
+-- `cleaning_digits::count` meets its contract. Assumes nothing.
 use native.Mathlib.Omega.{arith}
-use Rattle.cleaning.specs.Internal.{sumAt}
-use Rattle.cleaning.proofs.Count.{count-is}
+use Rattle.cleaning_digits.specs.Sums.{sumAt}
+use Rattle.cleaning_digits.proofs.Length.{count-is}
 use borrow.Author.Needs.{needs}
-use Rattle.cleaning.proofs.carry.count.Statement.{statement}
-use Rattle.cleaning.proofs.carry.count.Tie as tie
+use Rattle.cleaning_digits.proofs.count.Statement.{statement}
+use Rattle.cleaning_digits.proofs.count.Tie as tie
 
 significant-requires : tie.Need-significant-requires
 significant-requires c κs = search needs

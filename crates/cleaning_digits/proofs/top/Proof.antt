@@ -1,8 +1,8 @@
--- `cleaning::carry::top` meets its contract. Assumes nothing.
+-- `cleaning_digits::top` meets its contract. Assumes nothing.
 use Prim.Native.Nat.{_%_}
 use borrow.Author.Tests.{eq-eqb, ne-eqb}
-use Rattle.cleaning.proofs.carry.top.Statement.{statement}
-use Rattle.cleaning.proofs.carry.top.Tie as tie
+use Rattle.cleaning_digits.proofs.top.Statement.{statement}
+use Rattle.cleaning_digits.proofs.top.Tie as tie
 
 returns : tie.Need-returns
 returns c = rw (eq-eqb (c .before .args .sum % 2) 0 (c .if1 .taken))

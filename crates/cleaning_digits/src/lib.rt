@@ -11,10 +11,10 @@ ghost use lib.Dec.{eqb};
 ghost use lib.ListN.{length, drop};
 ghost use Rattle.integers.specs.Positional.{Significant};
 ghost use Rattle.integers.specs.Tabulate.{tabulate};
-ghost use Rattle.signed_digits.specs.Naf.{rest};
-ghost use Rattle.digit_strings.specs.Checked.{DigitString};
-ghost use Rattle.cleaning.specs.Clean.{cleaning};
-ghost use Rattle.cleaning.specs.Internal.{raisedAt, sumAt, placeByte, Highest};
+ghost use Rattle.signed_digits.specs.Naf.{rest, canonical};
+ghost use Rattle.digit_strings.specs.Admission.{canonicalWidth, DigitString, stringValue};
+ghost use Rattle.digit_strings.specs.Places.{placeByte};
+ghost use Rattle.cleaning_digits.specs.Sums.{raisedAt, sumAt, Highest};
 
 // The length is sought first from this many places below the top digit: few carries come from
 // further down.
@@ -22,7 +22,7 @@ const NEAR: usize = 16;
 
 // The digit at a place, plus 1; above the string the digit is 0.
 fn raised_at(digits: &[u8], i: usize) -> u64
-    requires { ⌜ DigitString (now digits) ⌝ }
+    requires { ⌜ DigitString canonicalWidth (now digits) ⌝ }
     ensures { λ r. ⌜ (r ≡ raisedAt (now (digits .entry)) i) × (r ≤ 2) ⌝ }
 {
     (byte_at(digits, i) + 1) % 256
@@ -45,7 +45,7 @@ fn top(sum: u64, above: usize, below: usize) -> usize
 
 // The place above the highest canonical digit other than 0, from `from` to n; 0 where there is none.
 fn highest(digits: &[u8], from: usize, n: usize, start: u64) -> usize
-    requires { ⌜ DigitString (now digits) ⌝ }
+    requires { ⌜ DigitString canonicalWidth (now digits) ⌝ }
     requires { ⌜ from ≤ n ⌝ }
     requires { ⌜ n ≤ length (now digits) ⌝ }
     requires { ⌜ start ≡ sumAt (now digits) from ⌝ }
@@ -65,10 +65,10 @@ fn highest(digits: &[u8], from: usize, n: usize, start: u64) -> usize
 // The length by the digits from `from` on alone, where each carry into that place comes to the same;
 // else 0. The sum lies from `low` to `high`.
 fn by_top(digits: &[u8], from: usize, n: usize) -> usize
-    requires { ⌜ DigitString (now digits) ⌝ }
+    requires { ⌜ DigitString canonicalWidth (now digits) ⌝ }
     requires { ⌜ from ≤ n ⌝ }
     requires { ⌜ Significant (now digits) n ⌝ }
-    ensures { λ r. ⌜ (0 < r → r ≡ length (cleaning (now (digits .entry)))) ⌝ }
+    ensures { λ r. ⌜ (0 < r → r ≡ length (canonical (stringValue (now (digits .entry))))) ⌝ }
 {
     let mut i = from;
     let mut low = raised_at(digits, i);
@@ -87,8 +87,8 @@ fn by_top(digits: &[u8], from: usize, n: usize) -> usize
 
 // How many digits the canonical string has.
 pub fn count(digits: &[u8]) -> usize
-    requires { ⌜ DigitString (now digits) ⌝ }
-    ensures { λ r. ⌜ r ≡ length (cleaning (now (digits .entry))) ⌝ }
+    requires { ⌜ DigitString canonicalWidth (now digits) ⌝ }
+    ensures { λ r. ⌜ r ≡ length (canonical (stringValue (now (digits .entry)))) ⌝ }
 {
     let n = significant(digits);
     if NEAR < n {
@@ -102,9 +102,9 @@ pub fn count(digits: &[u8]) -> usize
 
 // Writes the first `count` canonical digits.
 pub fn write(digits: &[u8], out: &mut [u8], count: usize)
-    requires { ⌜ DigitString (now digits) ⌝ }
+    requires { ⌜ DigitString canonicalWidth (now digits) ⌝ }
     requires { ⌜ count ≤ length (now out) ⌝ }
-    ensures { λ _. ⌜ now (out .exit) ≡ tabulate (placeByte (now (digits .entry))) count ++ drop count (now (out .entry)) ⌝ }
+    ensures { λ _. ⌜ now (out .exit) ≡ tabulate (placeByte (canonical (stringValue (now (digits .entry))))) count ++ drop count (now (out .entry)) ⌝ }
 {
     let mut sum = raised_at(digits, 0) + 1;
     let mut i = 0;

@@ -1,15 +1,15 @@
--- `cleaning::carry::by_top` meets its contract: the sum at i lies from `low` to `high`. Assumes nothing.
+-- `cleaning_digits::by_top` meets its contract: the sum at i lies from `low` to `high`. Assumes nothing.
 use mathlib.Core.Path.{_≡_}
 use Prim.Native.Nat.{_≤_, _-_, _+_, _*_}
 use native.Mathlib.Numerals.{add-one}
 use native.Mathlib.Omega.{arith}
 use Rattle.signed_digits.specs.Naf.{rest}
-use Rattle.cleaning.specs.Internal.{raisedAt, sumAt}
-use Rattle.cleaning.proofs.Places.{rest-grows, sum-small}
-use Rattle.cleaning.proofs.Count.{count-is}
+use Rattle.cleaning_digits.specs.Sums.{raisedAt, sumAt}
+use Rattle.cleaning_digits.proofs.Places.{rest-grows, sum-small}
+use Rattle.cleaning_digits.proofs.Length.{count-is}
 use borrow.Author.Needs.{needs}
-use Rattle.cleaning.proofs.carry.by_top.Statement.{statement}
-use Rattle.cleaning.proofs.carry.by_top.Tie as tie
+use Rattle.cleaning_digits.proofs.by_top.Statement.{statement}
+use Rattle.cleaning_digits.proofs.by_top.Tie as tie
 
 abbrev Inv-loop : tie.InvT-loop
 Inv-loop digits from n i₀ low₀ high₀ i low high = (i ≤ n) × (low ≤ 4) × (high ≤ 4) × (low ≤ sumAt digits i) × (sumAt digits i ≤ high)

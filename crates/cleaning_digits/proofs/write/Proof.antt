@@ -1,4 +1,4 @@
--- `cleaning::carry::write` meets its contract: after i turns the first i digits stand. Assumes nothing.
+-- `cleaning_digits::write` meets its contract: after i turns the first i digits stand. Assumes nothing.
 use mathlib.Core.Path.{_≡_}
 use mathlib.Core.List.{_++_}
 use Prim.Native.Nat.{ℕ, _≤_, _-_, _+_, _*_, _%_}
@@ -7,16 +7,18 @@ use native.Mathlib.Omega.{arith}
 use lib.ListN.{length, drop, set}
 use Rattle.integers.specs.Tabulate.{tabulate}
 use Rattle.integers.proofs.Tabulate.{tabulate-more}
-use Rattle.signed_digits.specs.Naf.{rest}
-use Rattle.cleaning.specs.Internal.{raisedAt, sumAt, pairAt, placeByte}
-use Rattle.cleaning.proofs.Places.{place-byte}
+use Rattle.signed_digits.specs.Naf.{rest, canonical}
+use Rattle.digit_strings.specs.Admission.{stringValue}
+use Rattle.digit_strings.specs.Places.{placeByte}
+use Rattle.cleaning_digits.specs.Sums.{raisedAt, sumAt, pairAt}
+use Rattle.cleaning_digits.proofs.Places.{place-byte}
 use borrow.Author.Needs.{needs}
-use Rattle.cleaning.proofs.carry.write.Statement.{statement}
-use Rattle.cleaning.proofs.carry.write.Tie as tie
+use Rattle.cleaning_digits.proofs.write.Statement.{statement}
+use Rattle.cleaning_digits.proofs.write.Tie as tie
 
 abbrev Inv-loop : tie.InvT-loop
 Inv-loop digits out₀ count sum₀ i₀ out sum i =
-    (i ≤ count) × (length out ≡ length out₀) × (sum ≤ 4) × (sum ≡ sumAt digits i) × (out ≡ tabulate (placeByte digits) i ++ drop i out₀)
+    (i ≤ count) × (length out ≡ length out₀) × (sum ≤ 4) × (sum ≡ sumAt digits i) × (out ≡ tabulate (placeByte (canonical (stringValue digits))) i ++ drop i out₀)
 
 abbrev μ-loop : tie.MeasureT-loop
 μ-loop digits out₀ count sum₀ i₀ out sum i = count - i
@@ -79,9 +81,9 @@ loop-again c =
     let p : pair ≡ pairAt s (loop .i) = rw (loop .inv .3, a, add-one (loop .i)) in
     let r : c .rest-of .result ≡ rest 2 pair = c .rest-of .ensures .0 in
     let n : c .rest-of .result ≡ sumAt s (loop .i + 1) = rw (r, p, add-one (loop .i)) in
-    let b : (256 + pair - 2 * c .rest-of .result) % 256 ≡ placeByte s (loop .i) = rw (p, n, add-one (loop .i)) (place-byte s (start .pre .0) (loop .i)) in
-    let e : set (loop .out) (loop .i) ((256 + pair - 2 * c .rest-of .result) % 256) ≡ tabulate (placeByte s) (loop .i + 1) ++ drop (loop .i + 1) (start .args .out .now) =
-    rw (b, loop .inv .4) (tabulate-more (placeByte s) (start .args .out .now) (loop .i) (search needs)) in
+    let b : (256 + pair - 2 * c .rest-of .result) % 256 ≡ placeByte (canonical (stringValue s)) (loop .i) = rw (p, n, add-one (loop .i)) (place-byte s (start .pre .0) (loop .i)) in
+    let e : set (loop .out) (loop .i) ((256 + pair - 2 * c .rest-of .result) % 256) ≡ tabulate (placeByte (canonical (stringValue s))) (loop .i + 1) ++ drop (loop .i + 1) (start .args .out .now) =
+    rw (b, loop .inv .4) (tabulate-more (placeByte (canonical (stringValue s))) (start .args .out .now) (loop .i) (search needs)) in
     (search needs, search needs, search needs, n, e)
 
 same-length : tie.Need-same-length Inv-loop μ-loop

@@ -1,101 +1,81 @@
--- What document 01 promises of read back, as theorems about the definitions that its statement cites. Assumes nothing.
-use mathlib.Core.Path.{_≡_, refl, sym, ap}
+-- What is promised of read back (docs/RULES.md, "Calls", "Refusals" and "Memory"), as theorems about the definitions that its statement cites. Assumes nothing.
+use mathlib.Core.Path.{_≡_, refl, sym, ap, _∙_}
 use mathlib.Core.Logic.{_↔_, _⊎_, inl, inr}
-use mathlib.Core.Bool.{Bool, true, false}
 use mathlib.Core.List.{List, [], _∷_, _++_}
 use Prim.Native.Nat.{ℕ, zero, suc, _<_, _≤_}
-use borrow.Author.Tests.{ltb-true, ltb-false}
 use native.Mathlib.Omega.{arith}
-use lib.Dec.{ltb}
 use lib.IntN.{ℤ, pos, negsuc, negℤ, natAbs}
-use lib.ListN.{length, replicate}
-use Rattle.rules.specs.Limits.{numberBytes, stringDigits}
-use Rattle.rules.specs.Memory.{leaves}
-use Rattle.rules.specs.Outcome.{Outcome, refused, answered}
-use Rattle.rules.specs.declared.Written.the-variants.{Length}
+use lib.ListN.{length, drop, replicate}
+use Rattle.rules.specs.Limits.{stringDigits}
+use Rattle.rules.specs.Outcome.{Outcome, refused, answered, outcomeOf}
+use Rattle.rules.specs.declared.Written.{Written}
+use Rattle.rules.specs.declared.Written.the-variants.{Length, Refused}
+use Rattle.rules.proofs.Memory as memory
 use Rattle.integers.specs.Positional.{bytesValue, bytesOf}
+use Rattle.integers.specs.Signed.{signOf}
 use Rattle.integers.proofs.Positional.{Below, positional-zeros}
 use Rattle.integers.proofs.Shortest.{TopByte, bytes-zero, bytes-value, bytes-below, bytes-top, bytes-only}
-use Rattle.digit_strings.specs.Checked.{firstBad, stringValue, DigitString}
-use Rattle.digit_strings.proofs.Scan.{all-digits}
+use Rattle.numbers.specs.Admission.{Admitted}
+use Rattle.digit_strings.specs.Admission.{canonicalWidth, stringVerdict, stringValue, DigitString, LowestBad}
+use Rattle.digit_strings.proofs.Bytes.{naf-digits, naf-bytes-value}
+use Rattle.digit_strings.proofs.Given as string
 use Rattle.recoding.specs.Recode.{recoding}
-use Rattle.integers.specs.Signed.{signOf}
-use Rattle.reading.specs.declared.ReadBack.the-variants.{Value}
-use Rattle.reading.specs.ReadBack.{sizeBytes, readBackAnswer, readBackBuffer, readBackOutcome}
-use Rattle.reading.proofs.Outcomes.{too-long, not-digits, no-room, fitting}
-use Rattle.reading.proofs.Recoded.{recoded-string, recoded-value}
+use Rattle.recoding.proofs.Promises.{recoding-length}
+use Rattle.reading.specs.ReadBack.{sizeBytes, readLength, withSign, readBackAnswer, readBackBuffer, readBackOutcome}
+
+-- the sign goes with the length
+abbrev values : List ℕ → ℕ → List ℕ
+values digits n = signOf (stringValue digits) ∷ n ∷ []
+
+with-sign : (sign : ℕ) (w : Written) → readBackOutcome (withSign sign w) ≡ outcomeOf (λ n. sign ∷ n ∷ []) w
+with-sign sign (Length n) = refl
+with-sign sign (Refused r) = refl
 
 -- ---- each refusal is given exactly when the rules say, and no other
 
 module _ (digits : List ℕ) (room : ℕ) where
-  -- the outcome, in document 01's numbers
+  -- the outcome, in the rules' numbers
   abbrev pub outcome : Outcome
   outcome = readBackOutcome (readBackAnswer digits room)
 
-  data Case : Type 0 where
-    long : stringDigits < length digits → outcome ≡ refused 5 0 → Case
-    bad : length digits ≤ stringDigits → firstBad digits < length digits → outcome ≡ refused 4 (firstBad digits) → Case
-    small : DigitString digits → room < length (sizeBytes digits) → outcome ≡ refused 6 (length (sizeBytes digits)) → Case
-    fine : DigitString digits → length (sizeBytes digits) ≤ room → outcome ≡ answered (signOf (stringValue digits) ∷ length (sizeBytes digits) ∷ []) → Case
+  outcome-is : outcome ≡ string.outcome (values digits) canonicalWidth digits (sizeBytes digits) room
+  outcome-is = with-sign (signOf (stringValue digits)) (readLength digits room)
 
-  case : Case
-  case =
-      go (ltb stringDigits (length digits)) refl (ltb (firstBad digits) (length digits)) refl (ltb room (length (sizeBytes digits))) refl
-    where
-      go : (t : Bool) → ltb stringDigits (length digits) ≡ t → (u : Bool) → ltb (firstBad digits) (length digits) ≡ u → (v : Bool) → ltb room (length (sizeBytes digits)) ≡ v → Case
-      go true e u f v g = let h = ltb-true _ _ e in long h (rw (too-long digits room h))
-      go false e true f v g =
-          let h = ltb-false _ _ e in
-          let l = ltb-true _ _ f in
-          bad h l (rw (not-digits digits room h l))
-      go false e false f true g =
-          let d = all-digits digits (ltb-false _ _ e) (ltb-false _ _ f) in
-          let h = ltb-true _ _ g in
-          small d h (rw (no-room digits room d h))
-      go false e false f false g =
-          let d = all-digits digits (ltb-false _ _ e) (ltb-false _ _ f) in
-          let h = ltb-false _ _ g in
-          fine d h (rw (fitting digits room d h))
+  -- each outcome, with what it is given for
+  abbrev pub Given : Outcome → Type 0
+  Given = string.Given (values digits) canonicalWidth digits (sizeBytes digits) room
 
-  -- 5, place 0: the digit string is longer than the limit
+  -- every outcome is one of these
+  pub no-other : Given outcome
+  no-other = rw outcome-is (string.no-other (values digits) canonicalWidth digits (sizeBytes digits) room)
+
+  -- 5, place 0: the string is longer than the limit
   pub refuses-5 : outcome ≡ refused 5 0 ↔ stringDigits < length digits
-  refuses-5 = (λ e. to case e, λ h. rw (too-long digits room h))
-    where
-      to : Case → outcome ≡ refused 5 0 → stringDigits < length digits
-      to (long h o) e = h
-      to (bad h l o) e = let z : _≡_ {A = ℕ} 4 5 = cc in absurd (omega arith)
-      to (small d h o) e = let z : _≡_ {A = ℕ} 6 5 = cc in absurd (omega arith)
-      to (fine d h o) e = let z : _≡_ {A = ℕ} 0 1 = cc in absurd (omega arith)
+  refuses-5 = rw outcome-is (string.refuses-5 (values digits) canonicalWidth digits (sizeBytes digits) room)
 
-  -- 4, at the lowest place whose byte is other than 00, 01, FF
-  pub refuses-4 : (p : ℕ) → outcome ≡ refused 4 p ↔ (length digits ≤ stringDigits) × (firstBad digits < length digits) × (p ≡ firstBad digits)
-  refuses-4 p = (λ e. to case e, λ h. rw (not-digits digits room (h .0) (h .1), h .2))
-    where
-      to : Case → outcome ≡ refused 4 p → (length digits ≤ stringDigits) × (firstBad digits < length digits) × (p ≡ firstBad digits)
-      to (long h o) e = let z : _≡_ {A = ℕ} 5 4 = cc in absurd (omega arith)
-      to (bad h l o) e = (h, l, cc)
-      to (small d h o) e = let z : _≡_ {A = ℕ} 6 4 = cc in absurd (omega arith)
-      to (fine d h o) e = let z : _≡_ {A = ℕ} 0 1 = cc in absurd (omega arith)
+  -- 4, place the lowest byte that is no digit
+  pub refuses-4 : (p : ℕ) → outcome ≡ refused 4 p ↔ (length digits ≤ stringDigits) × LowestBad canonicalWidth digits p
+  refuses-4 = rw outcome-is (string.refuses-4 (values digits) canonicalWidth digits (sizeBytes digits) room)
 
   -- 6, place the bytes needed: the size has more bytes than are lent
-  pub refuses-6 : (p : ℕ) → outcome ≡ refused 6 p ↔ DigitString digits × (room < length (sizeBytes digits)) × (p ≡ length (sizeBytes digits))
-  refuses-6 p = (λ e. to case e, λ h. rw (no-room digits room (h .0) (h .1), h .2))
-    where
-      to : Case → outcome ≡ refused 6 p → DigitString digits × (room < length (sizeBytes digits)) × (p ≡ length (sizeBytes digits))
-      to (long h o) e = let z : _≡_ {A = ℕ} 5 6 = cc in absurd (omega arith)
-      to (bad h l o) e = let z : _≡_ {A = ℕ} 4 6 = cc in absurd (omega arith)
-      to (small d h o) e = (d, h, cc)
-      to (fine d h o) e = let z : _≡_ {A = ℕ} 0 1 = cc in absurd (omega arith)
+  pub refuses-6 : (p : ℕ) → outcome ≡ refused 6 p ↔ DigitString canonicalWidth digits × (room < length (sizeBytes digits)) × (p ≡ length (sizeBytes digits))
+  refuses-6 = rw outcome-is (string.refuses-6 (values digits) canonicalWidth digits (sizeBytes digits) room)
 
   -- otherwise the sign and the number of bytes are answered
-  pub answers : (vs : List ℕ) → outcome ≡ answered vs ↔ DigitString digits × (length (sizeBytes digits) ≤ room) × (vs ≡ signOf (stringValue digits) ∷ length (sizeBytes digits) ∷ [])
-  answers vs = (λ e. to case e, λ h. rw (fitting digits room (h .0) (h .1), h .2))
-    where
-      to : Case → outcome ≡ answered vs → DigitString digits × (length (sizeBytes digits) ≤ room) × (vs ≡ signOf (stringValue digits) ∷ length (sizeBytes digits) ∷ [])
-      to (long h o) e = let z : _≡_ {A = ℕ} 0 1 = cc in absurd (omega arith)
-      to (bad h l o) e = let z : _≡_ {A = ℕ} 0 1 = cc in absurd (omega arith)
-      to (small d h o) e = let z : _≡_ {A = ℕ} 0 1 = cc in absurd (omega arith)
-      to (fine d h o) e = (d, h, cc)
+  pub answers : (vs : List ℕ)
+      → outcome ≡ answered vs ↔ DigitString canonicalWidth digits × (length (sizeBytes digits) ≤ room) × (vs ≡ signOf (stringValue digits) ∷ length (sizeBytes digits) ∷ [])
+  answers = rw outcome-is (string.answers (values digits) canonicalWidth digits (sizeBytes digits) room)
+
+-- ---- memory
+
+module _ (digits out : List ℕ) where
+  -- a refusal changes nothing
+  pub refused-leaves : (n p : ℕ) → outcome digits (length out) ≡ refused n p → readBackBuffer digits out ≡ out
+  refused-leaves = rw (outcome-is digits (length out)) (memory.refused-leaves (values digits) (stringVerdict canonicalWidth digits) (sizeBytes digits) out)
+
+  -- on success only the answer's bytes change, and those above stay
+  pub answered-leaves : (vs : List ℕ) → outcome digits (length out) ≡ answered vs → readBackBuffer digits out ≡ sizeBytes digits ++ drop (length (sizeBytes digits)) out
+  answered-leaves = rw (outcome-is digits (length out)) (memory.answered-leaves (values digits) (stringVerdict canonicalWidth digits) (sizeBytes digits) out)
 
 -- ---- the value read
 
@@ -143,20 +123,23 @@ reads-zero digits z = (rw z, rw (z, bytes-zero))
 
 -- ---- what recode writes
 
-module _ (number : List ℕ) (short : length number ≤ numberBytes) (bytes : Below 256 number) where
+module _ (number : List ℕ) (admitted : Admitted number) (bytes : Below 256 number) where
   -- a digit string of the number's value
-  pub recoding-reads : DigitString (recoding number) × (stringValue (recoding number) ≡ pos (bytesValue number))
-  recoding-reads = (recoded-string number short bytes, recoded-value number)
+  pub recoding-reads : DigitString canonicalWidth (recoding number) × (stringValue (recoding number) ≡ pos (bytesValue number))
+  unfolding recoding
+  recoding-reads =
+      let z : ℤ = pos (bytesValue number) in
+      (naf-digits canonicalWidth (omega arith) z (omega arith) (omega (arith, recoding-length number bytes, admitted .short)), naf-bytes-value canonicalWidth (omega arith) z (omega arith))
 
   -- read back with room enough, it gives the number's bytes
   pub reads-recoding : (out : List ℕ) → length (bytesOf (bytesValue number)) ≤ length out
-      → (readBackAnswer (recoding number) (length out) ≡ Value 0 (length (bytesOf (bytesValue number))))
-      × (readBackBuffer (recoding number) out ≡ leaves (Length (length (bytesOf (bytesValue number)))) (bytesOf (bytesValue number)) out)
+      → (outcome (recoding number) (length out) ≡ answered (0 ∷ length (bytesOf (bytesValue number)) ∷ []))
+      × (readBackBuffer (recoding number) out ≡ bytesOf (bytesValue number) ++ drop (length (bytesOf (bytesValue number))) out)
   unfolding sizeBytes
   reads-recoding out h =
-      let v = recoded-value number in
-      let o = fitting (recoding number) (length out) (recoded-string number short bytes) (rw v h) in
-      (rw (o, v), rw (o, v))
+      let v = recoding-reads .1 in
+      let o = answers (recoding number) (length out) (0 ∷ length (bytesOf (bytesValue number)) ∷ []) .1 (recoding-reads .0, rw v h, rw v) in
+      (o, answered-leaves (recoding number) out _ o ∙ rw v)
 
 -- these are the number itself, high zero bytes aside
 pub number-bytes : (number : List ℕ) (n : ℕ) → Below 256 number → TopByte number → bytesOf (bytesValue (number ++ replicate n 0)) ≡ number

@@ -1,15 +1,15 @@
--- Read back (document 01, "The calls"): the sign and the size of a digit string's value. Refusals in the order 5, 4, 6.
+-- Read back (docs/RULES.md, "Calls"): the sign and the size of a digit string's value. Refusals in the order 5, 4, 6.
 use Prim.Native.Nat.{ℕ}
 use mathlib.Core.List.{List, [], _∷_}
 use lib.IntN.{natAbs}
 use lib.ListN.{length}
-use Rattle.rules.specs.Memory.{fitted, leaves}
+use Rattle.rules.specs.Memory.{written, leaves}
 use Rattle.rules.specs.Outcome.{Outcome, answered, refusal}
 use Rattle.rules.specs.declared.Written.{Written}
 use Rattle.rules.specs.declared.Written.the-variants.{Length, Refused as NotWritten}
 use Rattle.integers.specs.Positional.{bytesOf}
 use Rattle.integers.specs.Signed.{signOf}
-use Rattle.digit_strings.specs.Checked.{stringValue, checked}
+use Rattle.digit_strings.specs.Admission.{canonicalWidth, stringVerdict, stringValue}
 use Rattle.reading.specs.declared.ReadBack.{ReadBack}
 use Rattle.reading.specs.declared.ReadBack.the-variants.{Value, Refused}
 
@@ -19,7 +19,7 @@ sizeBytes digits = bytesOf (natAbs (stringValue digits))
 
 -- how many bytes are written, or why none
 abbrev pub readLength : List ℕ → ℕ → Written
-readLength digits room = checked NotWritten digits (fitted (sizeBytes digits) room)
+readLength digits room = written (stringVerdict canonicalWidth digits) (sizeBytes digits) room
 
 -- the answer: the sign and how many bytes
 abbrev pub withSign : ℕ → Written → ReadBack
@@ -33,7 +33,7 @@ readBackAnswer digits room = withSign (signOf (stringValue digits)) (readLength 
 abbrev pub readBackBuffer : List ℕ → List ℕ → List ℕ
 readBackBuffer digits out = leaves (readLength digits (length out)) (sizeBytes digits) out
 
--- the answer in document 01's numbers
+-- the answer in the rules' numbers
 abbrev pub readBackOutcome : ReadBack → Outcome
 readBackOutcome (Value sign n) = answered (sign ∷ n ∷ [])
 readBackOutcome (Refused r) = refusal r

@@ -1,113 +1,20 @@
 // Reading a digit string back: the sign and the size of its value.
-//
-// Each digit is raised by one, so that none is below zero. The size is the difference between the
-// sum of these and that of as many zeros, raised too, taken a byte at a time with a borrow. The
-// sign, known first, says which of the two is the larger.
-use digit_strings::first_bad;
+use digit_strings::CANONICAL_WIDTH;
+use digit_strings::string_verdict;
 use integers::significant;
+use reading_digits::copy;
+use reading_digits::sign_of;
+use reading_digits::size_of;
 use rules::Refusal;
-use rules::STRING_DIGITS;
+use rules::Verdict;
 ghost use mathlib.Core.Path.{_≡_};
-ghost use mathlib.Core.List.{_++_};
-ghost use Prim.Native.Nat.{_+_, _<_, _≤_};
-ghost use lib.IntN.{natAbs};
-ghost use lib.ListN.{length, take, drop};
-ghost use Rattle.integers.specs.Positional.{bytesValue, Significant};
-ghost use Rattle.digit_strings.specs.Checked.{stringValue, DigitString};
-ghost use Rattle.integers.specs.Signed.{signOf};
+ghost use lib.ListN.{length};
 ghost use Rattle.reading.specs.ReadBack.{readBackAnswer, readBackBuffer};
-ghost use Rattle.reading.specs.Internal.{raisedSum, raisedZeros, bySign};
-
-// Enough bytes for the size of every digit string within the limit.
-const SIZE_BYTES: usize = (STRING_DIGITS + 7) / 8;
 
 // What read back answers: the sign, 1 below zero, and how many bytes of size it wrote.
 pub enum ReadBack {
     Value { sign: u8, length: usize },
     Refused(Refusal),
-}
-
-// The sign of a string of `count` significant digits: that of the highest, since those below it
-// come to less.
-fn sign_of(digits: &[u8], count: usize) -> u8
-    requires { ⌜ DigitString (now digits) ⌝ }
-    requires { ⌜ Significant (now digits) count ⌝ }
-    ensures { λ r. ⌜ r ≡ signOf (stringValue (now (digits .entry))) ⌝ }
-{
-    if count == 0 {
-        return 0;
-    }
-    digits[count - 1] / 128
-}
-
-// What the `count` digits from `from` on come to, each raised by one, the lowest at place 0.
-fn raised_sum(digits: &[u8], from: usize, count: usize) -> u64
-    requires { ⌜ DigitString (now digits) ⌝ }
-    requires { ⌜ count ≤ 8 ⌝ }
-    requires { ⌜ from + count ≤ length (now digits) ⌝ }
-    ensures { λ r. ⌜ r ≡ raisedSum (now (digits .entry)) from count ⌝ }
-{
-    let mut sum: u64 = 0;
-    let mut i = count;
-    while 0 < i {
-        sum = sum * 2 + (digits[from + (i - 1)] as u64 + 1) % 256;
-        i -= 1;
-    }
-    sum
-}
-
-// What these digits come to in size, plus 256, less the borrow.
-fn byte_of(digits: &[u8], from: usize, count: usize, sign: u8, borrow: u64) -> u64
-    requires { ⌜ DigitString (now digits) ⌝ }
-    requires { ⌜ count ≤ 8 ⌝ }
-    requires { ⌜ from + count ≤ length (now digits) ⌝ }
-    requires { ⌜ borrow ≤ 1 ⌝ }
-    ensures small { λ r. ⌜ r < 512 ⌝ }
-    ensures value { λ r. ⌜ r + (bySign sign (raisedZeros count) (raisedSum (now (digits .entry)) from count) + borrow) ≡ 256 + bySign sign (raisedSum (now (digits .entry)) from count) (raisedZeros count) ⌝ }
-{
-    let sum = raised_sum(digits, from, count);
-    let zeros = (1u64 << count) - 1;
-    if sign == 0 {
-        256 + sum - zeros - borrow
-    } else {
-        256 + zeros - sum - borrow
-    }
-}
-
-// The size of a string of `count` significant digits.
-fn size_of(digits: &[u8], count: usize, sign: u8) -> [u8; SIZE_BYTES]
-    requires { ⌜ DigitString (now digits) ⌝ }
-    requires { ⌜ Significant (now digits) count ⌝ }
-    requires { ⌜ sign ≡ signOf (stringValue (now digits)) ⌝ }
-    ensures { λ r. ⌜ bytesValue r ≡ natAbs (stringValue (now (digits .entry))) ⌝ }
-{
-    let mut size = [0u8; SIZE_BYTES];
-    let mut borrow: u64 = 0;
-    let mut k = 0;
-    while 8 * k + 8 <= count {
-        let byte = byte_of(digits, 8 * k, 8, sign, borrow);
-        size[k] = (byte % 256) as u8;
-        borrow = 1 - byte / 256;
-        k += 1;
-    }
-    if 8 * k < count {
-        let byte = byte_of(digits, 8 * k, count - 8 * k, sign, borrow);
-        size[k] = (byte % 256) as u8;
-    }
-    size
-}
-
-// Copies the first `count` bytes.
-fn copy(from: &[u8], count: usize, out: &mut [u8])
-    requires { ⌜ count ≤ length (now from) ⌝ }
-    requires { ⌜ count ≤ length (now out) ⌝ }
-    ensures { λ _. ⌜ now (out .exit) ≡ take count (now (from .entry)) ++ drop count (now (out .entry)) ⌝ }
-{
-    let mut i = 0;
-    while i < count {
-        out[i] = from[i];
-        i += 1;
-    }
 }
 
 // Writes the size of a digit string's value, with no high zero byte, least significant first;
@@ -116,12 +23,8 @@ pub fn read_back(digits: &[u8], out: &mut [u8]) -> ReadBack
     ensures answer { λ r. ⌜ r ≡ readBackAnswer (now (digits .entry)) (length (now (out .entry))) ⌝ }
     ensures buffer { λ r. ⌜ now (out .exit) ≡ readBackBuffer (now (digits .entry)) (now (out .entry)) ⌝ }
 {
-    if STRING_DIGITS < digits.len() {
-        return ReadBack::Refused(Refusal::StringTooLong);
-    }
-    let bad = first_bad(digits);
-    if bad < digits.len() {
-        return ReadBack::Refused(Refusal::NotADigit(bad));
+    if let Verdict::Failed(refusal) = string_verdict(digits, CANONICAL_WIDTH) {
+        return ReadBack::Refused(refusal);
     }
     let count = significant(digits);
     let sign = sign_of(digits, count);

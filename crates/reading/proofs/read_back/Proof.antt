@@ -1,53 +1,54 @@
 -- `reading::read_back` meets its contract: at each return the tests that led there say which outcome holds. Assumes nothing.
-use mathlib.Core.Path.{_≡_}
-use native.Mathlib.Omega.{arith}
-use lib.ListN.{length, getD, take}
+use mathlib.Core.Path.{_≡_, sym, _∙_}
+use mathlib.Core.List.{List, _++_}
+use Prim.Native.Nat.{ℕ}
+use lib.ListN.{length, getD, take, drop}
 use mir.Syntax.{w8}
 use mir.Val.{Fits}
-use Rattle.digit_strings.specs.Checked.{DigitString}
-use Rattle.digit_strings.proofs.Scan.{all-digits}
+use Rattle.rules.specs.declared.Verdict.the-variants.{Passed}
+use Rattle.digit_strings.specs.Admission.{canonicalWidth, stringVerdict, DigitString}
+use Rattle.digit_strings.proofs.Tests.{digit-string-is}
 use Rattle.reading.specs.ReadBack.{sizeBytes}
-use Rattle.reading.proofs.Outcomes.{size-is, gives-5, gives-4, gives-6, gives-value}
+use Rattle.reading.proofs.Outcomes.{size-is, no-room, all-fits}
 use borrow.Author.Needs.{needs}
 use Rattle.reading.proofs.read_back.Statement.{statement}
 use Rattle.reading.proofs.read_back.Tie as tie
 
 -- past refusals 5 and 4
-checked : (c : tie.Else2) → DigitString (c .before .before .before .before .before .args .digits .now)
-checked c =
-    all-digits (c .before .before .before .before .before .args .digits .now) (search needs) (omega (arith, c .before .first-bad .ensures))
+passed : (c : tie.After-enum-told) → stringVerdict canonicalWidth (c .before .before .before .before .before .args .digits .now) ≡ Passed
+passed c = sym (c .before .before .string-verdict .ensures) ∙ c .enum-told .given .1
 
--- the significant bytes are those of the size
+string : (c : tie.After-enum-told) → DigitString canonicalWidth (c .before .before .before .before .before .args .digits .now)
+string c = digit-string-is _ _ .0 (passed c)
+
+-- the bytes of the size
 sized : (c : tie.After-significant2)
     → (take (c .significant2 .result) (c .before .before .size-of .result) ≡ sizeBytes (c .before .before .before .before .before .before .before .before .before .before .args .digits .now))
-    × (c .significant2 .result ≡ length (take (c .significant2 .result) (c .before .before .size-of .result)))
+    × (c .significant2 .result ≡ length (sizeBytes (c .before .before .before .before .before .before .before .before .before .before .args .digits .now)))
 sized c =
     let size = c .before .before .size-of in
-    let digits = c .before .before .before .before .before .before .before .before .before .before .args .digits .now in
-    size-is digits (size .result) (c .significant2 .result) (size .ensures) (λ i. let f : Fits w8 (getD (size .result) i 0) = search needs in f .fits) (c .significant2 .ensures)
+    size-is _ (size .result) (c .significant2 .result) (size .ensures) (λ i. let f : Fits w8 (getD (size .result) i 0) = search needs in f .fits) (c .significant2 .ensures)
+
+string-verdict-requires : tie.Need-string-verdict-requires
+string-verdict-requires c κs = search needs
+
+enum-known-refusal : tie.Need-enum-known-refusal
+enum-known-refusal c = search needs
 
 returns : tie.Need-returns
-returns c =
-    let args = c .before .before .before .args in
-    gives-5 (args .digits .now) (args .out .now) (search needs)
+returns c = let e = sym (c .before .before .before .string-verdict .ensures) ∙ c .before .refusal .given .1 in (rw e, rw e)
 
-first-bad-requires : tie.Need-first-bad-requires
-first-bad-requires c κs = search needs
-
-returns-2 : tie.Need-returns-2
-returns-2 c =
-    let args = c .before .before .before .before .before .args in
-    let bad = c .before .first-bad in
-    gives-4 (args .digits .now) (args .out .now) (bad .result) (bad .ensures) (search needs) (search needs)
+enum-told : tie.Need-enum-told
+enum-told c = search needs
 
 significant-requires : tie.Need-significant-requires
 significant-requires c κs = search needs
 
 sign-of-requires : tie.Need-sign-of-requires
-sign-of-requires c κs = (checked (c .before), c .significant .ensures)
+sign-of-requires c κs = (string (c .before), c .significant .ensures)
 
 size-of-requires : tie.Need-size-of-requires
-size-of-requires c κs = (checked (c .before .before), (c .before .significant .ensures, c .sign-of .ensures))
+size-of-requires c κs = (string (c .before .before), (c .before .significant .ensures, c .sign-of .ensures))
 
 slice-aggregate-significant : tie.Need-slice-aggregate-significant
 slice-aggregate-significant c = search needs
@@ -55,13 +56,8 @@ slice-aggregate-significant c = search needs
 significant-requires-2 : tie.Need-significant-requires-2
 significant-requires-2 c κs = search needs
 
-returns-3 : tie.Need-returns-3
-returns-3 c =
-    let found = c .before in
-    let string = found .before .before .before .before .before in
-    let args = string .before .before .before .before .before .args in
-    let size = sized found in
-    gives-6 (args .digits .now) (args .out .now) (checked string) _ (found .significant2 .result) (size .0) (size .1) (search needs)
+returns-2 : tie.Need-returns-2
+returns-2 c = let found : tie.After-significant2 = search in no-room _ _ _ (cc) (sized found .1) (search needs)
 
 slice-aggregate-copy : tie.Need-slice-aggregate-copy
 slice-aggregate-copy c = search needs
@@ -72,29 +68,33 @@ copy-requires c κs = search needs
 same-length : tie.Need-same-length
 same-length c = search needs
 
-returns-4 : tie.Need-returns-4
-returns-4 c =
+returns-3 : tie.Need-returns-3
+returns-3 c =
     let found = c .before .before .before .before .before .before in
-    let string = found .before .before .before .before .before in
-    let args = string .before .before .before .before .before .args in
+    let n = found .significant2 in
+    let told = found .before .before .before .before .before in
     let sign = found .before .before .before .sign-of in
-    let size = sized found in
-    gives-value (args .digits .now) (args .out .now) (checked string) _ (found .significant2 .result) (size .0) (size .1) (sign .result) _ (sign .ensures) (search needs) (c .before .before .copy .ensures)
+    let args = told .before .before .before .before .before .args in
+    let bytes : List ℕ = take (n .result) (found .before .before .size-of .result) in
+    let o = all-fits (args .digits .now) (args .out .now) (n .result) (passed told) (sized found .1) (sign .result) bytes (sign .ensures) (sized found .0) (search needs) in
+    let w : _ ≡ bytes ++ drop (n .result) (args .out .now) = c .before .before .copy .ensures in
+    (o .0, w ∙ o .1)
 
 pub read-back-spec : {M : Type 1} → statement M
 read-back-spec =
     tie.close
     (tie.spec
+    string-verdict-requires
+    enum-known-refusal
     returns
-    first-bad-requires
-    returns-2
+    enum-told
     significant-requires
     sign-of-requires
     size-of-requires
     slice-aggregate-significant
     significant-requires-2
-    returns-3
+    returns-2
     slice-aggregate-copy
     copy-requires
     same-length
-    returns-4)
+    returns-3)

@@ -1,4 +1,4 @@
--- `reading::copy` meets its contract: after i turns the first i bytes stand. Assumes nothing.
+-- `reading_digits::copy` meets its contract: after i turns the first i bytes stand. Assumes nothing.
 use mathlib.Core.Path.{_≡_}
 use mathlib.Core.List.{List, _++_}
 use Prim.Native.Nat.{ℕ, _≤_, _<_, _-_, _+_}
@@ -8,8 +8,8 @@ use native.Mathlib.Omega.{arith}
 use lib.ListN.{length, getD, set, take, drop}
 use lib.Seq.{paste-suc}
 use borrow.Author.Needs.{needs}
-use Rattle.reading.proofs.copy.Statement.{statement}
-use Rattle.reading.proofs.copy.Tie as tie
+use Rattle.reading_digits.proofs.copy.Statement.{statement}
+use Rattle.reading_digits.proofs.copy.Tie as tie
 
 -- one byte more
 more : (from out : List ℕ) (i : ℕ) → i < length from → i < length out → set (take i from ++ drop i out) i (getD from i 0) ≡ take (i + 1) from ++ drop (i + 1) out

@@ -1,14 +1,16 @@
--- `reading::raised_sum` meets its contract: the sum is that of the digits from i on. Assumes nothing.
+-- `reading_digits::raised_sum` meets its contract: the sum is that of the digits from i on. Assumes nothing.
 use mathlib.Core.Path.{_≡_, sym}
-use Prim.Native.Nat.{ℕ, _≤_, _-_, _+_, _*_, _%_}
+use Prim.Native.Nat.{ℕ, _≤_, _-_, _+_, _*_}
 use native.Mathlib.Nat.{add-zero, sub-zero}
 use native.Mathlib.Omega.{arith}
 use lib.ListN.{getD}
-use Rattle.reading.specs.Internal.{raisedSum}
-use Rattle.reading.proofs.Raised.{raised-none, raised-down, raised-byte}
+use Rattle.digit_strings.specs.Admission.{canonicalWidth}
+use Rattle.digit_strings.specs.Raised.{raised}
+use Rattle.reading_digits.specs.Sums.{raisedSum}
+use Rattle.reading_digits.proofs.Raised.{raised-none, raised-down, raised-byte}
 use borrow.Author.Needs.{needs}
-use Rattle.reading.proofs.raised_sum.Statement.{statement}
-use Rattle.reading.proofs.raised_sum.Tie as tie
+use Rattle.reading_digits.proofs.raised_sum.Statement.{statement}
+use Rattle.reading_digits.proofs.raised_sum.Tie as tie
 
 abbrev Inv-loop : tie.InvT-loop
 Inv-loop digits from count sum₀ i₀ sum i = (i ≤ count) × (sum ≤ 510) × (sum ≡ raisedSum digits (from + i) (count - i))
@@ -56,7 +58,7 @@ loop-again c =
     let pre = c .before .before .before .pre in
     let digits = args .digits .now in
     let i : ℕ = loop .i - 1 in
-    let e : loop .sum * 2 + (getD digits (args .from + i) 0 + 1) % 256 ≡ raisedSum digits (args .from + i) (args .count - i) =
+    let e : loop .sum * 2 + raised canonicalWidth (getD digits (args .from + i) 0) ≡ raisedSum digits (args .from + i) (args .count - i) =
     rw (loop .inv .2) (raised-down digits (args .from) (args .count) (loop .i) (search needs) (search needs) (search needs)) in
     (omega arith, omega (arith, e, raised-byte digits (args .from + i) (args .count - i) (pre .0) (omega arith)), e)
 

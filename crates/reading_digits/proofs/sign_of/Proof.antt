@@ -1,9 +1,9 @@
--- `reading::sign_of` meets its contract. Assumes nothing.
+-- `reading_digits::sign_of` meets its contract. Assumes nothing.
 use mathlib.Core.Path.{sym}
-use Rattle.reading.proofs.Raised.{sign-none, sign-top}
+use Rattle.reading_digits.proofs.Raised.{sign-none, sign-top}
 use borrow.Author.Needs.{needs}
-use Rattle.reading.proofs.sign_of.Statement.{statement}
-use Rattle.reading.proofs.sign_of.Tie as tie
+use Rattle.reading_digits.proofs.sign_of.Statement.{statement}
+use Rattle.reading_digits.proofs.sign_of.Tie as tie
 
 returns : tie.Need-returns
 returns c =

@@ -14,11 +14,11 @@ use lib.Seq.{take-set-le, drop-set-lt, getD-set-same}
 use Rattle.integers.specs.Positional.{positional, bytesValue, Significant}
 use Rattle.integers.proofs.Positional.{Below, below-take, positional-drop, positional-split, positional-lt, positional-zeros}
 use Rattle.signed_digits.proofs.Parts.{positivePart, negativePart}
-use Rattle.digit_strings.specs.Checked.{stringValue, DigitString}
+use Rattle.digit_strings.specs.Admission.{canonicalWidth, stringValue, DigitString}
 use Rattle.integers.proofs.Bits.{power-of-bytes}
 use Rattle.integers.specs.Signed.{signOf}
-use Rattle.reading.specs.Internal.{raisedSum, raisedZeros, bySign}
-use Rattle.reading.proofs.Raised.{raised-add, raised-value}
+use Rattle.reading_digits.specs.Sums.{raisedSum, raisedZeros, bySign}
+use Rattle.reading_digits.proofs.Raised.{raised-add, raised-value}
 
 -- the larger of the two sums of m digits, the sign being right, and the smaller
 abbrev more : List ℕ → ℕ → ℕ → ℕ
@@ -107,7 +107,7 @@ size-by-sign (pos n) sum zeros e = omega arith
 size-by-sign (negsuc n) sum zeros e = omega arith
 
 -- with the right sign no borrow is left
-pub subtracted-all : (l : List ℕ) (n : ℕ) → DigitString l → Significant l n → (size : List ℕ) (k borrow : ℕ)
+pub subtracted-all : (l : List ℕ) (n : ℕ) → DigitString canonicalWidth l → Significant l n → (size : List ℕ) (k borrow : ℕ)
     → Subtracted l (signOf (stringValue l)) size n k borrow → bytesValue size ≡ natAbs (stringValue l)
 subtracted-all l n d s size k borrow inv =
     let low : bytesValue (take k size) < 256 ^ k = positional-lt 256 k (take k size) (omega (arith, length-take k size)) (below-take 256 k size (omega arith) (inv .bytes)) in

@@ -1,13 +1,13 @@
--- `reading::size_of` meets its contract: after k turns the k low bytes stand. Assumes nothing.
+-- `reading_digits::size_of` meets its contract: after k turns the k low bytes stand. Assumes nothing.
 use mathlib.Core.Path.{_≡_, refl}
 use Prim.Native.Nat.{_≤_, _-_, _+_, _*_, _/_}
 use native.Mathlib.Omega.{arith}
 use lib.ListN.{length}
 use Rattle.rules.specs.Limits.{stringDigits}
-use Rattle.reading.proofs.Size.{Subtracted, subtracted-none, subtracted-step, subtracted-all}
+use Rattle.reading_digits.proofs.Size.{Subtracted, subtracted-none, subtracted-step, subtracted-all}
 use borrow.Author.Needs.{needs}
-use Rattle.reading.proofs.size_of.Statement.{statement}
-use Rattle.reading.proofs.size_of.Tie as tie
+use Rattle.reading_digits.proofs.size_of.Statement.{statement}
+use Rattle.reading_digits.proofs.size_of.Tie as tie
 
 abbrev Inv-loop : tie.InvT-loop
 Inv-loop digits count sign size₀ borrow₀ k₀ size borrow k = (8 * k ≤ count) × (borrow ≤ 1) × (length size ≡ length size₀) × Subtracted digits sign size (8 * k) k borrow

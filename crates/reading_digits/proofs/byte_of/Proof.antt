@@ -1,12 +1,12 @@
--- `reading::byte_of` meets its contract. Assumes nothing.
+-- `reading_digits::byte_of` meets its contract. Assumes nothing.
 use borrow.Author.Tests.{eq-eqb, ne-eqb}
 use Prim.Native.Nat.{_+_, _*_, _^_, _≤_}
 use native.Mathlib.Omega.{arith}
-use Rattle.reading.specs.Internal.{raisedZeros, bySign}
-use Rattle.reading.proofs.Raised.{raised-byte}
+use Rattle.reading_digits.specs.Sums.{raisedZeros, bySign}
+use Rattle.reading_digits.proofs.Raised.{raised-byte}
 use borrow.Author.Needs.{needs}
-use Rattle.reading.proofs.byte_of.Statement.{statement}
-use Rattle.reading.proofs.byte_of.Tie as tie
+use Rattle.reading_digits.proofs.byte_of.Statement.{statement}
+use Rattle.reading_digits.proofs.byte_of.Tie as tie
 
 -- the sum is at most twice that of zeros, which fits a byte
 few : (c : tie.After-raised-sum)

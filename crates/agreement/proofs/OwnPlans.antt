@@ -1,4 +1,4 @@
--- Our own plans are all accepted, with the forecast's counts (demand 2). Assumes nothing.
+-- Our own plans are all accepted, with the forecast's counts (docs/RULES.md, 4.12). Assumes nothing.
 use mathlib.Core.Path.{_≡_, refl, sym, ap}
 use mathlib.Core.List.{List}
 use Prim.Native.Nat.{ℕ, _≤_}

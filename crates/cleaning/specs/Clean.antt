@@ -20,7 +20,7 @@ cleanAnswer digits room = written (stringVerdict canonicalWidth digits) (cleanin
 abbrev pub cleanBuffer : List ℕ → List ℕ → List ℕ
 cleanBuffer digits out = leaves (cleanAnswer digits (length out)) (cleaning digits) out
 
--- ---- the words of demand 3
+-- ---- the words of docs/RULES.md, 4.7
 
 -- room enough is at least as many bytes as the canonical string of that value has
 abbrev pub RoomEnough : List ℕ → List ℕ → Type 0

@@ -44,7 +44,7 @@ stringVerdict w digits =
     andThen (cond (ltb stringDigits (length digits)) (Failed StringTooLong) Passed)
     (cond (ltb (firstBad w digits) (length digits)) (Failed (NotADigit (firstBad w digits))) Passed)
 
--- demand 3's words: a signed digit string within the limit, every byte of it a digit
+-- a digit string within the limit, every byte of it a digit
 pub record DigitString (w : ℕ) (bytes : List ℕ) : Type 0 where
   pub within : length bytes ≤ stringDigits
   pub digits : (i : ℕ) → i < length bytes → isDigit w (getD bytes i 0) ≡ true

@@ -1,4 +1,4 @@
--- Document 01's plans for 43 and 3, and ends of longer plans, by computation from the definitions. Assumes nothing.
+-- The plans for 43 and 3 (docs/RULES.md, 3.3 and 5.10), and ends of longer plans, by computation from the definitions. Assumes nothing.
 use mathlib.Core.Path.{_≡_, refl}
 use mathlib.Core.List.{[], _∷_, map}
 use Prim.Native.Nat.{_^_, _-_}

@@ -3,13 +3,13 @@
  *
  * Recoding of a number into its non-adjacent form (NAF), cleaning and reading back of signed digit
  * strings, planning of addition-subtraction chains by four methods, and the check of such a plan.
- * Every function of the library is proved: for any bytes it returns, it touches nothing but what it
- * was lent, and its answer and every byte it leaves equal a written definition. Of a recoder the
- * definition fixes the number that it stands for, not its words: two recoders that stand for the
- * same number may differ.
+ * Every function of the library is proved: whatever bytes it is handed, it returns, it touches only
+ * what it was lent, and its answer and every byte that it leaves are those of a written definition.
+ * For a recoder the definition fixes the number that it stands for, not its words: two recoders that
+ * stand for the same number may differ.
  *
  * Link with liblesmutka.a (x86-64), which `rt staticlib lesmutka` writes to target/staticlib/. It
- * needs memcpy and memset, and nothing else of its surroundings. The header is C99 and C++98.
+ * has to be linked with memcpy and memset and needs nothing else. The header is C99 and C++98.
  *
  * Conventions
  *

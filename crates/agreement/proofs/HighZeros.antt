@@ -8,7 +8,8 @@ use Rattle.numbers.specs.Admission.{Admitted}
 use Rattle.numbers.proofs.HighZeros.{same-value, same-number-verdict, same-positive-verdict}
 use Rattle.recoding.specs.Recode.{recoding, recodeAnswer, recodeBuffer}
 use Rattle.taking.specs.Take.{startAnswer, startNumber, startOutcome}
-use Rattle.planning.specs.Plan.{request, forecastAnswer, planAnswer, planBuffer}
+use Rattle.requests.specs.Request.{request}
+use Rattle.planning.specs.Plan.{forecastAnswer, planAnswer, planBuffer}
 use Rattle.checking.specs.Check.{admission, stepsVerdict, checkAnswer, checkSpace}
 
 module _ (number : List ℕ) (n : ℕ) (long : Admitted (number ++ replicate n 0)) where

@@ -2,11 +2,11 @@
 // a place, and answers the place behind it. The buffer has room for every line.
 mod refusals;
 
-use checking::read_step;
 use libc::STDOUT_FILENO;
 use rules::Counts;
 use rules::Refusal;
 use rules::STEP_BYTES;
+use step_reading::read_step;
 
 pub fn put(out: &mut [u8], at: usize, text: &[u8]) -> usize {
     let mut end = at;

@@ -22,7 +22,7 @@ pub fn put_words(out: &mut [u8], at: usize, refusal: Refusal) -> usize {
         Refusal::RoomTooSmall(_) => put(out, at, b"the output needs this many bytes"),
         Refusal::PlanLength => put_plan_length(out, at),
         Refusal::WorkSpaceTooShort => put(out, at, b"the work space is too short for the plan"),
-        Refusal::MalformedStep(_) => put_step_unsound(out, at),
+        Refusal::MalformedStep(_) => put_malformed_step(out, at),
         Refusal::ValueIsZero(_) => put(out, at, b"the value at this step is zero"),
         Refusal::ValueTooLarge(_) => put_value_too_large(out, at),
         Refusal::WrongEnd(_) => put(out, at, b"the last value, at this step, is not the number"),
@@ -49,7 +49,7 @@ fn put_plan_length(out: &mut [u8], at: usize) -> usize {
     put(out, at, b" steps")
 }
 
-fn put_step_unsound(out: &mut [u8], at: usize) -> usize {
+fn put_malformed_step(out: &mut [u8], at: usize) -> usize {
     put(
         out,
         at,

@@ -2,16 +2,16 @@
 use mathlib.Core.Path.{_≡_, refl, sym, ap, _∙_}
 use mathlib.Core.List.{List, [], _∷_, _++_}
 use mathlib.Core.Bool.{Bool, true, false, not}
-use Prim.Native.Nat.{ℕ, zero, suc, _+_, _<_}
+use Prim.Native.Nat.{ℕ, _+_, _<_}
 use native.Mathlib.Numerals.{add-one}
 use native.Mathlib.Omega.{arith}
-use lib.Dec.{eqb, eqb·suc-zero}
+use lib.Dec.{eqb}
 use lib.ListN.{length, take, getD, set}
 use lib.Seq.{take-suc, take-suc-set, take-set-le, take-all, getD-set-same}
 use mir.Val.{boolByte}
 use Rattle.rules.specs.Limits.{numberWords}
 use Rattle.integers.specs.Positional.{wordsValue}
-use Rattle.c_answers.specs.Kept.{carriedBy, keptNumber}
+use Rattle.c_answers.specs.Kept.{keptNumber}
 
 -- one word more
 pub copied-more : (from to : List ℕ) (k : ℕ) → k < length from → k < length to → take k to ≡ take k from →
@@ -19,11 +19,8 @@ pub copied-more : (from to : List ℕ) (k : ℕ) → k < length from → k < len
 copied-more from to k h l e =
     rw add-one (take-suc-set to k (getD from k 0) l ∙ ap (λ (r : List ℕ). r ++ (getD from k 0 ∷ [])) e ∙ sym (take-suc from k 0 h))
 
-pub carried-from : (n : ℕ) → boolByte (not (eqb n 0)) ≡ carriedBy n
-carried-from zero = refl
-carried-from (suc n) = rw (eqb·suc-zero n)
-
-pub carried-by : (b : Bool) → carriedBy (boolByte b) ≡ boolByte b
+-- the word of a carry says whether there is one
+carried-by : (b : Bool) → boolByte (not (eqb (boolByte b) 0)) ≡ boolByte b
 carried-by true = refl
 carried-by false = refl
 

@@ -1,10 +1,11 @@
 -- A recoder in words that the caller keeps: the number that it stands for, whatever they hold, and what start and take do to it.
-use Prim.Native.Nat.{ℕ, zero, suc, _+_}
+use Prim.Native.Nat.{ℕ, _+_}
 use mathlib.Core.Path.{_≡_}
-use mathlib.Core.Bool.{cond}
+use mathlib.Core.Bool.{cond, not}
 use mathlib.Core.List.{List, [], _∷_}
 use lib.Dec.{eqb}
 use lib.ListN.{take, getD}
+use mir.Val.{boolByte}
 use Rattle.rules.specs.Limits.{numberWords}
 use Rattle.rules.specs.Outcome.{Outcome, answered, done}
 use Rattle.integers.specs.Positional.{wordsValue}
@@ -12,14 +13,9 @@ use Rattle.taking.specs.declared.Take.{Take}
 use Rattle.taking.specs.declared.Take.the-variants.{Digit, Done}
 use Rattle.taking.specs.Take.{takeAnswer, takeLeaves}
 
--- the last word says whether it carries: one, unless it is 0
-abbrev pub carriedBy : ℕ → ℕ
-carriedBy zero = 0
-carriedBy (suc n) = 1
-
--- the number: that of the first words, least significant first, plus one where it carries
+-- the number: that of the first words, least significant first, plus one where it carries, which is where the last word is not 0
 unfoldable pub keptNumber : List ℕ → ℕ
-keptNumber kept = wordsValue (take numberWords kept) + carriedBy (getD kept numberWords 0)
+keptNumber kept = wordsValue (take numberWords kept) + boolByte (not (eqb (getD kept numberWords 0) 0))
 
 -- the answer of a take as C takes it: the digit's byte, or a number above all bytes
 abbrev pub doneNumber : ℕ

@@ -17,8 +17,9 @@ use Rattle.numbers.specs.Admission.{positiveVerdict}
 use Rattle.chains.specs.Steps.{Step, stepsOf}
 use Rattle.chains.specs.Values.{at, start, stepValue}
 use Rattle.chains.specs.Counts.{countsOf}
-use Rattle.step_checking.specs.Verdicts.{stepVerdict, endVerdict}
-use Rattle.step_checking.specs.WorkSpace.{recorded}
+use Rattle.step_checking.specs.Verdicts.{stepVerdict}
+use Rattle.work_space.specs.End.{endVerdict}
+use Rattle.work_space.specs.Records.{recorded}
 
 -- ---- before the steps: 1, 2, 7, 8
 

@@ -49,10 +49,6 @@ pub zero-digit : (w : ℕ) → isDigit w 0 ≡ true
 unfolding digitUpTo
 zero-digit w = refl
 
-pub no-digit-80 : (w : ℕ) → isDigit w 128 ≡ false
-unfolding digitUpTo
-no-digit-80 w = refl
-
 -- of width 2 are 00, 01 and FF, and no others
 pub digit-2 : (b : ℕ) → isDigit canonicalWidth b ≡ true ↔ (b ≡ 0) ⊎ ((b ≡ 1) ⊎ (b ≡ 255))
 unfolding digitUpTo

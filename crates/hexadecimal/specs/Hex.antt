@@ -60,8 +60,8 @@ unfoldable pub isPrefix : ℕ → Bool
 isPrefix c = cond (eqb c 120) true (eqb c 88)
 
 -- a word without the 0x that it may have in front
-unfoldable pub unmarked : List ℕ → List ℕ
-unmarked word =
+unfoldable pub withoutPrefix : List ℕ → List ℕ
+withoutPrefix word =
     cond (ltb (length word) 2) word
     (cond (eqb (getD word 0 0) 48)
     (cond (isPrefix (getD word 1 0)) (drop 2 word) word)

@@ -4,7 +4,7 @@ ghost use mathlib.Core.List.{_++_};
 ghost use Prim.Native.Nat.{_*_, _≤_, _<_, _^_};
 ghost use lib.ListN.{length, drop};
 ghost use Rattle.integers.specs.Tabulate.{tabulate};
-ghost use Rattle.hexadecimal.specs.Hex.{digitValue, placeValue, byteAt, isHex, isPrefix, parsed, parsedBuffer, unmarked};
+ghost use Rattle.hexadecimal.specs.Hex.{digitValue, placeValue, byteAt, isHex, isPrefix, parsed, parsedBuffer, withoutPrefix};
 
 // What a word holds: a number in so many bytes, or something else.
 pub enum Parsed {
@@ -107,7 +107,7 @@ fn is_prefix(byte: u8) -> bool
 
 // The word behind the 0x that it may have in front.
 fn without_prefix(word: &[u8]) -> &[u8]
-    ensures { λ r. ⌜ now r ≡ unmarked (now (word .entry)) ⌝ }
+    ensures { λ r. ⌜ now r ≡ withoutPrefix (now (word .entry)) ⌝ }
 {
     if word.len() < 2 {
         return word;
@@ -123,8 +123,8 @@ fn without_prefix(word: &[u8]) -> &[u8]
 
 // Puts the number of a word into bytes, least significant first.
 pub fn parse(word: &[u8], bytes: &mut [u8]) -> Parsed
-    ensures answer { λ r. ⌜ r ≡ parsed (unmarked (now (word .entry))) (length (now (bytes .entry))) ⌝ }
-    ensures buffer { λ r. ⌜ now (bytes .exit) ≡ parsedBuffer (unmarked (now (word .entry))) (now (bytes .entry)) ⌝ }
+    ensures answer { λ r. ⌜ r ≡ parsed (withoutPrefix (now (word .entry))) (length (now (bytes .entry))) ⌝ }
+    ensures buffer { λ r. ⌜ now (bytes .exit) ≡ parsedBuffer (withoutPrefix (now (word .entry))) (now (bytes .entry)) ⌝ }
 {
     parse_digits(without_prefix(word), bytes)
 }

@@ -178,7 +178,3 @@ length-by-top l n b s some =
     let nonzero : 0 < t = omega (arith, s .top some) in
     let c = length-from (bytesValue l) (n - 1) m (omega arith) (omega arith) (omega arith) in
     omega arith
-
--- a number has at most eight bits to a byte
-pub length-of-bytes : (l : List ℕ) → Below 256 l → bitLength (bytesValue l) ≤ 8 * length l
-length-of-bytes l b = bit-length-iff (bytesValue l) (8 * length l) .1 (rw (power-of-bytes (length l)) at (positional-lt 256 (length l) l (omega arith) b))

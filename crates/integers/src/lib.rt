@@ -112,7 +112,7 @@ pub fn whole_word_at(bytes: &[u8], from: usize) -> u64
 }
 
 // The same, or the value of as many as there are. Eight become one load.
-pub fn word_at(bytes: &[u8], from: usize) -> u64
+fn word_at(bytes: &[u8], from: usize) -> u64
     ensures { λ r. ⌜ r ≡ bytesValue (take 8 (drop from (now (bytes .entry)))) ⌝ }
 {
     if bytes.len() <= from {

@@ -1,3 +1,3 @@
-pub mod Digits
+pub mod Bits
 pub mod Windows
 pub mod Scan

@@ -34,7 +34,7 @@ use Rattle.plan_writing.specs.declared.Cursor.{Cursor}
 use Rattle.plan_writing.specs.Writing.{Writing}
 use Rattle.method_sliding_windows.specs.declared.Window.{Window}
 use Rattle.method_sliding_windows.specs.declared.Start.{Start}
-use Rattle.method_sliding_windows.proofs.Digits.{digits-zero, first-in}
+use Rattle.method_sliding_windows.proofs.Bits.{bits-zero, first-in}
 use Rattle.method_sliding_windows.specs.Scan.{windowAt, bitsDown, firstIn, atSlidingWindow, Turn, startFrom, startOf}
 
 -- ---- a number and its words
@@ -128,20 +128,20 @@ module _ (e d : ℕ) (wide : 1 ≤ d) where
         windows = omega (arith, rw s at (over none .1));
       }
 
-  -- the same of the 64 digits x from place i - 1 down
-  module _ (narrow : d ≤ slidingWindowBits) (i : ℕ) (more : 1 ≤ i) (x : ℕ) (digits : x ≡ bitsDown e (i - 1)) where
+  -- the same of the 64 bits x from place i - 1 down
+  module _ (narrow : d ≤ slidingWindowBits) (i : ℕ) (more : 1 ≤ i) (x : ℕ) (bits : x ≡ bitsDown e (i - 1)) where
     pub next-zeros : (k : ℕ) → x < 2 ^ slidingWindowBits → 1 ≤ k → k ≤ i → k ≤ 64 - slidingWindowBits → Turn e d i (record { bits = k; value = 0 })
     next-zeros k low some within few =
-        turn-zeros i k some within (λ j h l. digits-zero e (i - 1) j (j + 63 - (i - 1)) (omega arith) (omega arith) (bit-length-iff (bitsDown e (i - 1)) (j + 63 - (i - 1)) .1 (lt-of-lt-of-le (rw digits at low) (pow-mono {i = slidingWindowBits} (omega arith)))))
+        turn-zeros i k some within (λ j h l. bits-zero e (i - 1) j (j + 63 - (i - 1)) (omega arith) (omega arith) (bit-length-iff (bitsDown e (i - 1)) (j + 63 - (i - 1)) .1 (lt-of-lt-of-le (rw bits at low) (pow-mono {i = slidingWindowBits} (omega arith)))))
 
     pub next-window : 2 ^ slidingWindowBits ≤ x → Turn e d i (firstIn x d)
     next-window big =
-        let f = first-in e (i - 1) d wide narrow (rw digits at big) in
+        let f = first-in e (i - 1) d wide narrow (rw bits at big) in
         let n : ℕ = f .place in
         let z : ℕ = 64 - bitLength (bitsDown e (i - 1)) in
         let s : i ≡ suc n + z = omega (arith, f .below) in
         let t = turn-window n (f .one) z (λ j h l. f .zeros j h (omega arith)) in
-        rw (digits, f .window) (subst (λ (k : ℕ). Turn e d k (record { bits = z + longest e n d; value = windowValue e n (longest e n d) })) (sym s) t)
+        rw (bits, f .window) (subst (λ (k : ℕ). Turn e d k (record { bits = z + longest e n d; value = windowValue e n (longest e n d) })) (sym s) t)
 
 -- ---- a loop that writes: what is written so far, and that the places below i will give the rest
 

@@ -15,7 +15,7 @@ use Rattle.methods.specs.Widths.{slidingWindowBits}
 use Rattle.methods.specs.SlidingWindows.{longest, windowValue}
 use Rattle.methods.proofs.SlidingWindows.{low-bit}
 use Rattle.method_sliding_windows.specs.Scan.{firstIn}
-use Rattle.method_sliding_windows.proofs.Digits.{leading-bits, top-one, more-bits}
+use Rattle.method_sliding_windows.proofs.Bits.{leading-bits, top-one, more-bits}
 
 module _ (e n : ℕ) where
   -- the t trailing zeros of l bits are not in the window
@@ -80,7 +80,7 @@ module _ (e n d b : ℕ) (one : bit e n ≡ 1) (wide : 1 ≤ d) (few : d ≤ 64)
   window-value : b / 2 ^ trailingZeros 64 b ≡ windowValue e n (longest e n d)
   window-value = ap (λ (x : ℕ). x / 2 ^ trailingZeros 64 b) read ∙ all .value ∙ ap (λ (l : ℕ). windowValue e n l) (sym window-bits)
 
--- of 64 digits, by their leading zeros
+-- of 64 bits, by their leading zeros
 module _ (x d : ℕ) (big : 2 ^ slidingWindowBits ≤ x) (small : x < 2 ^ 64) (wide : 1 ≤ d) (narrow : d ≤ slidingWindowBits) where
   abbrev zeros : ℕ
   zeros = leadingZeros 64 x

@@ -15,11 +15,11 @@ use Rattle.method_sliding_windows.specs.declared.Start.{Start}
 abbrev pub windowAt : ℕ → ℕ → ℕ → Window
 windowAt e n d = record { bits = longest e n d; value = windowValue e n (longest e n d) }
 
--- the 64 digits of e from place n down
+-- the 64 bits of e from place n down
 abbrev pub bitsDown : ℕ → ℕ → ℕ
 bitsDown e n = 2 ^ 64 * e / 2 ^ (n + 1) % 2 ^ 64
 
--- of 64 digits, the zeros down to the top 1, and the window that begins there
+-- of 64 bits, the zeros down to the top 1, and the window that begins there
 abbrev pub firstIn : ℕ → ℕ → Window
 firstIn x d = record { bits = 64 - bitLength x + longest x (bitLength x - 1) d; value = windowValue x (bitLength x - 1) (longest x (bitLength x - 1) d) }
 

@@ -29,8 +29,8 @@ ghost use Rattle.method_sliding_windows.specs.Scan.{firstIn, atSlidingWi
 // As many values have the bits of a widest window.
 const WINDOW_VALUES: u64 = 1 << SLIDING_WINDOW_BITS;
 
-// Of the 64 digits that are read at once, those above the lowest such window.
-const DIGITS_ABOVE: usize = 64 - SLIDING_WINDOW_BITS;
+// Of the 64 bits that are read at once, those above the lowest such window.
+const BITS_ABOVE: usize = 64 - SLIDING_WINDOW_BITS;
 
 // What the scan takes at once: the zeros from a place down and the window below them, with its
 // value; or zeros alone, and 0.
@@ -47,15 +47,15 @@ struct Start {
     table: usize,
 }
 
-// Of the 64 digits from a place down, the zeros down to the highest 1 and the window that begins
+// Of the 64 bits from a place down, the zeros down to the highest 1 and the window that begins
 // there. A window ends in 1: the zeros below its last 1 are not in it.
-fn window_in(digits: u64, width: usize) -> Window
-    requires { ⌜ 2 ^ slidingWindowBits ≤ digits ⌝ }
+fn window_in(bits: u64, width: usize) -> Window
+    requires { ⌜ 2 ^ slidingWindowBits ≤ bits ⌝ }
     requires { ⌜ (1 ≤ width) × (width ≤ slidingWindowBits) ⌝ }
-    ensures { λ r. ⌜ r ≡ firstIn digits width ⌝ }
+    ensures { λ r. ⌜ r ≡ firstIn bits width ⌝ }
 {
-    let zeros = u64::leading_zeros(digits) as usize;
-    let window = digits >> (64 - zeros - width);
+    let zeros = u64::leading_zeros(bits) as usize;
+    let window = bits >> (64 - zeros - width);
     let trailing = u64::trailing_zeros(window) as usize;
     Window {
         bits: zeros + width - trailing,
@@ -63,15 +63,15 @@ fn window_in(digits: u64, width: usize) -> Window
     }
 }
 
-// As many zeros as are seen where no window is whole: of 64 digits, all but those of a window.
+// As many zeros as are seen where no window is whole: of 64 bits, all but those of a window.
 fn zeros_above(place: usize) -> usize
     requires { ⌜ 1 ≤ place ⌝ }
     ensures { λ r. ⌜ (1 ≤ r) × (r ≤ place) × (r ≤ 64 - slidingWindowBits) ⌝ }
 {
-    if place < DIGITS_ABOVE {
+    if place < BITS_ABOVE {
         place
     } else {
-        DIGITS_ABOVE
+        BITS_ABOVE
     }
 }
 
@@ -81,14 +81,14 @@ fn next_window(words: &[u64], place: usize, width: usize) -> Window
     requires { ⌜ (1 ≤ width) × (width ≤ slidingWindowBits) ⌝ }
     ensures { λ r. ⌜ Turn (wordsValue (now (words .entry))) width place r ⌝ }
 {
-    let digits = bits_down(words, place - 1);
-    if digits < WINDOW_VALUES {
+    let bits = bits_down(words, place - 1);
+    if bits < WINDOW_VALUES {
         return Window {
             bits: zeros_above(place),
             value: 0,
         };
     }
-    window_in(digits, width)
+    window_in(bits, width)
 }
 
 // How many steps of the table come before the scan. With nothing below the first window, the number

@@ -44,7 +44,7 @@ pub record Entry : Type 0 where
 abbrev pub entry : (ℕ → Method) → ℕ → ℕ → Entry
 entry method least most = record { method = method; least = least; most = most }
 
--- methods 1, 2, 3 and 4: width is 0 for methods 1 and 4, and 1 to 6 for methods 2 and 3
+-- methods 1, 2, 3 and 4: width is 0 for methods 1 and 4, and from 1 on for methods 2 and 3
 abbrev pub methods : List Entry
 methods =
     entry (λ width. Binary) 0 0

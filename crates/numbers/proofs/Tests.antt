@@ -53,6 +53,3 @@ module _ (number : List ℕ) where
       go (Failed r) t _ = let p = refused t in rw (positive-only p) p
       go Passed (admitted a) (yes z) = let p = is-zero a z in rw (positive-only p) p
       go Passed (admitted a) (no n) = let p = positive (record { admitted = a; nonzero = n }) in rw (positive-only p) p
-
-  pub positive-is : positiveVerdict number ≡ Passed ↔ Positive number
-  positive-is = (λ e. elim (rw e at positive-test) [ positive p ↦ p ], λ p. positive-only (positive p))

@@ -1,3 +1,2 @@
-pub mod Requests
 pub mod Outcomes
 pub mod Promises

@@ -3,12 +3,13 @@ use mathlib.Core.Path.{_≡_, ap, _∙_}
 use mathlib.Core.List.{List, _++_}
 use Prim.Native.Nat.{ℕ, _*_, _<_, _≤_}
 use lib.ListN.{length, drop}
-use Rattle.rules.specs.Limits.{stepBytes}
+use Rattle.rules.specs.Limits.{stepBytes, planSteps}
 use Rattle.rules.specs.declared.Refusal.the-variants.{RoomTooSmall}
 use Rattle.rules.specs.declared.Counts.{Counts}
 use Rattle.rules.specs.declared.Counted.the-variants.{Steps, Refused}
 use Rattle.rules.proofs.Fitted.{too-small, fits}
 use Rattle.integers.specs.Positional.{bytesValue}
+use Rattle.integers.proofs.Positional.{Below}
 use Rattle.chains.specs.Steps.{Step, planBytesOf}
 use Rattle.chains.specs.Counts.{countsOf, total}
 use Rattle.chains.proofs.Bytes.{length-plan}
@@ -16,7 +17,17 @@ use Rattle.methods.specs.declared.Method.{Method}
 use Rattle.methods.specs.declared.Chosen.{Chosen}
 use Rattle.methods.specs.Method.{stepsBy}
 use Rattle.methods.proofs.Counted.{length-counted}
-use Rattle.planning.specs.Plan.{request, planAnswer, planBuffer}
+use Rattle.methods.proofs.Every.{plannable, every-fit}
+use Rattle.requests.specs.Request.{request}
+use Rattle.requests.proofs.Requests.{granted-allowed}
+use Rattle.planning.specs.Plan.{planAnswer, planBuffer}
+
+-- the steps of a granted request are counted within the limit
+pub counted-few : (number : List ℕ) (method width : ℕ) → Below 256 number → {m : Method} → request number method width ≡ Chosen.Method m
+    → total (countsOf (stepsBy m (bytesValue number))) ≤ planSteps
+counted-few number method width b {m} e =
+    let g = granted-allowed number method width e in
+    rw (← length-counted (stepsBy m (bytesValue number))) (every-fit m (bytesValue number) (g .1) (plannable number b (g .0 .admitted .short) (g .0 .nonzero)) .few)
 
 module _ (steps : List Step) (c : Counts) (counted : c ≡ countsOf steps) where
   -- the counts tell how many steps there are, and how many bytes they need

@@ -22,8 +22,9 @@ use Rattle.methods.specs.declared.Method.{Method}
 use Rattle.methods.specs.declared.Chosen.{Chosen}
 use Rattle.methods.specs.Method.{methodOf, stepsBy}
 use Rattle.methods.proofs.Every.{refused-3}
-use Rattle.planning.specs.Plan.{request, verdictOf, stepsFor, forecastAnswer, planWritten, withCounts, planAnswer, planBuffer}
-use Rattle.planning.proofs.Requests.{Requests, stopped, chosen, requests-only, requests-one, granted}
+use Rattle.planning.specs.Plan.{stepsFor, forecastAnswer, planWritten, withCounts, planAnswer, planBuffer}
+use Rattle.requests.specs.Request.{verdictOf, request}
+use Rattle.requests.proofs.Requests.{Requests, stopped, chosen, requests-only, requests-one, granted}
 
 -- the plan for a number by a method, and its three counts
 abbrev pub planBy : List ℕ → Method → List ℕ

@@ -4,33 +4,22 @@ use mathlib.Core.List.{List, []}
 use lib.ListN.{length}
 use Rattle.rules.specs.Memory.{written, leaves}
 use Rattle.rules.specs.Outcome.{unlessFailed}
-use Rattle.rules.specs.declared.Verdict.{Verdict}
-use Rattle.rules.specs.declared.Verdict.the-variants.{Passed, Failed}
 use Rattle.rules.specs.declared.Written.{Written}
 use Rattle.rules.specs.declared.Written.the-variants.{Length, Refused as NotWritten}
 use Rattle.rules.specs.declared.Counts.{Counts}
 use Rattle.rules.specs.declared.Counted.{Counted}
 use Rattle.integers.specs.Positional.{bytesValue}
-use Rattle.numbers.specs.Admission.{positiveVerdict}
 use Rattle.chains.specs.Steps.{Step, planBytesOf}
 use Rattle.chains.specs.Counts.{countsOf}
 use Rattle.methods.specs.declared.Chosen.{Chosen}
 use Rattle.methods.specs.declared.Chosen.the-variants.{Method, Refused}
-use Rattle.methods.specs.Method.{methodOf, stepsBy}
-
--- whether a method is granted
-abbrev pub verdictOf : Chosen → Verdict
-verdictOf (Method m) = Passed
-verdictOf (Refused r) = Failed r
+use Rattle.methods.specs.Method.{stepsBy}
+use Rattle.requests.specs.Request.{verdictOf, request}
 
 -- the steps that it gives for e; none if it is refused
 abbrev pub chosenSteps : Chosen → ℕ → List Step
 chosenSteps (Method m) e = stepsBy m e
 chosenSteps (Refused r) e = []
-
--- refusals 1 and 2, then the method that is asked for or 3
-unfoldable pub request : List ℕ → ℕ → ℕ → Chosen
-request number method width = unlessFailed Refused (positiveVerdict number) (methodOf method width)
 
 -- the steps of the plan
 abbrev pub stepsFor : List ℕ → ℕ → ℕ → List Step

@@ -1,14 +1,11 @@
 // Plans and forecasts for a number, by method and width.
 use methods::Chosen;
-use methods::FIXED_WINDOW_BITS;
 use methods::Method;
-use methods::SLIDING_WINDOW_BITS;
-use numbers::positive_verdict;
+use requests::requested;
 use rules::Counted;
 use rules::Counts;
 use rules::Refusal;
 use rules::STEP_BYTES;
-use rules::Verdict;
 ghost use mathlib.Core.Path.{_≡_};
 ghost use mathlib.Core.List.{_++_};
 ghost use Prim.Native.Nat.{_*_, _≤_};
@@ -18,45 +15,8 @@ ghost use Rattle.integers.specs.Positional.{bytesValue};
 ghost use Rattle.numbers.specs.Admission.{Positive};
 ghost use Rattle.chains.specs.Steps.{planBytesOf};
 ghost use Rattle.chains.specs.Counts.{countsOf};
-ghost use Rattle.methods.specs.Method.{methodOf, within, Allowed, stepsBy};
-ghost use Rattle.planning.specs.Plan.{request, forecastAnswer, planAnswer, planBuffer};
-
-// The method, if its width is from the least to the most that it allows; else refusal 3.
-fn within(method: Method, width: usize, least: usize, most: usize) -> Chosen
-    ensures { λ r. ⌜ r ≡ within method width least most ⌝ }
-{
-    if width < least {
-        return Chosen::Refused(Refusal::MethodOrWidth);
-    }
-    if most < width {
-        return Chosen::Refused(Refusal::MethodOrWidth);
-    }
-    Chosen::Method(method)
-}
-
-// The method that the two numbers ask for. A line a method.
-fn method_of(method: u32, width: u32) -> Chosen
-    ensures { λ r. ⌜ r ≡ methodOf method width ⌝ }
-{
-    let d = width as usize;
-    match method {
-        1 => within(Method::Binary, d, 0, 0),
-        2 => within(Method::FixedWindows(d), d, 1, FIXED_WINDOW_BITS),
-        3 => within(Method::SlidingWindows(d), d, 1, SLIDING_WINDOW_BITS),
-        4 => within(Method::Naf, d, 0, 0),
-        _ => Chosen::Refused(Refusal::MethodOrWidth),
-    }
-}
-
-// The same, after refusals 1 and 2.
-fn requested(number: &[u8], method: u32, width: u32) -> Chosen
-    ensures { λ r. ⌜ r ≡ request (now (number .entry)) method width ⌝ }
-{
-    if let Verdict::Failed(refusal) = positive_verdict(number) {
-        return Chosen::Refused(refusal);
-    }
-    method_of(method, width)
-}
+ghost use Rattle.methods.specs.Method.{Allowed, stepsBy};
+ghost use Rattle.planning.specs.Plan.{forecastAnswer, planAnswer, planBuffer};
 
 // The counts of the steps that a method gives for a number. A line a method.
 fn counts(number: &[u8], method: Method) -> Counts

@@ -5,7 +5,7 @@ use mathlib.Core.List.{List, [], _∷_, _++_}
 use Prim.Native.Nat.{ℕ, _+_, _*_, _<_, _≤_, _^_}
 use native.Mathlib.Omega.{arith}
 use lib.IntN.{ℤ, pos}
-use lib.ListN.{length, drop, replicate}
+use lib.ListN.{length, drop}
 use lib.Pow.{pow-add}
 use Rattle.rules.specs.Limits.{numberBytes}
 use Rattle.rules.specs.declared.Refusal.{Refusal}
@@ -14,7 +14,7 @@ use Rattle.rules.specs.Outcome.{Outcome, refused, answered, refusal, writtenOut
 use Rattle.rules.proofs.Memory as memory
 use Rattle.rules.proofs.Memory.{Writes, stopped, no-room, all-fits, writes-only, writes-one}
 use Rattle.integers.specs.Positional.{positional, bytesValue}
-use Rattle.integers.proofs.Positional.{Below, positional-lt, positional-zeros}
+use Rattle.integers.proofs.Positional.{Below, positional-lt}
 use Rattle.integers.proofs.Bits.{power-of-bytes}
 use Rattle.numbers.specs.Admission.{numberVerdict, Admitted}
 use Rattle.numbers.proofs.Tests.{NumberTest, too-long, number-only, number-test, admitted-is}
@@ -92,14 +92,10 @@ pub recoding-only : (number : List ℕ) (ds : List ℤ) → Canonical ds → val
 unfolding recoding
 recoding-only number ds c v = ap digitBytes (canonical-only ds c ∙ ap canonical v)
 
--- no bytes mean zero, which is the empty string; high zero bytes change nothing
+-- no bytes mean zero, which is the empty string
 pub recoding-empty : recoding [] ≡ []
 unfolding recoding positional naf digitsOf
 recoding-empty = refl
-
-pub recoding-padded : (number : List ℕ) (n : ℕ) → recoding (number ++ replicate n 0) ≡ recoding number
-unfolding recoding
-recoding-padded number n = rw (positional-zeros 256 n number)
 
 -- n bytes have at most 8 n + 1 digits, so 257 at the limit
 pub recoding-length : (number : List ℕ) → Below 256 number → length (recoding number) ≤ 8 * length number + 1

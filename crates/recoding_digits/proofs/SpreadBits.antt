@@ -1,7 +1,6 @@
 -- Eight bits in the bytes of a word, and the differences of two such words. Assumes nothing.
 use mathlib.Core.Path.{_≡_, refl, sym, ap, _∙_}
-use mathlib.Core.Bool.{Bool, true, false, _&&_}
-use mathlib.Core.List.{[], _∷_}
+use mathlib.Core.Bool.{Bool, true, _&&_, and-eq-true-iff}
 use Prim.Native.Nat.{ℕ, zero, suc, _+_, _*_, _-_, _/_, _%_, _^_, _<_, _≤_}
 use borrow.Author.Tests.{eqb-true}
 use native.Mathlib.Decide.{decLt}
@@ -13,8 +12,8 @@ use Rattle.integers.specs.Bits.{bit}
 use Rattle.integers.specs.Positional.{positional, bytesValue}
 use Rattle.integers.specs.Tabulate.{tabulate}
 use Rattle.integers.proofs.Bits.{bit-small, low-bits, power-of-bytes}
-use Rattle.integers.proofs.Positional.{Below, positional-append, positional-at, positional-lt}
-use Rattle.integers.proofs.Tabulate.{length-tabulate, tabulate-same, getD-tabulate}
+use Rattle.integers.proofs.Positional.{Below, positional-at, positional-lt}
+use Rattle.integers.proofs.Tabulate.{length-tabulate, tabulate-same, getD-tabulate, positional-tabulate}
 use Rattle.recoding_digits.specs.Internal.{difference}
 
 -- ---- the number whose bytes are f 0, f 1, .., f (n - 1)
@@ -36,8 +35,7 @@ unfolding tabulate positional
 value-none f = refl
 
 value-more : (f : ℕ → ℕ) (n : ℕ) → bytesValue (tabulate f (suc n)) ≡ f n * 2 ^ (8 * n) + bytesValue (tabulate f n)
-unfolding tabulate positional
-value-more f n = positional-append 256 (tabulate f n) (f n ∷ []) ∙ rw (length-tabulate f n, power-of-bytes n) (omega arith)
+value-more f n = positional-tabulate 256 f n ∙ rw (power-of-bytes n) (omega arith)
 
 value-add : (f g : ℕ → ℕ) (n : ℕ) → bytesValue (tabulate f n) + bytesValue (tabulate g n) ≡ bytesValue (tabulate (λ j. f j + g j) n)
 value-add f g zero = omega (arith, value-none f, value-none g, value-none (λ j. f j + g j))
@@ -56,18 +54,14 @@ all : (ℕ → Bool) → ℕ → Bool
 all f zero = true
 all f (suc n) = f n && all f n
 
-both : (a b : Bool) → (a && b) ≡ true → (a ≡ true) × (b ≡ true)
-both true b e = (refl, e)
-both false b e = (e, cc)
-
 all-below : (f : ℕ → Bool) (n : ℕ) → all f n ≡ true → (k : ℕ) → k < n → f k ≡ true
 unfolding all
 all-below f zero e k h = absurd (omega arith)
-all-below f (suc n) e k h = go (decLt k n) (λ l. all-below f n (both (f n) (all f n) e .1) k l)
+all-below f (suc n) e k h = go (decLt k n) (λ l. all-below f n (and-eq-true-iff (f n) (all f n) .0 e .1) k l)
   where
     go : Dec (k < n) → (k < n → f k ≡ true) → f k ≡ true
     go (yes l) below = below l
-    go (no l) below = let i : k ≡ n = omega arith in rw i (both (f n) (all f n) e .0)
+    go (no l) below = let i : k ≡ n = omega arith in rw i (and-eq-true-iff (f n) (all f n) .0 e .0)
 
 -- what the code computes
 abbrev copies : ℕ → ℕ

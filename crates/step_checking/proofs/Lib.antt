@@ -1,5 +1,2 @@
-mod Recording
 pub mod Tested
-mod Counting
 mod Outcomes
-mod SameWords

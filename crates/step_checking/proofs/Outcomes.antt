@@ -1,26 +1,24 @@
--- What testing a step comes to at each of its outcomes, and the end of all steps. Assumes nothing.
+-- What testing a step comes to at each of its outcomes. Assumes nothing.
 use mathlib.Core.Path.{_≡_, refl, sym, _∙_}
 use mathlib.Core.Bool.{Bool, true, false, not, _&&_, cond, false≢true}
 use mathlib.Core.List.{List}
 use Prim.Native.Nat.{ℕ, _+_, _*_, _<_}
 use borrow.Author.Tests.{ltb-true}
-use native.Mathlib.Omega.{arith}
 use lib.Dec.{ltb, eqb}
-use lib.IntN.{ℤ, pos, natAbs, _+ℤ_, _-ℤ_}
+use lib.IntN.{ℤ, natAbs, _+ℤ_, _-ℤ_}
 use lib.ListN.{length}
 use Rattle.rules.specs.Limits.{valueBound, recordBytes}
-use Rattle.rules.specs.declared.Refusal.the-variants.{MalformedStep, WrongEnd}
-use Rattle.rules.specs.declared.Verdict.the-variants.{Passed, Failed}
-use Rattle.integers.specs.Positional.{bytesValue}
+use Rattle.rules.specs.declared.Refusal.the-variants.{MalformedStep}
+use Rattle.rules.specs.declared.Verdict.the-variants.{Failed}
 use Rattle.integers.proofs.Blocks.{placed}
 use Rattle.chains.specs.Steps.{Step, adding}
 use Rattle.chains.specs.Values.{stepValue}
 use Rattle.chains.specs.Sound.{WellFormed}
 use Rattle.chains.specs.Records.{recordOf}
-use Rattle.step_checking.specs.Verdicts.{isWellFormed, valueVerdict, stepVerdict, isSame}
-use Rattle.step_checking.specs.WorkSpace.{Recording, grown, StepChecked, EndChecked}
+use Rattle.step_checking.specs.Verdicts.{isWellFormed, valueVerdict, stepVerdict, grown, StepChecked}
+use Rattle.work_space.specs.Records.{Recording}
 use Rattle.step_checking.proofs.Tested.{well-formed-is}
-use Rattle.step_checking.proofs.Recording.{Loaded, loaded-is, recording-more}
+use Rattle.work_space.proofs.Recording.{Loaded, loaded-is, recording-more}
 
 pub malformed-checked : (s : Step) (n : ℕ) (here : List ℕ) → isWellFormed (n + 1) s ≡ false → StepChecked s n here here (Failed (MalformedStep (n + 1)))
 unfolding stepVerdict
@@ -69,8 +67,3 @@ module _ (s : Step) (n : ℕ) (here : List ℕ) (z : ℤ) (g : Gives s n here z)
       go true small e = w
       go false false e = w
       go false true e = absurd (false≢true (sym e))
-
--- the last value is the number, or it is not
-pub end-checked : (number here : List ℕ) (r : ℕ) (end : ℤ) → Loaded here r end → (t : Bool) → t ≡ isSame end (pos (bytesValue number))
-    → EndChecked number r here (cond t Passed (Failed (WrongEnd r)))
-end-checked number here r end l t e lent values long w = rw (e, loaded-is lent here values w r end l (omega arith))

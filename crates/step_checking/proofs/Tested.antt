@@ -1,10 +1,10 @@
--- What testing a step comes to, each verdict with what it is given for and no other; and the last value beside the number. Assumes nothing.
+-- What testing a step comes to, each verdict with what it is given for and no other. Assumes nothing.
 use mathlib.Core.Path.{_≡_, refl, sym, ap, _∙_}
 use mathlib.Core.Logic.{_↔_, _≢_}
-use mathlib.Core.Bool.{Bool, true, false, _&&_, false≢true}
+use mathlib.Core.Bool.{Bool, true, false, _&&_, false≢true, and-eq-true-iff}
 use mathlib.Core.List.{List}
 use Prim.Native.Nat.{ℕ, _<_, _≤_}
-use borrow.Author.Tests.{ltb-true, ltb-false, leb-true, eqb-true, eqb-false, lt-ltb, le-ltb, le-leb, eq-eqb, ne-eqb}
+use borrow.Author.Tests.{ltb-true, ltb-false, leb-true, eqb-true, eqb-false, lt-ltb, le-ltb, le-leb, ne-eqb}
 use native.Mathlib.Omega.{arith}
 use native.Mathlib.Nat.{lt-of-lt-of-le}
 use lib.Dec.{ltb, eqb, leb, lit<}
@@ -17,7 +17,7 @@ use Rattle.rules.specs.declared.Verdict.the-variants.{Passed, Failed}
 use Rattle.chains.specs.Steps.{Step, subtracting}
 use Rattle.chains.specs.Values.{stepValue}
 use Rattle.chains.specs.Sound.{WellFormed, Representable}
-use Rattle.step_checking.specs.Verdicts.{isWellFormed, stepVerdict, isSame}
+use Rattle.step_checking.specs.Verdicts.{isWellFormed, stepVerdict}
 
 -- what testing step i comes to, its value z: for 9 before 10 or 11
 pub data Tested (i : ℕ) (s : Step) (z : ℤ) : Verdict → Type 0 where
@@ -26,18 +26,14 @@ pub data Tested (i : ℕ) (s : Step) (z : ℤ) : Verdict → Type 0 where
   value-is-zero : WellFormed i s → z ≡ pos 0 → Tested i s z (Failed (ValueIsZero i))
   value-too-large : WellFormed i s → valueBound ≤ natAbs z → Tested i s z (Failed (ValueTooLarge i))
 
-both : (a b : Bool) → a && b ≡ true → (a ≡ true) × (b ≡ true)
-both true b e = (refl, e)
-both false b e = (e, cc)
-
 pub well-formed-is : (i : ℕ) (s : Step) → isWellFormed i s ≡ true ↔ WellFormed i s
 unfolding isWellFormed
 well-formed-is i s = (to, λ n. rw (le-leb (s .operation) subtracting (n .operation), lt-ltb (s .first) i (n .first), lt-ltb (s .second) i (n .second)))
   where
     to : isWellFormed i s ≡ true → WellFormed i s
     to e =
-        let known = both (leb (s .operation) subtracting && ltb (s .first) i) (ltb (s .second) i) e in
-        let low = both (leb (s .operation) subtracting) (ltb (s .first) i) (known .0) in
+        let known = and-eq-true-iff (leb (s .operation) subtracting && ltb (s .first) i) (ltb (s .second) i) .0 e in
+        let low = and-eq-true-iff (leb (s .operation) subtracting) (ltb (s .first) i) .0 (known .0) in
         record { operation = leb-true _ _ (low .0); first = ltb-true _ _ (low .1); second = ltb-true _ _ (known .1) }
 
 not-well-formed : (i : ℕ) (s : Step) → (WellFormed i s → ⊥) → isWellFormed i s ≡ false
@@ -76,18 +72,3 @@ module _ (values : List ℤ) (s : Step) where
   tested-only (value-too-large n l) =
       let some : 0 < natAbs z = lt-of-lt-of-le (lit< tt) l in
       rw (well-formed-is i s .1 n, ne-eqb (natAbs z) 0 (λ e. omega arith), le-ltb (natAbs z) valueBound l)
-
--- ---- the end: the last value and the number
-
-pub same-true : (a b : ℤ) → a ≡ b → isSame a b ≡ true
-same-true a b e = rw e (go b)
-  where
-    go : (z : ℤ) → isSame z z ≡ true
-    go (pos n) = eq-eqb n n refl
-    go (negsuc n) = eq-eqb n n refl
-
-pub same-false : (a b : ℤ) → a ≢ b → isSame a b ≡ false
-same-false (pos m) (pos n) d = ne-eqb m n (λ e. d (ap pos e))
-same-false (pos m) (negsuc n) d = refl
-same-false (negsuc m) (pos n) d = refl
-same-false (negsuc m) (negsuc n) d = ne-eqb m n (λ e. d (ap negsuc e))

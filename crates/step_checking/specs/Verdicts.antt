@@ -1,18 +1,26 @@
--- The verdict on one step, tested for 9 before 10 or 11, and on the end of all steps, 12 (docs/RULES.md, "Refusals").
+-- The verdict on one step, tested for 9 before 10 or 11 (docs/RULES.md, "Refusals"), and what it leaves in the work space.
+use Prim.Native.Nat.{ℕ, _+_}
 use Prim.Native.Nat.{ℕ}
-use mathlib.Core.Bool.{Bool, false, _&&_, cond}
-use mathlib.Core.List.{List}
-use lib.Dec.{ltb, eqb, leb}
-use lib.IntN.{ℤ, pos, negsuc, natAbs}
-use lib.ListN.{length}
+use Rattle.chains.specs.Steps.{Step, subtracting}
+use Rattle.chains.specs.Steps.{Step}
+use Rattle.chains.specs.Values.{stepValue}
+use Rattle.chains.specs.Values.{stepValue}
+use Rattle.rules.specs.Limits.{valueBound}
 use Rattle.rules.specs.Limits.{valueBound}
 use Rattle.rules.specs.Outcome.{andThen}
-use Rattle.rules.specs.declared.Refusal.the-variants.{MalformedStep, ValueIsZero, ValueTooLarge, WrongEnd}
-use Rattle.rules.specs.declared.Verdict.{Verdict}
+use Rattle.rules.specs.declared.Refusal.the-variants.{MalformedStep, ValueIsZero, ValueTooLarge}
 use Rattle.rules.specs.declared.Verdict.the-variants.{Passed, Failed}
-use Rattle.integers.specs.Positional.{bytesValue}
-use Rattle.chains.specs.Steps.{Step, subtracting}
-use Rattle.chains.specs.Values.{stepValue}
+use Rattle.rules.specs.declared.Verdict.{Verdict}
+use lib.Dec.{ltb, eqb, leb}
+use lib.IntN.{ℤ, natAbs}
+use lib.IntN.{ℤ, natAbs}
+use lib.ListN.{length}
+use lib.ListN.{length}
+use mathlib.Core.Bool.{Bool, _&&_, cond}
+use mathlib.Core.List.{List, [], _∷_, _++_}
+use mathlib.Core.List.{List}
+use mathlib.Core.Path.{_≡_}
+use Rattle.work_space.specs.Records.{Recording}
 
 -- the operation is known, and both positions are below the step's own, i
 unfoldable pub isWellFormed : ℕ → Step → Bool
@@ -30,13 +38,13 @@ valueVerdict i zero small = cond zero (Failed (ValueIsZero i)) (cond small Passe
 unfoldable pub stepVerdict : List ℤ → Step → Verdict
 stepVerdict values s = andThen (formVerdict (length values) s) (valueVerdict (length values) (eqb (natAbs (stepValue values s)) 0) (ltb (natAbs (stepValue values s)) valueBound))
 
--- two integers are the same
-abbrev pub isSame : ℤ → ℤ → Bool
-isSame (pos a) (pos b) = eqb a b
-isSame (pos a) (negsuc b) = false
-isSame (negsuc a) (pos b) = false
-isSame (negsuc a) (negsuc b) = eqb a b
+-- a step that passes fills the next position, and any other none
+abbrev pub grown : Verdict → List ℤ → ℤ → List ℤ
+grown Passed values z = values ++ (z ∷ [])
+grown (Failed r) values z = values
 
--- 12: all r steps are sound, and the last value is not the number
-abbrev pub endVerdict : List ℕ → ℤ → ℕ → Verdict
-endVerdict number end r = cond (isSame end (pos (bytesValue number))) Passed (Failed (WrongEnd r))
+-- the verdict on the step after n others, and the work space before and after it, whatever values are recorded by then
+abbrev pub StepChecked : Step → ℕ → List ℕ → List ℕ → Verdict → Type 0
+StepChecked s n here next r =
+    (lent : List ℕ) (values : List ℤ) → length values ≡ n + 1 → Recording lent here values
+    → (r ≡ stepVerdict values s) × Recording lent next (grown r values (stepValue values s))

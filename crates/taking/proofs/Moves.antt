@@ -14,6 +14,7 @@ use Rattle.rules.specs.Limits.{numberBytes}
 use Rattle.rules.specs.declared.Refusal.{Refusal}
 use Rattle.rules.specs.declared.Verdict.the-variants.{Failed}
 use Rattle.integers.specs.Positional.{bytesValue, wordsValue}
+use Rattle.integers.proofs.Carry.{bool-small}
 use Rattle.integers.proofs.Positional.{positional-drop}
 use Rattle.numbers.specs.Admission.{numberVerdict, Admitted}
 use Rattle.numbers.proofs.Tests.{number-only, admitted}
@@ -57,10 +58,6 @@ carry-half (suc zero) h = refl
 carry-half (suc (suc zero)) h = refl
 carry-half (suc (suc (suc zero))) h = refl
 carry-half (suc (suc (suc (suc m)))) h = absurd (omega arith)
-
-pub one-small : (b : Bool) → boolByte b ≤ 1
-one-small true = omega arith
-one-small false = omega arith
 
 -- the low word has the two low bits
 low-word : (words : List ℕ) → getD words 0 0 % 4 ≡ wordsValue words % 4
@@ -106,7 +103,7 @@ module _ (r : Recoder) (none : Bool) (is-none : none ≡ eqb (wordsValue (r .wor
       let c : ℕ = boolByte (r .carry) in
       let word : ℕ = getD (r .words) 0 0 in
       let ones : ℕ = word % 2 + word / 2 % 2 + c in
-      let small : c ≤ 1 = omega (arith, one-small (r .carry)) in
+      let small : c ≤ 1 = omega (arith, bool-small (r .carry)) in
       let some : v + c ≢ 0 = going v (r .carry) (sym (ap (λ (t : Bool). t && not (r .carry)) is-none) ∙ left) in
       let w : word % 4 ≡ v % 4 = low-word (r .words) in
       let d : lowDigit 2 (word % 4 + c) ≡ lowDigit 2 (v + c) = same-digit (word % 4 + c) (v + c) (omega arith) in

@@ -38,7 +38,7 @@ pub enum Refusal {
         /// The step, counted from 1.
         step: usize,
     },
-    /// 11: the value at the step has a size of more than [`VALUE_BYTES`].
+    /// 11: the value at the step has a size of more than [`VALUE_BYTES`] bytes.
     ValueTooLarge {
         /// The step, counted from 1.
         step: usize,

@@ -6,20 +6,20 @@ use Prim.Native.Nat.{_-_}
 use lib.ListN.{length, getD, drop, length-drop}
 use lib.Seq.{take-all}
 use borrow.Author.Tests.{eq-eqb, ne-eqb, lt-ltb, le-ltb}
-use Rattle.hexadecimal.specs.Hex.{isPrefix, unmarked}
+use Rattle.hexadecimal.specs.Hex.{isPrefix, withoutPrefix}
 use borrow.Author.Needs.{needs}
 use Rattle.hexadecimal.proofs.without_prefix.Statement.{statement}
 use Rattle.hexadecimal.proofs.without_prefix.Tie as tie
 
 returns : tie.Need-returns
-unfolding unmarked
+unfolding withoutPrefix
 returns c = simp (lt-ltb _ _ (c .if1 .taken))
 
 shared-slice-read-if2 : tie.Need-shared-slice-read-if2
 shared-slice-read-if2 c = search needs
 
 returns-2 : tie.Need-returns-2
-unfolding unmarked
+unfolding withoutPrefix
 returns-2 c = simp (le-ltb _ _ (c .before .before .if1 .left), ne-eqb _ _ (c .if2 .taken))
 
 shared-slice-read-is-prefix : tie.Need-shared-slice-read-is-prefix
@@ -38,7 +38,7 @@ part-result-end : tie.Need-part-result-end
 part-result-end c = search needs
 
 returns-3 : tie.Need-returns-3
-unfolding unmarked
+unfolding withoutPrefix
 returns-3 c =
     let word = c .before .before .before .before .before .before .before .before .args .word .now in
     let prefix : isPrefix (getD (c .before .before .before .before .before .before .before .before .args .word .now) 1 0) ≡ true = sym (c .before .before .is-prefix .ensures) ∙ c .before .if3 .taken in
@@ -46,7 +46,7 @@ returns-3 c =
     (take-all (length word - 2) (drop 2 word) (omega (arith, length-drop 2 word)))
 
 returns-4 : tie.Need-returns-4
-unfolding unmarked
+unfolding withoutPrefix
 returns-4 c =
     let prefix : isPrefix (getD (c .before .before .before .before .before .before .before .args .word .now) 1 0) ≡ false = sym (c .before .is-prefix .ensures) ∙ c .if3 .left in
     simp (le-ltb _ _ (c .before .before .before .before .before .if1 .left), eq-eqb _ _ (c .before .before .before .if2 .left), prefix)

@@ -5,7 +5,8 @@ use native.Mathlib.Nat.{mul-div-le}
 use native.Mathlib.Omega.{arith}
 use Rattle.integers.specs.Positional.{bytesValue}
 use Rattle.integers.specs.Bits.{bitLength}
-use Rattle.integers.proofs.Bits.{some-bits, length-of-bytes}
+use lib.ListN.{length}
+use Rattle.integers.proofs.Bits.{some-bits, bytes-length}
 use borrow.Author.Needs.{needs}
 use Rattle.method_fixed_windows.proofs.top_window.Statement.{statement}
 use Rattle.method_fixed_windows.proofs.top_window.Tie as tie
@@ -24,7 +25,7 @@ returns c =
     let args = c .before .before .args in
     let n : ℕ = bitLength (bytesValue (args .number .now)) in
     rw (c .bit-length .ensures)
-    (refl, omega (arith, mul-div-le (n - 1) (args .width), length-of-bytes (args .number .now) (λ i. c .before .shared-slice-known .given i .fits)))
+    (refl, omega (arith, mul-div-le (n - 1) (args .width), bytes-length (args .number .now) (length (args .number .now)) (λ i. c .before .shared-slice-known .given i .fits) (omega arith)))
 
 pub top-window-spec : {M : Type 1} → statement M
 top-window-spec = tie.close (tie.spec bit-length-requires sub-result div-result returns)

@@ -17,9 +17,9 @@ zeros-above-requires c κs = search needs
 returns : tie.Need-returns
 returns c =
     let args = c .before .before .before .before .args in
-    let digits = c .before .before .bits-down in
+    let bits = c .before .before .bits-down in
     let zeros = c .zeros-above in
-    next-zeros (wordsValue (args .words .now)) (args .width) (search needs) (search needs) (args .place) (search needs) (digits .result) (digits .ensures) (zeros .result) (search needs) (search needs) (search needs) (search needs)
+    next-zeros (wordsValue (args .words .now)) (args .width) (search needs) (search needs) (args .place) (search needs) (bits .result) (bits .ensures) (zeros .result) (search needs) (search needs) (search needs) (search needs)
 
 window-in-requires : tie.Need-window-in-requires
 window-in-requires c κs = search needs
@@ -27,9 +27,9 @@ window-in-requires c κs = search needs
 returns-2 : tie.Need-returns-2
 returns-2 c =
     let args = c .before .before .before .before .args in
-    let digits = c .before .before .bits-down in
+    let bits = c .before .before .bits-down in
     rw (c .window-in .ensures)
-    (next-window (wordsValue (args .words .now)) (args .width) (search needs) (search needs) (args .place) (search needs) (digits .result) (digits .ensures) (search needs))
+    (next-window (wordsValue (args .words .now)) (args .width) (search needs) (search needs) (args .place) (search needs) (bits .result) (bits .ensures) (search needs))
 
 pub next-window-spec : {M : Type 1} → statement M
 next-window-spec =

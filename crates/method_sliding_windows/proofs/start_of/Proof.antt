@@ -7,14 +7,14 @@ use Rattle.integers.specs.Bits.{bitLength}
 use Rattle.integers.specs.Positional.{wordsValue}
 use Rattle.methods.proofs.SlidingWindows.{first-window}
 use Rattle.method_sliding_windows.specs.Scan.{windowAt, bitsDown, firstIn, tableSteps, startOf}
-use Rattle.method_sliding_windows.proofs.Digits.{start-large, start-window}
+use Rattle.method_sliding_windows.proofs.Bits.{start-large, start-window}
 use borrow.Author.Needs.{needs}
 use Rattle.method_sliding_windows.proofs.start_of.Statement.{statement}
 use Rattle.method_sliding_windows.proofs.start_of.Tie as tie
 
--- the digits from the top bit down
-digits : (c : tie.After-bits-down) → c .bits-down .result ≡ bitsDown (wordsValue (c .before .before .args .words .now)) (bitLength (wordsValue (c .before .before .args .words .now)) - 1)
-digits c = c .bits-down .ensures ∙ ap (λ (n : ℕ). bitsDown (wordsValue (c .before .before .args .words .now)) n) (c .before .before .pre .1 .0)
+-- the bits from the top bit down
+bits : (c : tie.After-bits-down) → c .bits-down .result ≡ bitsDown (wordsValue (c .before .before .args .words .now)) (bitLength (wordsValue (c .before .before .args .words .now)) - 1)
+bits c = c .bits-down .ensures ∙ ap (λ (n : ℕ). bitsDown (wordsValue (c .before .before .args .words .now)) n) (c .before .before .pre .1 .0)
 
 module _ (c : tie.After-window-in) where
   abbrev e : ℕ
@@ -27,7 +27,7 @@ module _ (c : tie.After-window-in) where
   some = search needs
 
   window : c .window-in .result ≡ windowAt e (bitLength e - 1) d
-  window = c .window-in .ensures ∙ ap (λ (x : ℕ). firstIn x d) (digits (c .before)) ∙ start-window e d some (search needs) (search needs)
+  window = c .window-in .ensures ∙ ap (λ (x : ℕ). firstIn x d) (bits (c .before)) ∙ start-window e d some (search needs) (search needs)
 
   within : c .window-in .result .bits < bitLength e - 1 + 2
   within = rw window (omega (arith, first-window e d some (search needs) .within))
@@ -37,7 +37,7 @@ bits-down-requires c κs = search needs
 
 window-in-requires : tie.Need-window-in-requires
 window-in-requires c κs =
-    (rw (digits c) (start-large (wordsValue (c .before .before .args .words .now)) (c .before .before .args .width) (search needs) (search needs) (search needs)), search needs)
+    (rw (bits c) (start-large (wordsValue (c .before .before .args .words .now)) (c .before .before .args .width) (search needs) (search needs) (search needs)), search needs)
 
 add-below : tie.Need-add-below
 add-below c = search needs

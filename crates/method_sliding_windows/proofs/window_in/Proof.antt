@@ -7,31 +7,31 @@ use Rattle.method_sliding_windows.proofs.window_in.Statement.{statement
 use Rattle.method_sliding_windows.proofs.window_in.Tie as tie
 
 cast-zeros : tie.Need-cast-zeros
-cast-zeros c = omega (arith, leading-le 64 (c .args .digits))
+cast-zeros c = omega (arith, leading-le 64 (c .args .bits))
 
 sub-window : tie.Need-sub-window
-sub-window c = omega (arith, leading-le 64 (c .args .digits))
+sub-window c = omega (arith, leading-le 64 (c .args .bits))
 
 sub-window-2 : tie.Need-sub-window-2
-sub-window-2 c = omega (arith, zeros-few (c .args .digits) (c .args .width) (search needs) (omega arith) (search needs) (search needs))
+sub-window-2 c = omega (arith, zeros-few (c .args .bits) (c .args .width) (search needs) (omega arith) (search needs) (search needs))
 
 shr-window : tie.Need-shr-window
 shr-window c = search needs
 
 cast-trailing : tie.Need-cast-trailing
-cast-trailing c = omega (arith, trailing-few (c .args .digits) (c .args .width) (search needs) (omega arith) (search needs) (search needs))
+cast-trailing c = omega (arith, trailing-few (c .args .bits) (c .args .width) (search needs) (omega arith) (search needs) (search needs))
 
 add-t7 : tie.Need-add-t7
-add-t7 c = omega (arith, leading-le 64 (c .args .digits))
+add-t7 c = omega (arith, leading-le 64 (c .args .bits))
 
 sub-t8 : tie.Need-sub-t8
-sub-t8 c = omega (arith, trailing-few (c .args .digits) (c .args .width) (search needs) (omega arith) (search needs) (search needs))
+sub-t8 c = omega (arith, trailing-few (c .args .bits) (c .args .width) (search needs) (omega arith) (search needs) (search needs))
 
 shr-t10 : tie.Need-shr-t10
-shr-t10 c = omega (arith, trailing-few (c .args .digits) (c .args .width) (search needs) (omega arith) (search needs) (search needs))
+shr-t10 c = omega (arith, trailing-few (c .args .bits) (c .args .width) (search needs) (omega arith) (search needs) (search needs))
 
 returns : tie.Need-returns
-returns c = first-read (c .args .digits) (c .args .width) (search needs) (omega arith) (search needs) (search needs)
+returns c = first-read (c .args .bits) (c .args .width) (search needs) (omega arith) (search needs) (search needs)
 
 pub window-in-spec : {M : Type 1} → statement M
 window-in-spec =

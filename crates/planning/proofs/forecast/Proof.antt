@@ -1,6 +1,6 @@
 -- `planning::forecast` meets its contract. Assumes nothing.
 use mathlib.Core.Path.{sym, _∙_}
-use Rattle.planning.proofs.Requests.{granted-allowed}
+use Rattle.requests.proofs.Requests.{granted-allowed}
 use borrow.Author.Needs.{needs}
 use Rattle.planning.proofs.forecast.Statement.{statement}
 use Rattle.planning.proofs.forecast.Tie as tie

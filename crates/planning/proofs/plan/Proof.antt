@@ -4,8 +4,8 @@ use Prim.Native.Nat.{_≤_}
 use native.Mathlib.Omega.{arith}
 use Rattle.rules.specs.Limits.{planSteps}
 use Rattle.chains.specs.Counts.{total}
-use Rattle.planning.proofs.Requests.{granted-allowed, counted-few}
-use Rattle.planning.proofs.Outcomes.{room-for, no-room, done}
+use Rattle.requests.proofs.Requests.{granted-allowed}
+use Rattle.planning.proofs.Outcomes.{counted-few, room-for, no-room, done}
 use borrow.Author.Needs.{needs}
 use Rattle.planning.proofs.plan.Statement.{statement}
 use Rattle.planning.proofs.plan.Tie as tie

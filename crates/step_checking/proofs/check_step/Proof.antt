@@ -8,8 +8,8 @@ use lib.Dec.{ltb, leb}
 use Rattle.records.specs.Value.{integerOf}
 use Rattle.chains.specs.Steps.{subtracting}
 use Rattle.chains.specs.Sound.{WellFormed}
-use Rattle.step_checking.specs.Verdicts.{isWellFormed, valueVerdict}
-use Rattle.step_checking.specs.WorkSpace.{asStep, StepChecked}
+use Rattle.step_reading.specs.Held.{asStep}
+use Rattle.step_checking.specs.Verdicts.{isWellFormed, valueVerdict, StepChecked}
 use Rattle.step_checking.proofs.Tested.{well-formed-is}
 use Rattle.step_checking.proofs.Outcomes.{Gives, gives, malformed-checked, stored-checked, left-checked}
 use borrow.Author.Needs.{needs}

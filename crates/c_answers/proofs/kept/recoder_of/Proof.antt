@@ -1,12 +1,6 @@
 -- `c_answers::kept::recoder_of` meets its contract. Assumes nothing.
-use mathlib.Core.Path.{ap}
-use Prim.Native.Nat.{ℕ, _+_}
-use lib.ListN.{take, getD}
-use Rattle.rules.specs.Limits.{numberWords}
-use Rattle.integers.specs.Positional.{wordsValue}
 use Rattle.taking.specs.Take.{standsFor}
 use Rattle.c_answers.specs.Kept.{keptNumber}
-use Rattle.c_answers.proofs.Copied.{carried-from}
 use borrow.Author.Needs.{needs}
 use Rattle.c_answers.proofs.kept.recoder_of.Statement.{statement}
 use Rattle.c_answers.proofs.kept.recoder_of.Tie as tie
@@ -19,9 +13,7 @@ array-read-t7 c = search needs
 
 returns : tie.Need-returns
 unfolding standsFor keptNumber
-returns c =
-    let kept = c .before .args .t1 in
-    rw (c .words-in .ensures) (ap (λ (carry : ℕ). wordsValue (take numberWords kept) + carry) (carried-from (getD kept numberWords 0)))
+returns c = rw (c .words-in .ensures)
 
 pub recoder-of-spec : {M : Type 1} → statement M
 recoder-of-spec = tie.close (tie.spec words-in-requires array-read-t7 returns)

@@ -1,6 +1,7 @@
 -- `taking::Recoder::take` meets its contract. Assumes nothing.
 use native.Mathlib.Omega.{arith}
-use Rattle.taking.proofs.Moves.{done-is, move-is, one-small}
+use Rattle.integers.proofs.Carry.{bool-small}
+use Rattle.taking.proofs.Moves.{done-is, move-is}
 use borrow.Author.Needs.{needs}
 use Rattle.taking.proofs.Recoder.take.Statement.{statement}
 use Rattle.taking.proofs.Recoder.take.Tie as tie
@@ -24,10 +25,10 @@ add-ones : tie.Need-add-ones
 add-ones c = search needs
 
 add-ones-2 : tie.Need-add-ones-2
-add-ones-2 c = omega (arith, one-small (c .before .before .before .before .args .self .carry))
+add-ones-2 c = omega (arith, bool-small (c .before .before .before .before .args .self .carry))
 
 add-residue : tie.Need-add-residue
-add-residue c = omega (arith, one-small (c .before .before .before .before .args .self .carry))
+add-residue c = omega (arith, bool-small (c .before .before .before .before .args .self .carry))
 
 halved-requires : tie.Need-halved-requires
 halved-requires c κs = search needs

@@ -1,0 +1,46 @@
+-- A work space in use: a record is read, and one more is stored. Assumes nothing.
+use mathlib.Core.Path.{_≡_, refl, ap, _∙_}
+use mathlib.Core.List.{List, [], _∷_, _++_, append-nil}
+use Prim.Native.Nat.{ℕ, _+_, _*_, _<_}
+use native.Mathlib.Decide.{decLt}
+use native.Mathlib.Nat.{zero-add}
+use native.Mathlib.Omega.{arith}
+use lib.IntN.{ℤ, pos, natAbs}
+use lib.ListN.{length, take, drop, length-append, List·getD-append}
+use lib.Seq.{getD-at}
+use Rattle.rules.specs.Limits.{valueBound, recordBytes}
+use Rattle.integers.proofs.Blocks.{placed, place-more}
+use Rattle.chains.specs.Values.{at}
+use Rattle.chains.specs.Records.{recordOf, recordsOf}
+use Rattle.chains.proofs.Records.{length-records, records-append, record-at}
+use Rattle.work_space.specs.Records.{Recording}
+
+-- no record yet
+pub recording-none : (lent : List ℕ) → Recording lent lent []
+unfolding recordsOf
+recording-none lent = record { small = λ j h. absurd (omega arith); bytes = refl }
+
+-- x is what the record at j says, if one stands there
+abbrev pub Loaded : List ℕ → ℕ → ℤ → Type 0
+Loaded here j x = (z : ℤ) → take recordBytes (drop (recordBytes * j) here) ≡ recordOf z → natAbs z < valueBound → x ≡ z
+
+module _ (lent here : List ℕ) (values : List ℤ) (w : Recording lent here values) where
+  pub loaded-is : (j : ℕ) (x : ℤ) → Loaded here j x → j < length values → x ≡ at values j
+  loaded-is j x l h = l (at values j) (rw (w .bytes) (record-at values (drop (recordBytes * length values) lent) j h)) (w .small j h)
+
+  -- one record more, after m others
+  pub recording-more : (z : ℤ) (m : ℕ) (next : List ℕ) → length values ≡ m → natAbs z < valueBound → next ≡ placed here (recordBytes * m) recordBytes (recordOf z)
+      → Recording lent next (values ++ (z ∷ []))
+  unfolding recordsOf
+  recording-more z m next long l e =
+      let front : length (recordsOf values) ≡ recordBytes * m = length-records values ∙ ap (λ (k : ℕ). recordBytes * k) long in
+      let total : recordBytes * length (values ++ (z ∷ [])) ≡ recordBytes * m + recordBytes = rw length-append (omega arith) in
+      let more = place-more lent 0 (recordBytes * m) (recordsOf values) front recordBytes (recordOf z) (omega arith) in
+      record {
+        small = λ j h. go j (decLt j (length values)) (rw length-append at h);
+        bytes = e ∙ rw (w .bytes, total, records-append values (z ∷ []), append-nil, long) (simp zero-add at more);
+      }
+    where
+      go : (j : ℕ) → Dec (j < length values) → j < length values + 1 → natAbs (at (values ++ (z ∷ [])) j) < valueBound
+      go j (yes h) b = rw (List·getD-append values (z ∷ []) (pos 0) j h) (w .small j h)
+      go j (no h) b = let e : length values ≡ j = omega arith in rw (getD-at values z [] (pos 0) j e) l

@@ -1,0 +1,18 @@
+-- A work space in use (docs/RULES.md, "Memory").
+use mathlib.Core.Path.{_≡_}
+use mathlib.Core.List.{List, _++_}
+use Prim.Native.Nat.{ℕ, _+_, _*_, _<_}
+use lib.IntN.{ℤ, natAbs}
+use lib.ListN.{length, drop}
+use Rattle.rules.specs.Limits.{valueBound, recordBytes}
+use Rattle.chains.specs.Values.{at}
+use Rattle.chains.specs.Records.{recordsOf}
+
+-- the records of these values from the start of a work space; bytes past these records stay
+abbrev pub recorded : List ℤ → List ℕ → List ℕ
+recorded values space = recordsOf values ++ drop (recordBytes * length values) space
+
+-- what was lent holds the records of these values, each of size below the bound
+pub record Recording (lent here : List ℕ) (values : List ℤ) : Type 0 where
+  pub small : (j : ℕ) → j < length values → natAbs (at values j) < valueBound
+  pub bytes : here ≡ recorded values lent

@@ -1,0 +1,62 @@
+// A work space in use: record 0 before the first step, and the last value beside the number.
+use integers::words_of;
+use records::Value;
+use records::load;
+use records::one;
+use records::store;
+use rules::NUMBER_WORDS;
+use rules::RECORD_BYTES;
+use rules::Refusal;
+use rules::Verdict;
+ghost use mathlib.Core.Path.{_≡_};
+ghost use Prim.Native.Nat.{_+_, _*_, _≤_};
+ghost use lib.IntN.{pos};
+ghost use lib.ListN.{length};
+ghost use Rattle.rules.specs.Limits.{recordBytes};
+ghost use Rattle.integers.specs.Positional.{bytesValue};
+ghost use Rattle.numbers.specs.Admission.{Positive};
+ghost use Rattle.records.specs.Value.{integerOf};
+ghost use Rattle.chains.specs.Values.{start};
+ghost use Rattle.work_space.specs.Records.{Recording};
+ghost use Rattle.work_space.specs.End.{isSame, EndChecked};
+
+// Position 0 holds 1.
+pub fn begin(space: &mut [u8])
+    requires { ⌜ recordBytes ≤ length (now space) ⌝ }
+    ensures { λ _. ⌜ Recording (now (space .entry)) (now (space .exit)) start ⌝ }
+{
+    store(space, 0, one());
+}
+
+// Whether a value is the number, which is not zero.
+fn is_number(v: Value, number: &[u8]) -> bool
+    requires { ⌜ Positive (now number) ⌝ }
+    ensures { λ r. ⌜ r ≡ isSame (integerOf v) (pos (bytesValue (now (number .entry)))) ⌝ }
+{
+    let words = v.words;
+    let negative = v.negative;
+    if negative {
+        return false;
+    }
+    let own = words_of(number);
+    let mut k = 0;
+    while k < NUMBER_WORDS {
+        if words[k] != own[k] {
+            return false;
+        }
+        k += 1;
+    }
+    words[NUMBER_WORDS] == 0
+}
+
+// The verdict after so many sound steps: 12 where the last value is not the number.
+pub fn finish(number: &[u8], space: &[u8], steps: usize) -> Verdict
+    requires { ⌜ Positive (now number) ⌝ }
+    requires { ⌜ recordBytes * steps + recordBytes ≤ length (now space) ⌝ }
+    ensures { λ r. ⌜ EndChecked (now (number .entry)) steps (now (space .entry)) r ⌝ }
+{
+    if is_number(load(space, RECORD_BYTES * steps), number) {
+        return Verdict::Passed;
+    }
+    Verdict::Failed(Refusal::WrongEnd(steps))
+}

@@ -51,7 +51,7 @@ module _ (digits : List ℕ) (room : ℕ) where
 
 -- ---- the length
 
--- one digit more than the string has, at most: 513 at the limit
+-- one digit more than the string has, at most
 pub cleaning-length : (s : List ℕ) → DigitString canonicalWidth s → length (cleaning s) ≤ length s + 1
 cleaning-length s given = rw (length-cleaning s) (canonical-length s given)
 

@@ -1,4 +1,4 @@
--- Binary digits and their number.
+-- Bits, and how many a number has.
 use Prim.Native.Nat.{ℕ, zero, suc, _/_, _%_, _^_}
 
 -- the bit of v at place i

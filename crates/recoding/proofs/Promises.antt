@@ -97,7 +97,7 @@ pub recoding-empty : recoding [] ≡ []
 unfolding recoding positional naf digitsOf
 recoding-empty = refl
 
--- n bytes have at most 8 n + 1 digits, so 257 at the limit
+-- n bytes have at most 8 n + 1 digits
 pub recoding-length : (number : List ℕ) → Below 256 number → length (recoding number) ≤ 8 * length number + 1
 recoding-length number b =
     let e : ℕ = bytesValue number in

@@ -44,7 +44,7 @@ pub fn count(number: &[u8]) -> usize
 }
 
 // The eight lowest bits, one to a byte, four in each half of the word. Copies of four
-// digits, each seven places above the one before, do not meet, and have digit j at place 8 j.
+// bits, each seven places above the one before, do not meet, and have bit j at place 8 j.
 fn spread(word: u64) -> u64
     ensures { λ r. ⌜ r ≡ bytesValue (tabulate (bit word) 8) ⌝ }
 {

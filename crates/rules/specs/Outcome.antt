@@ -1,4 +1,4 @@
--- What a call comes to, in numbers: the definition through which every promise goes.
+-- What a call comes to, in numbers: the definition through which every promise about an answer goes.
 use Prim.Native.Nat.{ℕ}
 use mathlib.Core.List.{List, [], _∷_}
 use Rattle.rules.specs.declared.Refusal.{Refusal}

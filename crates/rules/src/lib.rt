@@ -1,7 +1,7 @@
 // What every call shares (docs/RULES.md): the limits, the refusals, and the forms of an answer.
 //
-// A limit is written here and in specs/Limits.antt, and nowhere else: `current` shows that the two
-// agree.
+// In the code a limit's number stands here and in specs/Limits.antt, and `current` shows that the two
+// agree. docs/ARCHITECTURE.md, "How to change a limit", names the other files.
 ghost use mathlib.Core.Path.{_≡_};
 ghost use Rattle.rules.specs.Limits.{documented};
 ghost use Rattle.rules.specs.Refusals.{refusalNumber, refusalPlace};
@@ -20,7 +20,7 @@ pub const STEP_BYTES: usize = 5;
 
 pub const PLAN_STEPS: usize = 640;
 
-// Each value of a plan has a size of this many bytes, so it is below 2 to the power of 264.
+// Each value of a plan has a size of this many bytes, so it is below 2^(8 VALUE_BYTES).
 pub const VALUE_BYTES: usize = 33;
 
 // The words of eight bytes that hold such a size. The top one holds a single byte.

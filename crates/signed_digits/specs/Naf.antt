@@ -1,4 +1,4 @@
--- The non-adjacent form of width w of an integer, computed from the low end, digit by digit, as source document 004, section 2, does for w = 2.
+-- The non-adjacent form of width w of an integer, computed from the low end, digit by digit, as docs/RULES.md, 2.4, does for w = 2.
 -- proofs/Exists.antt shows that it has the form and the value, proofs/Unique.antt that no other string has both.
 use mathlib.Core.Bool.{cond}
 use mathlib.Core.List.{List, [], _∷_, map}

@@ -274,7 +274,7 @@ impl Requests {
 
     fn numbers(&mut self) {
         self.title(
-            "Document 01, numbers to try by hand: recoded, then taken digit by digit until done, and done again",
+            "Numbers to try by hand: recoded, then taken digit by digit until done, and done again",
         );
         for number in [0, 1, 3, 7, 15, 25, 27, 43] {
             self.recoded(&small(number));
@@ -299,14 +299,14 @@ impl Requests {
         for room in [7, 6, 40, 0] {
             self.recode(room, &small(43));
         }
-        self.title("Source document 004, table, column NAF");
+        self.title("The published table of non-adjacent forms");
         for number in 1..40 {
             self.recoded(&small(number));
         }
     }
 
     fn strings(&mut self) {
-        self.title("Document 01, numbers to try by hand: cleaned and read back, then what was written");
+        self.title("Numbers to try by hand: cleaned and read back, then what was written");
         self.cleaned(&digits(&[1, 1]));
         self.cleaned(&digits(&[-1, 1]));
         self.cleaned(&digits(&[0, 0, 1]));
@@ -358,7 +358,7 @@ impl Requests {
     }
 
     fn plans(&mut self) {
-        self.title("Document 01, numbers to try by hand: planned and forecast");
+        self.title("Numbers to try by hand: planned and forecast");
         for (method, width) in [(1, 0), (2, 2), (2, 3), (3, 2), (3, 3), (4, 0)] {
             self.planned(&small(43), method, width);
         }
@@ -407,7 +407,7 @@ impl Requests {
     }
 
     fn checks(&mut self) {
-        self.title("Document 01, numbers to try by hand: plans checked");
+        self.title("Numbers to try by hand: plans checked");
         self.check(FEW, &small(3), &[add(0, 0), subtract(0, 1), subtract(1, 2)].concat());
         self.check(FEW, &small(1), &[]);
         self.check(FEW, &small(2), &[]);

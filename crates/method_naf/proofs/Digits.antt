@@ -17,8 +17,7 @@ use Rattle.signed_digits.specs.Bytes.{digitByte}
 use Rattle.signed_digits.proofs.Steps.{rests, Low, even, plus as plus-one, minus as minus-one, low}
 use Rattle.signed_digits.proofs.Triple.{digit-left}
 use Rattle.recoding.specs.Recode.{recoding, recodeAnswer, recodeBuffer}
-use Rattle.recoding.proofs.Outcomes.{length-recoding}
-use Rattle.recoding.proofs.Outcomes.{length-answered}
+use Rattle.recoding.proofs.Outcomes.{length-recoding, length-answered}
 use Rattle.recoding.proofs.Promises.{recoding-length}
 use Rattle.methods.specs.Forecast.{isPlus, isMinus}
 use Rattle.method_naf.specs.Digits.{mostDigits, Digit, nought, plus, minus, Recoded}

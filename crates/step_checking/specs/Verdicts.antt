@@ -1,11 +1,7 @@
 -- The verdict on one step, tested for 9 before 10 or 11 (docs/RULES.md, "Refusals"), and what it leaves in the work space.
 use Prim.Native.Nat.{ℕ, _+_}
-use Prim.Native.Nat.{ℕ}
 use Rattle.chains.specs.Steps.{Step, subtracting}
-use Rattle.chains.specs.Steps.{Step}
 use Rattle.chains.specs.Values.{stepValue}
-use Rattle.chains.specs.Values.{stepValue}
-use Rattle.rules.specs.Limits.{valueBound}
 use Rattle.rules.specs.Limits.{valueBound}
 use Rattle.rules.specs.Outcome.{andThen}
 use Rattle.rules.specs.declared.Refusal.the-variants.{MalformedStep, ValueIsZero, ValueTooLarge}
@@ -13,12 +9,9 @@ use Rattle.rules.specs.declared.Verdict.the-variants.{Passed, Failed}
 use Rattle.rules.specs.declared.Verdict.{Verdict}
 use lib.Dec.{ltb, eqb, leb}
 use lib.IntN.{ℤ, natAbs}
-use lib.IntN.{ℤ, natAbs}
-use lib.ListN.{length}
 use lib.ListN.{length}
 use mathlib.Core.Bool.{Bool, _&&_, cond}
 use mathlib.Core.List.{List, [], _∷_, _++_}
-use mathlib.Core.List.{List}
 use mathlib.Core.Path.{_≡_}
 use Rattle.work_space.specs.Records.{Recording}
 

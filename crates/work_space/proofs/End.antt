@@ -1,17 +1,13 @@
 -- The last value beside the number. Assumes nothing.
 use Prim.Native.Nat.{ℕ}
-use Prim.Native.Nat.{ℕ}
 use Rattle.integers.specs.Positional.{bytesValue}
 use Rattle.rules.specs.declared.Refusal.the-variants.{WrongEnd}
 use Rattle.rules.specs.declared.Verdict.the-variants.{Passed, Failed}
 use borrow.Author.Tests.{eq-eqb, ne-eqb}
-use lib.IntN.{ℤ, pos}
 use lib.IntN.{ℤ, pos, negsuc}
-use mathlib.Core.Bool.{Bool, true, false}
 use mathlib.Core.Bool.{Bool, true, false, cond}
 use mathlib.Core.List.{List}
 use mathlib.Core.Logic.{_≢_}
-use mathlib.Core.Path.{_≡_, refl}
 use mathlib.Core.Path.{_≡_, refl, ap}
 use native.Mathlib.Omega.{arith}
 use Rattle.work_space.specs.End.{isSame, EndChecked}

@@ -1,18 +1,14 @@
 -- The end of all steps, refusal 12 (docs/RULES.md, "Refusals").
 use Prim.Native.Nat.{ℕ, _+_}
-use Prim.Native.Nat.{ℕ}
 use Rattle.chains.specs.Values.{at}
 use Rattle.integers.specs.Positional.{bytesValue}
 use Rattle.rules.specs.declared.Refusal.the-variants.{WrongEnd}
 use Rattle.rules.specs.declared.Verdict.the-variants.{Passed, Failed}
 use Rattle.rules.specs.declared.Verdict.{Verdict}
 use lib.Dec.{eqb}
-use lib.IntN.{ℤ}
 use lib.IntN.{ℤ, pos, negsuc}
 use lib.ListN.{length}
-use lib.ListN.{length}
 use mathlib.Core.Bool.{Bool, false, cond}
-use mathlib.Core.List.{List}
 use mathlib.Core.List.{List}
 use mathlib.Core.Path.{_≡_}
 use Rattle.work_space.specs.Records.{Recording}

@@ -1,6 +1,7 @@
 -- The bit length, and the quotients by powers of two that a scan from the top meets. Assumes nothing.
 use mathlib.Core.Path.{_≡_, refl, sym, ap, _∙_}
 use mathlib.Core.Logic.{_↔_}
+use mathlib.Core.Bool.{Bool, true, false}
 use mathlib.Core.List.{List}
 use Prim.Native.Nat.{ℕ, zero, suc, _+_, _*_, _-_, _/_, _%_, _^_, _<_, _≤_}
 use native.Mathlib.Nat.{pow-suc, mul-comm, div-lt-iff-lt-mul, div-le-self}
@@ -9,6 +10,7 @@ use native.Mathlib.Omega.{arith}
 use lib.Count.{leadingZeros, leading-length}
 use lib.ListN.{length, getD, drop}
 use lib.Pow.{pow-pos, pow-add, shr-shr, split, field, mod-mod-pow}
+use mir.Val.{boolByte}
 use Rattle.integers.specs.Bits.{bit, lengthUpTo, bitLength}
 use Rattle.integers.specs.Positional.{positional, bytesValue, Significant}
 use Rattle.integers.proofs.Powers.{power-of-power}
@@ -178,3 +180,8 @@ length-by-top l n b s some =
     let nonzero : 0 < t = omega (arith, s .top some) in
     let c = length-from (bytesValue l) (n - 1) m (omega arith) (omega arith) (omega arith) in
     omega arith
+
+-- the byte of a truth value
+pub bool-small : (p : Bool) → boolByte p ≤ 1
+bool-small true = omega arith
+bool-small false = omega arith

@@ -6,6 +6,4 @@ pub mod Tabulate
 pub mod Blocks
 pub mod Words
 pub mod Shortest
-pub mod Carry
-pub mod Down
 pub mod Counting

@@ -1,15 +1,12 @@
-// Little-endian numbers: bytes and words.
+// Numbers as bytes, the least significant first: bytes, bits and words of them.
 use rules::NUMBER_WORDS;
 ghost use mathlib.Core.Path.{_≡_};
-ghost use mathlib.Core.List.{_∷_, _++_};
 ghost use Prim.Native.Nat.{_+_, _*_, _/_, _%_, _^_, _<_, _≤_};
 ghost use lib.Count;
-ghost use lib.Dec.{eqb};
 ghost use lib.ListN.{length, take, drop, getD};
-ghost use mir.Val.{boolByte};
 ghost use Rattle.rules.specs.Limits.{numberBytes};
 ghost use Rattle.integers.specs.Bits.{bit, bitLength};
-ghost use Rattle.integers.specs.Positional.{bytesValue, wordsValue, lowBytes, Significant};
+ghost use Rattle.integers.specs.Positional.{bytesValue, wordsValue, Significant};
 
 // The byte at a place: 0 above the number.
 pub fn byte_at(number: &[u8], place: usize) -> u64
@@ -136,103 +133,4 @@ pub fn words_of(number: &[u8]) -> [u64; NUMBER_WORDS]
         k += 1;
     }
     words
-}
-
-// The word at k: 0 above the highest.
-fn word_in(words: &[u64], k: usize) -> u64
-    ensures { λ r. ⌜ r ≡ getD (now (words .entry)) k 0 ⌝ }
-{
-    if k < words.len() { words[k] } else { 0 }
-}
-
-// The word below k: 0 below the lowest.
-fn word_under(words: &[u64], k: usize) -> u64
-    ensures { λ r. ⌜ r ≡ getD (0 ∷ now (words .entry)) k 0 ⌝ }
-{
-    if k == 0 { 0 } else { word_in(words, k - 1) }
-}
-
-// The 64 bits from place n down, the one at n as the highest. Below place 0 stand zeros.
-pub fn bits_down(words: &[u64], n: usize) -> u64
-    ensures { λ r. ⌜ r ≡ 2 ^ 64 * wordsValue (now (words .entry)) / 2 ^ (n + 1) % 2 ^ 64 ⌝ }
-{
-    let k = n / 64;
-    (word_in(words, k) << (63 - n % 64)) + (word_under(words, k) >> (n % 64)) / 2
-}
-
-// Whether the words hold nothing: without a branch, since most numbers have no zero word.
-pub fn is_zero(words: &[u64]) -> bool
-    ensures { λ r. ⌜ r ≡ eqb (wordsValue (now (words .entry))) 0 ⌝ }
-{
-    let mut none = true;
-    let mut k = 0;
-    while k < words.len() {
-        none = none & (words[k] == 0);
-        k += 1;
-    }
-    none
-}
-
-// Half of the number that the words hold, rounded down.
-pub fn halved(words: [u64; NUMBER_WORDS]) -> [u64; NUMBER_WORDS]
-    ensures { λ r. ⌜ wordsValue r ≡ wordsValue words / 2 ⌝ }
-{
-    let mut half = words;
-    let mut k = 0;
-    while k + 1 < NUMBER_WORDS {
-        half[k] = words[k] / 2 + words[k + 1] % 2 * 0x8000_0000_0000_0000;
-        k += 1;
-    }
-    half[k] = words[k] / 2;
-    half
-}
-
-// Writes the eight bytes of a word at `at`.
-pub fn store_word(bytes: &mut [u8], at: usize, word: u64)
-    requires { ⌜ at + 8 ≤ length (now bytes) ⌝ }
-    ensures { λ _. ⌜ now (bytes .exit) ≡ take at (now (bytes .entry)) ++ (lowBytes 8 word ++ drop (at + 8) (now (bytes .entry))) ⌝ }
-{
-    let mut rest = word;
-    let mut i = 0;
-    while i < 8 {
-        bytes[at + i] = (rest % 256) as u8;
-        rest = rest / 256;
-        i += 1;
-    }
-}
-
-// A word of a sum, and whether it carries into the next.
-pub struct SumWord {
-    pub word: u64,
-    pub carry: bool,
-}
-
-// The sum of two words and a carry. A carry is seen because the sum has wrapped.
-pub fn add_with_carry(a: u64, b: u64, carry: bool) -> SumWord
-    ensures { λ r. ⌜ r .word + 2 ^ 64 * boolByte (r .carry) ≡ a + b + boolByte carry ⌝ }
-{
-    let half = std::num::wrapping_add_u64(a, b);
-    let word = std::num::wrapping_add_u64(half, carry as u64);
-    SumWord {
-        word,
-        carry: (half < a) | (word < half),
-    }
-}
-
-// A word of a difference, and whether it borrows from the next.
-pub struct DifferenceWord {
-    pub word: u64,
-    pub borrow: bool,
-}
-
-// The difference of two words, less a borrow.
-pub fn subtract_with_borrow(a: u64, b: u64, borrow: bool) -> DifferenceWord
-    ensures { λ r. ⌜ r .word + b + boolByte borrow ≡ a + 2 ^ 64 * boolByte (r .borrow) ⌝ }
-{
-    let less = borrow as u64;
-    let half = std::num::wrapping_sub_u64(a, b);
-    DifferenceWord {
-        word: std::num::wrapping_sub_u64(half, less),
-        borrow: (a < b) | (half < less),
-    }
 }

@@ -1,6 +1,5 @@
 // Method 3, sliding windows of at most `width` bits: its steps counted, and written.
 use integers::bit_length;
-use integers::bits_down;
 use integers::words_of;
 use methods::SLIDING_WINDOW_BITS;
 use plan_writing::Cursor;
@@ -9,6 +8,7 @@ use plan_writing::tables::table_counts;
 use plan_writing::tables::table_length;
 use plan_writing::tables::write_table;
 use rules::Counts;
+use words::bits_down;
 ghost use mathlib.Core.Path.{_≡_};
 ghost use mathlib.Core.Logic.{_≢_};
 ghost use mathlib.Core.List.{List, _++_};

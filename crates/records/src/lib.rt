@@ -1,10 +1,10 @@
 // Values of a chain, signed and of a fixed size, and their records in a work space.
-use integers::add_with_carry;
-use integers::store_word;
-use integers::subtract_with_borrow;
 use integers::whole_word_at;
 use rules::VALUE_BYTES;
 use rules::VALUE_WORDS;
+use words::add_with_carry;
+use words::store_word;
+use words::subtract_with_borrow;
 ghost use mathlib.Core.Path.{_≡_};
 ghost use mathlib.Core.Bool.{cond};
 ghost use mathlib.Core.List.{_++_};
@@ -137,7 +137,7 @@ pub fn is_zero(v: Value) -> bool
     ensures { λ r. ⌜ r ≡ eqb (natAbs (integerOf v)) 0 ⌝ }
 {
     let words = v.words;
-    integers::is_zero(&words)
+    words::is_zero(&words)
 }
 
 // A size below the bound has a top word below this.

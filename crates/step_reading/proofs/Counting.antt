@@ -4,7 +4,7 @@ use mathlib.Core.Bool.{Bool, true, false, not, _&&_, cond}
 use Prim.Native.Nat.{_+_, _≤_}
 use native.Mathlib.Omega.{arith}
 use mir.Val.{boolByte}
-use Rattle.integers.proofs.Carry.{bool-small}
+use Rattle.integers.proofs.Bits.{bool-small}
 use Rattle.chains.specs.Counts.{counts, plus, total}
 use Rattle.rules.specs.declared.Counts.{Counts}
 

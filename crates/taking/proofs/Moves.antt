@@ -14,7 +14,7 @@ use Rattle.rules.specs.Limits.{numberBytes}
 use Rattle.rules.specs.declared.Refusal.{Refusal}
 use Rattle.rules.specs.declared.Verdict.the-variants.{Failed}
 use Rattle.integers.specs.Positional.{bytesValue, wordsValue}
-use Rattle.integers.proofs.Carry.{bool-small}
+use Rattle.integers.proofs.Bits.{bool-small}
 use Rattle.integers.proofs.Positional.{positional-drop}
 use Rattle.numbers.specs.Admission.{numberVerdict, Admitted}
 use Rattle.numbers.proofs.Tests.{number-only, admitted}

@@ -1,11 +1,11 @@
 // Canonical digits one at a time, lowest first.
-use integers::halved;
-use integers::is_zero;
 use integers::words_of;
 use numbers::number_verdict;
 use rules::NUMBER_WORDS;
 use rules::Refusal;
 use rules::Verdict;
+use words::halved;
+use words::is_zero;
 ghost use mathlib.Core.Path.{_≡_};
 ghost use Rattle.signed_digits.specs.Naf.{lowDigit};
 ghost use Rattle.signed_digits.specs.Bytes.{digitByte};

@@ -5,7 +5,7 @@ use lib.ListN.{length, take, replicate}
 use lib.Seq.{take-all}
 use Rattle.rules.specs.Limits.{valueWords}
 use Rattle.integers.specs.Positional.{positional, wordsValue}
-use Rattle.integers.proofs.Carry.{Carried, carried-none, difference-stored, stored-lt, carried-all}
+use Rattle.words.proofs.Carry.{Carried, carried-none, difference-stored, stored-lt, carried-all}
 use Rattle.records.proofs.Sizes.{borrowed}
 use borrow.Author.Needs.{needs}
 use Rattle.records.proofs.subtract_size.Statement.{statement}

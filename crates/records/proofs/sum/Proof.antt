@@ -4,7 +4,7 @@ use Prim.Native.Nat.{_≤_, _-_, _^_}
 use lib.ListN.{length, replicate}
 use Rattle.rules.specs.Limits.{valueWords, valueBound}
 use Rattle.integers.specs.Positional.{wordsValue}
-use Rattle.integers.proofs.Carry.{Carried, carried-none, sum-stored, carried-all}
+use Rattle.words.proofs.Carry.{Carried, carried-none, sum-stored, carried-all}
 use Rattle.records.proofs.Limits.{bound-twice}
 use Rattle.records.proofs.Sizes.{no-carry}
 use borrow.Author.Needs.{needs}

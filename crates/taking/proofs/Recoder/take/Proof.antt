@@ -1,6 +1,6 @@
 -- `taking::Recoder::take` meets its contract. Assumes nothing.
 use native.Mathlib.Omega.{arith}
-use Rattle.integers.proofs.Carry.{bool-small}
+use Rattle.integers.proofs.Bits.{bool-small}
 use Rattle.taking.proofs.Moves.{done-is, move-is}
 use borrow.Author.Needs.{needs}
 use Rattle.taking.proofs.Recoder.take.Statement.{statement}

@@ -1,4 +1,4 @@
--- `integers::is_zero` meets its contract: whether the words below k hold nothing. Assumes nothing.
+-- `words::is_zero` meets its contract: whether the words below k hold nothing. Assumes nothing.
 use mathlib.Core.Path.{_≡_, refl, _∙_, ap}
 use mathlib.Core.List.{List}
 use Prim.Native.Nat.{ℕ, _≤_, _-_}
@@ -6,11 +6,11 @@ use native.Mathlib.Omega.{arith}
 use lib.Dec.{eqb}
 use lib.ListN.{length, take}
 use lib.Seq.{take-all}
 use Rattle.integers.specs.Positional.{positional, wordsValue}
-use Rattle.integers.proofs.Words.{zero-more}
+use Rattle.words.proofs.Halves.{zero-more}
 use borrow.Author.Needs.{needs}
-use Rattle.integers.proofs.is_zero.Statement.{statement}
-use Rattle.integers.proofs.is_zero.Tie as tie
+use Rattle.words.proofs.is_zero.Statement.{statement}
+use Rattle.words.proofs.is_zero.Tie as tie
 
 abbrev Inv-loop : tie.InvT-loop
 Inv-loop words none₀ k₀ none k = (k ≤ length words) × (none ≡ eqb (wordsValue (take k words)) 0)

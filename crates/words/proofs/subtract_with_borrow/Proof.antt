@@ -1,9 +1,9 @@
--- `integers::subtract_with_borrow` meets its contract. Assumes nothing.
+-- `words::subtract_with_borrow` meets its contract. Assumes nothing.
 use native.Mathlib.Omega.{arith}
-use Rattle.integers.proofs.Carry.{difference-law}
+use Rattle.words.proofs.Carry.{difference-law}
 use borrow.Author.Needs.{needs}
-use Rattle.integers.proofs.subtract_with_borrow.Statement.{statement}
-use Rattle.integers.proofs.subtract_with_borrow.Tie as tie
+use Rattle.words.proofs.subtract_with_borrow.Statement.{statement}
+use Rattle.words.proofs.subtract_with_borrow.Tie as tie
 
 cast-less : tie.Need-cast-less
 cast-less c = search needs

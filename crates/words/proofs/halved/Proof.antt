@@ -1,4 +1,4 @@
--- `integers::halved` meets its contract: the words below k are those of half the number. Assumes nothing.
+-- `words::halved` meets its contract: the words below k are those of half the number. Assumes nothing.
 use mathlib.Core.Path.{_≡_}
 use Prim.Native.Nat.{_+_, _≤_, _-_}
 use native.Mathlib.Omega.{arith}
@@ -6,10 +6,10 @@ use lib.ListN.{length, getD}
 use mir.Syntax.{w64}
 use mir.Val.{Fits}
 use Rattle.rules.specs.Limits.{numberWords}
-use Rattle.integers.proofs.Words.{Halved, halved-none, halved-more, halved-all}
+use Rattle.words.proofs.Halves.{Halved, halved-none, halved-more, halved-all}
 use borrow.Author.Needs.{needs}
-use Rattle.integers.proofs.halved.Statement.{statement}
-use Rattle.integers.proofs.halved.Tie as tie
+use Rattle.words.proofs.halved.Statement.{statement}
+use Rattle.words.proofs.halved.Tie as tie
 
 abbrev Inv-loop : tie.InvT-loop
 Inv-loop words half₀ k₀ half k = (k + 1 ≤ numberWords) × (length half ≡ numberWords) × Halved k words half

@@ -1,16 +1,16 @@
--- `integers::store_word` meets its contract: after i turns the i low bytes stand. Assumes nothing.
+-- `words::store_word` meets its contract: after i turns the i low bytes stand. Assumes nothing.
 use mathlib.Core.Path.{_≡_, refl, sym, _∙_}
 use Prim.Native.Nat.{_≤_, _+_, _-_, _/_, _%_, _^_}
 use native.Mathlib.Nat.{add-zero, div-one, div-div-eq-div-mul, pow-suc}
 use native.Mathlib.Numerals.{add-one}
 use native.Mathlib.Omega.{arith}
 use lib.ListN.{length, take-append-drop}
 use Rattle.integers.specs.Positional.{lowBytes}
 use Rattle.integers.proofs.Blocks.{placed, place-one}
 use Rattle.integers.proofs.LowBytes.{length-low, low-add}
 use borrow.Author.Needs.{needs}
-use Rattle.integers.proofs.store_word.Statement.{statement}
-use Rattle.integers.proofs.store_word.Tie as tie
+use Rattle.words.proofs.store_word.Statement.{statement}
+use Rattle.words.proofs.store_word.Tie as tie
 
 abbrev Inv-loop : tie.InvT-loop
 Inv-loop bytes₀ at word rest₀ i₀ bytes rest i =

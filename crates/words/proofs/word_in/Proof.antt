@@ -1,9 +1,9 @@
--- `integers::word_in` meets its contract. Assumes nothing.
+-- `words::word_in` meets its contract. Assumes nothing.
 use mathlib.Core.Path.{sym}
 use lib.ListN.{List·getD-eq-default}
 use borrow.Author.Needs.{needs}
-use Rattle.integers.proofs.word_in.Statement.{statement}
-use Rattle.integers.proofs.word_in.Tie as tie
+use Rattle.words.proofs.word_in.Statement.{statement}
+use Rattle.words.proofs.word_in.Tie as tie
 
 mul-result : tie.Need-mul-result
 mul-result c = search needs

@@ -1,12 +1,12 @@
--- `integers::word_under` meets its contract. Assumes nothing.
+-- `words::word_under` meets its contract. Assumes nothing.
 use mathlib.Core.Path.{_≡_, ap, _∙_}
 use mathlib.Core.List.{_∷_}
 use Prim.Native.Nat.{ℕ, suc, _-_}
 use native.Mathlib.Omega.{arith}
 use lib.ListN.{getD}
 use borrow.Author.Needs.{needs}
-use Rattle.integers.proofs.word_under.Statement.{statement}
-use Rattle.integers.proofs.word_under.Tie as tie
+use Rattle.words.proofs.word_under.Statement.{statement}
+use Rattle.words.proofs.word_under.Tie as tie
 
 sub-word-in : tie.Need-sub-word-in
 sub-word-in c = search needs

@@ -12,8 +12,9 @@ use lib.Dec.{ltb}
 use lib.ListN.{length, getD, set, take}
 use lib.Seq.{take-all, take-set-le, getD-set-same}
 use mir.Val.{boolByte}
 use Rattle.integers.specs.Positional.{positional, wordsValue}
 use Rattle.integers.proofs.Positional.{positional-take}
+use Rattle.integers.proofs.Bits.{bool-small}
 
 -- a sum has wrapped where it is below its first part
 wrapped : (a b s : ℕ) → a < 2 ^ 64 → b < 2 ^ 64 → s ≡ (a + b) % 2 ^ 64 → s + 2 ^ 64 * boolByte (ltb s a) ≡ a + b
@@ -30,10 +31,6 @@ unwrapped a b d hb hd e = go (ltb a b) refl
     go : (t : Bool) → ltb a b ≡ t → d + b ≡ a + 2 ^ 64 * boolByte t
     go true l = omega (arith, ltb-true a b l)
     go false l = omega (arith, ltb-false a b l)
-
-pub bool-small : (p : Bool) → boolByte p ≤ 1
-bool-small true = omega arith
-bool-small false = omega arith
 
 -- of two that are not both true, either
 either : (p q : Bool) → boolByte p + boolByte q ≤ 1 → boolByte (p || q) ≡ boolByte p + boolByte q

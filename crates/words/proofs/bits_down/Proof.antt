@@ -1,14 +1,14 @@
--- `integers::bits_down` meets its contract. Assumes nothing.
+-- `words::bits_down` meets its contract. Assumes nothing.
 use mathlib.Core.Path.{_≡_}
 use Prim.Native.Nat.{_+_, _*_, _-_, _/_, _%_, _^_}
 use native.Mathlib.Nat.{mod-lt}
 use native.Mathlib.Omega.{arith}
 use lib.Pow.{pow-pos}
 use Rattle.integers.specs.Positional.{wordsValue}
-use Rattle.integers.proofs.Down.{bits-down}
+use Rattle.words.proofs.Down.{bits-down}
 use borrow.Author.Needs.{needs}
-use Rattle.integers.proofs.bits_down.Statement.{statement}
-use Rattle.integers.proofs.bits_down.Tie as tie
+use Rattle.words.proofs.bits_down.Statement.{statement}
+use Rattle.words.proofs.bits_down.Tie as tie
 
 -- the sum of what the two words give
 sum : (c : tie.After-word-under) →

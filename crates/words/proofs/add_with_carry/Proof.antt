@@ -1,9 +1,9 @@
--- `integers::add_with_carry` meets its contract. Assumes nothing.
+-- `words::add_with_carry` meets its contract. Assumes nothing.
 use native.Mathlib.Omega.{arith}
-use Rattle.integers.proofs.Carry.{sum-law}
+use Rattle.words.proofs.Carry.{sum-law}
 use borrow.Author.Needs.{needs}
-use Rattle.integers.proofs.add_with_carry.Statement.{statement}
-use Rattle.integers.proofs.add_with_carry.Tie as tie
+use Rattle.words.proofs.add_with_carry.Statement.{statement}
+use Rattle.words.proofs.add_with_carry.Tie as tie
 
 wrapping-add-u64-requires : tie.Need-wrapping-add-u64-requires
 wrapping-add-u64-requires c κs = search needs

@@ -1,0 +1,3 @@
+pub mod Carry
+mod Halves
+mod Down

@@ -20,7 +20,7 @@ use Rattle.chains.specs.Counts.{plus, stepCounts, countsOf}
 use Rattle.chains.proofs.Values.{valuesAfter, length-values, length-after, after-none, after-all, after-more}
 use Rattle.chains.proofs.Bytes.{length-steps, step-at, counts-append}
 use Rattle.step_checking.specs.Verdicts.{stepVerdict, grown, StepChecked}
-use Rattle.work_space.specs.Records.{Recording}
+use Rattle.records.specs.Recording.{Recording}
 use Rattle.work_space.specs.End.{EndChecked}
 use Rattle.checking.specs.Check.{admission, judge, judged, stepsVerdict, checkAnswer, checkSpace}
 use Rattle.checking.proofs.Judge.{judge-next, judge-stop, judge-end}

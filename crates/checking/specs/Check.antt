@@ -19,7 +19,7 @@ use Rattle.chains.specs.Values.{at, start, stepValue}
 use Rattle.chains.specs.Counts.{countsOf}
 use Rattle.step_checking.specs.Verdicts.{stepVerdict}
 use Rattle.work_space.specs.End.{endVerdict}
-use Rattle.work_space.specs.Records.{recorded}
+use Rattle.records.specs.Recording.{recorded}
 
 -- ---- before the steps: 1, 2, 7, 8
 

@@ -1,6 +1,5 @@
-pub mod Size
+pub mod Recording
 mod Limits
-mod Outcomes
 mod Records
-mod Signed
+mod Signs
 mod Sizes

@@ -17,7 +17,7 @@ use Rattle.integers.proofs.Blocks.{placed, place-more}
 use Rattle.integers.proofs.LowBytes.{low-whole}
 use Rattle.chains.specs.Records.{recordOf}
 use Rattle.records.proofs.Limits.{bound-bytes}
-use Rattle.records.proofs.Signed.{signed-of}
+use Rattle.records.proofs.Signs.{signed-of}
 
 first-rest : (l : List ℕ) (at n s : ℕ) (t : List ℕ) → at < length l → take (1 + n) (drop at l) ≡ s ∷ t → (getD l at 0 ≡ s) × (part (at + 1) n l ≡ t)
 first-rest l at n s t h e =

@@ -16,9 +16,9 @@ use Rattle.chains.specs.Values.{stepValue}
 use Rattle.chains.specs.Sound.{WellFormed}
 use Rattle.chains.specs.Records.{recordOf}
 use Rattle.step_checking.specs.Verdicts.{isWellFormed, valueVerdict, stepVerdict, grown, StepChecked}
-use Rattle.work_space.specs.Records.{Recording}
+use Rattle.records.specs.Recording.{Recording}
 use Rattle.step_checking.proofs.Tested.{well-formed-is}
-use Rattle.work_space.proofs.Recording.{Loaded, loaded-is, recording-more}
+use Rattle.records.proofs.Recording.{Loaded, loaded-is, recording-more}
 
 pub malformed-checked : (s : Step) (n : ℕ) (here : List ℕ) → isWellFormed (n + 1) s ≡ false → StepChecked s n here here (Failed (MalformedStep (n + 1)))
 unfolding stepVerdict

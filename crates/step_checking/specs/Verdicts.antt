@@ -13,7 +13,7 @@ use lib.ListN.{length}
 use mathlib.Core.Bool.{Bool, _&&_, cond}
 use mathlib.Core.List.{List, [], _∷_, _++_}
 use mathlib.Core.Path.{_≡_}
-use Rattle.work_space.specs.Records.{Recording}
+use Rattle.records.specs.Recording.{Recording}
 
 -- the operation is known, and both positions are below the step's own, i
 unfoldable pub isWellFormed : ℕ → Step → Bool

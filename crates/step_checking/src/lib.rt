@@ -1,7 +1,7 @@
 // Checking one step of a plan.
-use records::combined;
-use records::is_small;
-use records::is_zero;
+use chain_values::combined;
+use chain_values::is_small;
+use chain_values::is_zero;
 use records::load;
 use records::store;
 use rules::RECORD_BYTES;

@@ -11,7 +11,7 @@ use mathlib.Core.Logic.{_≢_}
 use mathlib.Core.Path.{_≡_, refl, ap}
 use native.Mathlib.Omega.{arith}
 use Rattle.work_space.specs.End.{isSame, EndChecked}
-use Rattle.work_space.proofs.Recording.{Loaded, loaded-is}
+use Rattle.records.proofs.Recording.{Loaded, loaded-is}
 
 pub same-true : (a b : ℤ) → a ≡ b → isSame a b ≡ true
 same-true a b e = rw e (go b)

@@ -14,8 +14,8 @@ use lib.Seq.{ext-getD, getD-at}
 use Rattle.integers.specs.Positional.{wordsValue}
 use Rattle.integers.specs.Signed.{signed}
 use Rattle.integers.proofs.Positional.{Below, positional-at, positional-zeros}
-use Rattle.records.specs.declared.Value.{Value}
-use Rattle.records.specs.Value.{integerOf}
+use Rattle.chain_values.specs.declared.Value.{Value}
+use Rattle.chain_values.specs.Value.{integerOf}
 use Rattle.work_space.specs.End.{isSame}
 
 -- ---- words, of which the first list has one more

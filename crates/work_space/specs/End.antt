@@ -11,7 +11,7 @@ use lib.ListN.{length}
 use mathlib.Core.Bool.{Bool, false, cond}
 use mathlib.Core.List.{List}
 use mathlib.Core.Path.{_≡_}
-use Rattle.work_space.specs.Records.{Recording}
+use Rattle.records.specs.Recording.{Recording}
 
 -- two integers are the same
 abbrev pub isSame : ℤ → ℤ → Bool

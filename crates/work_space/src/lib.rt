@@ -1,8 +1,8 @@
 // A work space in use: record 0 before the first step, and the last value beside the number.
+use chain_values::Value;
+use chain_values::one;
 use integers::words_of;
-use records::Value;
 use records::load;
-use records::one;
 use records::store;
 use rules::NUMBER_WORDS;
 use rules::RECORD_BYTES;
@@ -15,9 +15,9 @@ ghost use lib.ListN.{length};
 ghost use Rattle.rules.specs.Limits.{recordBytes};
 ghost use Rattle.integers.specs.Positional.{bytesValue};
 ghost use Rattle.numbers.specs.Admission.{Positive};
-ghost use Rattle.records.specs.Value.{integerOf};
+ghost use Rattle.chain_values.specs.Value.{integerOf};
 ghost use Rattle.chains.specs.Values.{start};
-ghost use Rattle.work_space.specs.Records.{Recording};
+ghost use Rattle.records.specs.Recording.{Recording};
 ghost use Rattle.work_space.specs.End.{isSame, EndChecked};
 
 // Position 0 holds 1.

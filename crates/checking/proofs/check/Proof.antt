@@ -12,7 +12,7 @@ use Rattle.chains.specs.Values.{start}
 use Rattle.chains.specs.Counts.{countsOf, total}
 use Rattle.chains.proofs.Bytes.{length-steps}
 use Rattle.step_reading.specs.Held.{asStep}
-use Rattle.work_space.specs.Records.{Recording}
+use Rattle.records.specs.Recording.{Recording}
 use Rattle.checking.specs.Check.{roomFor, admission}
 use Rattle.checking.proofs.Admission.{Checkable, checkable-is}
 use Rattle.checking.proofs.Underway.{Underway, Done, done-answer, done-space, underway-none, underway-next, underway-stop, underway-end, counts-more}

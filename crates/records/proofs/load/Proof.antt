@@ -1,6 +1,6 @@
 -- `records::load` meets its contract. Assumes nothing.
 use Prim.Native.Nat.{_+_}
-use Rattle.records.specs.Value.{integerOf}
+use Rattle.chain_values.specs.Value.{integerOf}
 use Rattle.records.proofs.Records.{size-below, record-read}
 use borrow.Author.Needs.{needs}
 use Rattle.records.proofs.load.Statement.{statement}

@@ -1,8 +1,8 @@
 -- `records::sign` meets its contract. Assumes nothing.
 use Rattle.integers.specs.Positional.{wordsValue}
-use Rattle.records.specs.Value.{integerOf}
-use Rattle.records.proofs.Signed.{sign-signed}
-use Rattle.records.proofs.Size.{size-is}
+use Rattle.chain_values.specs.Value.{integerOf}
+use Rattle.records.proofs.Signs.{sign-signed}
+use Rattle.chain_values.proofs.Size.{size-is}
 use borrow.Author.Needs.{needs}
 use Rattle.records.proofs.sign.Statement.{statement}
 use Rattle.records.proofs.sign.Tie as tie

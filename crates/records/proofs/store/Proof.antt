@@ -6,7 +6,7 @@ use Rattle.integers.specs.Positional.{lowBytes, wordsValue}
 use Rattle.rules.specs.Limits.{valueBytes}
 use Rattle.chains.specs.Records.{recordOf}
 use Rattle.records.proofs.Records.{record-placed}
-use Rattle.records.proofs.Size.{size-is}
+use Rattle.chain_values.proofs.Size.{size-is}
 use borrow.Author.Needs.{needs}
 use Rattle.records.proofs.store.Statement.{statement}
 use Rattle.records.proofs.store.Tie as tie

@@ -5,7 +5,7 @@ use Prim.Native.Nat.{_+_}
 use borrow.Author.Tests.{not-true, not-false}
 use native.Mathlib.Omega.{arith}
 use lib.Dec.{ltb, leb}
-use Rattle.records.specs.Value.{integerOf}
+use Rattle.chain_values.specs.Value.{integerOf}
 use Rattle.chains.specs.Steps.{subtracting}
 use Rattle.chains.specs.Sound.{WellFormed}
 use Rattle.step_reading.specs.Held.{asStep}

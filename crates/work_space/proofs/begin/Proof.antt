@@ -1,5 +1,5 @@
 -- `work_space::begin` meets its contract. Assumes nothing.
-use Rattle.work_space.proofs.Recording.{recording-none, recording-more}
+use Rattle.records.proofs.Recording.{recording-none, recording-more}
 use lib.IntN.{pos}
 use lib.Dec.{lit<}
 use mathlib.Core.List.{[]}

@@ -1,7 +1,7 @@
 -- `work_space::finish` meets its contract. Assumes nothing.
 use mathlib.Core.Path.{sym, _∙_}
 use mathlib.Core.Bool.{true, false}
-use Rattle.records.specs.Value.{integerOf}
+use Rattle.chain_values.specs.Value.{integerOf}
 use Rattle.work_space.proofs.End.{end-checked}
 use borrow.Author.Needs.{needs}
 use Rattle.work_space.proofs.finish.Statement.{statement}

@@ -1,8 +1,8 @@
--- `records::is_zero` meets its contract: the size is zero where its words hold nothing. Assumes nothing.
-use Rattle.records.proofs.Size.{size-is}
+-- `chain_values::is_zero` meets its contract: the size is zero where its words hold nothing. Assumes nothing.
+use Rattle.chain_values.proofs.Size.{size-is}
 use borrow.Author.Needs.{needs}
-use Rattle.records.proofs.is_zero.Statement.{statement}
-use Rattle.records.proofs.is_zero.Tie as tie
+use Rattle.chain_values.proofs.is_zero.Statement.{statement}
+use Rattle.chain_values.proofs.is_zero.Tie as tie
 
 slice-aggregate-is-zero : tie.Need-slice-aggregate-is-zero
 slice-aggregate-is-zero c = search needs

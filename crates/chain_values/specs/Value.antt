@@ -4,7 +4,7 @@ use lib.IntN.{ℤ}
 use Rattle.rules.specs.Limits.{valueBound}
 use Rattle.integers.specs.Positional.{wordsValue}
 use Rattle.integers.specs.Signed.{signed}
-use Rattle.records.specs.declared.Value.{Value}
+use Rattle.chain_values.specs.declared.Value.{Value}
 
 unfoldable pub integerOf : Value → ℤ
 integerOf v = signed (v .negative) (wordsValue (v .words))

@@ -6,9 +6,9 @@ use Prim.Native.Nat.{ℕ, _+_}
 use lib.IntN.{ℤ, _+ℤ_, _-ℤ_}
 use Rattle.integers.specs.Positional.{wordsValue}
 use Rattle.integers.specs.Signed.{signed}
-use Rattle.records.specs.declared.Value.{Value}
-use Rattle.records.specs.Value.{integerOf}
-use Rattle.records.proofs.Signed.{flipped, add-same, add-first, add-second}
+use Rattle.chain_values.specs.declared.Value.{Value}
+use Rattle.chain_values.specs.Value.{integerOf}
+use Rattle.chain_values.proofs.Signed.{flipped, add-same, add-first, add-second}
 
 -- a + b, or a - b
 abbrev combination : Value → Value → Bool → ℤ

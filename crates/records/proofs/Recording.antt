@@ -13,7 +13,7 @@ use Rattle.integers.proofs.Blocks.{placed, place-more}
 use Rattle.chains.specs.Values.{at}
 use Rattle.chains.specs.Records.{recordOf, recordsOf}
 use Rattle.chains.proofs.Records.{length-records, records-append, record-at}
-use Rattle.work_space.specs.Records.{Recording}
+use Rattle.records.specs.Recording.{Recording}
 
 -- no record yet
 pub recording-none : (lent : List ℕ) → Recording lent lent []

@@ -1,12 +1,12 @@
--- `records::combined` meets its contract. Assumes nothing.
+-- `chain_values::combined` meets its contract. Assumes nothing.
 use mathlib.Core.Path.{sym, _∙_}
 use borrow.Author.Tests.{ltb-true, ltb-false}
 use native.Mathlib.Nat.{le-of-lt}
 use Rattle.integers.specs.Positional.{wordsValue}
-use Rattle.records.proofs.Outcomes.{signs-agree, first-larger, second-larger}
+use Rattle.chain_values.proofs.Outcomes.{signs-agree, first-larger, second-larger}
 use borrow.Author.Needs.{needs}
-use Rattle.records.proofs.combined.Statement.{statement}
-use Rattle.records.proofs.combined.Tie as tie
+use Rattle.chain_values.proofs.combined.Statement.{statement}
+use Rattle.chain_values.proofs.combined.Tie as tie
 
 sum-requires : tie.Need-sum-requires
 sum-requires c κs = search needs

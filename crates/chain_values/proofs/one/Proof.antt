@@ -1,10 +1,10 @@
--- `records::one` meets its contract. Assumes nothing.
+-- `chain_values::one` meets its contract. Assumes nothing.
 use mathlib.Core.Path.{refl}
 use Rattle.integers.specs.Positional.{positional}
-use Rattle.records.specs.Value.{integerOf}
+use Rattle.chain_values.specs.Value.{integerOf}
 use borrow.Author.Needs.{needs}
-use Rattle.records.proofs.one.Statement.{statement}
-use Rattle.records.proofs.one.Tie as tie
+use Rattle.chain_values.proofs.one.Statement.{statement}
+use Rattle.chain_values.proofs.one.Tie as tie
 
 array-write-words : tie.Need-array-write-words
 array-write-words c = search needs

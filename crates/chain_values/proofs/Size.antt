@@ -2,9 +2,9 @@
 use mathlib.Core.Path.{_≡_}
 use lib.IntN.{natAbs}
 use Rattle.integers.specs.Positional.{wordsValue}
-use Rattle.records.specs.declared.Value.{Value}
-use Rattle.records.specs.Value.{integerOf}
-use Rattle.records.proofs.Signed.{size-signed}
+use Rattle.chain_values.specs.declared.Value.{Value}
+use Rattle.chain_values.specs.Value.{integerOf}
+use Rattle.chain_values.proofs.Signed.{size-signed}
 
 pub size-is : (v : Value) → natAbs (integerOf v) ≡ wordsValue (v .words)
 unfolding integerOf

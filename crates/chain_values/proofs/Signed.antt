@@ -1,28 +1,14 @@
 -- Integers by sign and size. Assumes nothing.
 use mathlib.Core.Path.{_≡_, refl, sym, ap, _∙_}
-use mathlib.Core.Bool.{Bool, true, false, not, _&&_, cond, Bool·beq}
+use mathlib.Core.Bool.{Bool, true, false, not, cond, Bool·beq}
 use Prim.Native.Nat.{ℕ, zero, suc, _+_}
-use borrow.Author.Tests.{ne-eqb}
-use native.Mathlib.Omega.{arith}
-use lib.Dec.{eqb}
-use lib.IntN.{ℤ, pos, negsuc, negℤ, natAbs, _+ℤ_, _-ℤ_, negℤ-negℤ, negℤ-+ℤ, +ℤ-comm, +ℤ-negℤ-cancel, -ℤ-+ℤ-cancel}
-use mir.Val.{boolByte}
-use Rattle.integers.specs.Signed.{signOf, signed}
+use lib.IntN.{ℤ, pos, negℤ, natAbs, _+ℤ_, _-ℤ_, negℤ-negℤ, negℤ-+ℤ, +ℤ-comm, +ℤ-negℤ-cancel, -ℤ-+ℤ-cancel}
+use Rattle.integers.specs.Signed.{signed}
 
 pub size-signed : (s : Bool) (n : ℕ) → natAbs (signed s n) ≡ n
 size-signed false n = refl
 size-signed true zero = refl
 size-signed true (suc n) = refl
-
--- zero has sign 0
-pub sign-signed : (s : Bool) (n : ℕ) → boolByte (s && not (eqb n 0)) ≡ signOf (signed s n)
-sign-signed false n = refl
-sign-signed true zero = refl
-sign-signed true (suc n) = rw (ne-eqb (suc n) 0 (λ e. omega arith))
-
-pub signed-of : (z : ℤ) → signed (eqb (signOf z) 1) (natAbs z) ≡ z
-signed-of (pos n) = refl
-signed-of (negsuc n) = refl
 
 -- to subtract is to add with the sign flipped
 pub flipped : (t s : Bool) (x : ℤ) (n : ℕ) → cond t (x -ℤ signed s n) (x +ℤ signed s n) ≡ x +ℤ signed (not (Bool·beq s t)) n

@@ -1,16 +1,16 @@
--- `records::is_small` meets its contract. Assumes nothing.
+-- `chain_values::is_small` meets its contract. Assumes nothing.
 use Prim.Native.Nat.{_-_, _^_}
 use lib.ListN.{getD}
 use mir.Syntax.{w64}
 use mir.Val.{Fits}
 use Rattle.rules.specs.Limits.{valueWords}
 use Rattle.integers.proofs.Positional.{Below}
-use Rattle.records.proofs.Limits.{bound-top}
-use Rattle.records.proofs.Size.{size-is}
-use Rattle.records.proofs.Sizes.{top-small}
+use Rattle.chain_values.proofs.Limits.{bound-top}
+use Rattle.chain_values.proofs.Size.{size-is}
+use Rattle.chain_values.proofs.Sizes.{top-small}
 use borrow.Author.Needs.{needs}
-use Rattle.records.proofs.is_small.Statement.{statement}
-use Rattle.records.proofs.is_small.Tie as tie
+use Rattle.chain_values.proofs.is_small.Statement.{statement}
+use Rattle.chain_values.proofs.is_small.Tie as tie
 
 sub-result : tie.Need-sub-result
 sub-result c = search needs

@@ -1,15 +1,15 @@
--- `records::sum` meets its contract: the k low words are added. Assumes nothing.
+-- `chain_values::sum` meets its contract: the k low words are added. Assumes nothing.
 use mathlib.Core.Path.{_≡_}
 use Prim.Native.Nat.{_≤_, _-_, _^_}
 use lib.ListN.{length, replicate}
 use Rattle.rules.specs.Limits.{valueWords, valueBound}
 use Rattle.integers.specs.Positional.{wordsValue}
 use Rattle.words.proofs.Carry.{Carried, carried-none, sum-stored, carried-all}
-use Rattle.records.proofs.Limits.{bound-twice}
-use Rattle.records.proofs.Sizes.{no-carry}
+use Rattle.chain_values.proofs.Limits.{bound-twice}
+use Rattle.chain_values.proofs.Sizes.{no-carry}
 use borrow.Author.Needs.{needs}
-use Rattle.records.proofs.sum.Statement.{statement}
-use Rattle.records.proofs.sum.Tie as tie
+use Rattle.chain_values.proofs.sum.Statement.{statement}
+use Rattle.chain_values.proofs.sum.Tie as tie
 
 abbrev Inv-loop : tie.InvT-loop
 Inv-loop a b words₀ carry₀ k₀ words carry k = (k ≤ valueWords) × (length words ≡ valueWords) × Carried k a b words carry

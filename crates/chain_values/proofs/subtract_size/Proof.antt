@@ -1,4 +1,4 @@
--- `records::subtract_size` meets its contract: the k low words are subtracted. Assumes nothing.
+-- `chain_values::subtract_size` meets its contract: the k low words are subtracted. Assumes nothing.
 use mathlib.Core.Path.{_≡_}
 use Prim.Native.Nat.{_≤_, _<_, _-_, _^_}
 use lib.ListN.{length, take, replicate}
@@ -6,10 +6,10 @@ use lib.Seq.{take-all}
 use Rattle.rules.specs.Limits.{valueWords}
 use Rattle.integers.specs.Positional.{positional, wordsValue}
 use Rattle.words.proofs.Carry.{Carried, carried-none, difference-stored, stored-lt, carried-all}
-use Rattle.records.proofs.Sizes.{borrowed}
+use Rattle.chain_values.proofs.Sizes.{borrowed}
 use borrow.Author.Needs.{needs}
-use Rattle.records.proofs.subtract_size.Statement.{statement}
-use Rattle.records.proofs.subtract_size.Tie as tie
+use Rattle.chain_values.proofs.subtract_size.Statement.{statement}
+use Rattle.chain_values.proofs.subtract_size.Tie as tie
 
 abbrev Inv-loop : tie.InvT-loop
 Inv-loop a b words₀ borrow₀ k₀ words borrow k =

@@ -1,0 +1,5 @@
+pub mod Size
+mod Limits
+mod Outcomes
+mod Signed
+mod Sizes

@@ -1,5 +1,6 @@
 -- Checking the steps of a plan one after the other. Assumes nothing.
 use mathlib.Core.Path.{_≡_, sym, _∙_}
+use mathlib.Core.Bool.{Bool, cond}
 use mathlib.Core.List.{List, [], _∷_}
 use Prim.Native.Nat.{ℕ, _+_, _*_, _/_, _<_}
 use native.Mathlib.Nat.{add-zero}
@@ -10,6 +11,7 @@ use lib.Seq.{take-suc}
 use Rattle.rules.specs.Limits.{stepBytes}
 use Rattle.rules.specs.Outcome.{unlessFailed}
 use Rattle.rules.specs.declared.Refusal.{Refusal}
+use Rattle.rules.specs.declared.Refusal.the-variants.{WrongEnd}
 use Rattle.rules.specs.declared.Counted.the-variants.{Steps, Refused}
 use Rattle.rules.specs.declared.Verdict.{Verdict}
 use Rattle.rules.specs.declared.Verdict.the-variants.{Passed, Failed}
@@ -21,7 +23,7 @@ use Rattle.chains.proofs.Values.{valuesAfter, length-values, length-after, afte
 use Rattle.chains.proofs.Bytes.{length-steps, step-at, counts-append}
 use Rattle.step_checking.specs.Verdicts.{stepVerdict, grown, StepChecked}
 use Rattle.records.specs.Recording.{Recording}
-use Rattle.work_space.specs.End.{EndChecked}
+use Rattle.work_space.specs.End.{EndsAt}
 use Rattle.checking.specs.Check.{admission, judge, judged, stepsVerdict, checkAnswer, checkSpace}
 use Rattle.checking.proofs.Judge.{judge-next, judge-stop, judge-end}
 
@@ -74,14 +76,14 @@ module _ (number plan lent here : List ℕ) (n : ℕ) (u : Underway plan lent he
         record { verdict = rw stop; recording = rw stop (rw e at (tested .1)) }
 
   -- after the last
-  pub underway-end : n ≡ length plan / stepBytes → {v : Verdict} → EndChecked number n here v → Done number plan lent here v
+  pub underway-end : n ≡ length plan / stepBytes → {t : Bool} → EndsAt number n here t → Done number plan lent here (cond t Passed (Failed (WrongEnd n)))
   unfolding stepsVerdict judged
   underway-end e end =
       let f : n ≡ length (stepsOf plan) = e ∙ sym (length-steps plan) in
       let all : Recording lent here (valuesOf (stepsOf plan)) = rw (← after-all (stepsOf plan), ← f) (u .recording) in
       let none : judge start (stepsOf plan) ≡ record { verdict = Passed; values = valuesOf (stepsOf plan) } = u .rest ∙ rw f (judge-end (stepsOf plan)) in
       record {
-        verdict = rw none (sym (rw f at (end lent (valuesOf (stepsOf plan)) (rw add-one (rw f (length-values (stepsOf plan)))) all)));
+        verdict = rw (none, f, rw f at (end lent (valuesOf (stepsOf plan)) (rw add-one (rw f (length-values (stepsOf plan)))) all));
         recording = rw none all;
       }
 

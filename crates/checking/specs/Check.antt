@@ -4,26 +4,27 @@ use Prim.Native.Nat.{ℕ, _+_, _*_, _/_, _%_}
 use mathlib.Core.Bool.{Bool, not, _||_, cond}
 use mathlib.Core.List.{List, [], _∷_, _++_}
 use lib.Dec.{ltb, eqb}
-use lib.IntN.{ℤ}
+use lib.IntN.{ℤ, pos}
 use lib.ListN.{length}
 use Rattle.rules.specs.Limits.{stepBytes, planSteps, recordBytes}
 use Rattle.rules.specs.Outcome.{andThen, unlessFailed}
-use Rattle.rules.specs.declared.Refusal.the-variants.{PlanLength, WorkSpaceTooShort}
+use Rattle.rules.specs.declared.Refusal.the-variants.{PlanLength, WorkSpaceTooShort, WrongEnd}
 use Rattle.rules.specs.declared.Counted.{Counted}
 use Rattle.rules.specs.declared.Counted.the-variants.{Steps, Refused}
 use Rattle.rules.specs.declared.Verdict.{Verdict}
 use Rattle.rules.specs.declared.Verdict.the-variants.{Passed, Failed}
+use Rattle.integers.specs.Positional.{bytesValue}
 use Rattle.numbers.specs.Admission.{positiveVerdict}
 use Rattle.chains.specs.Steps.{Step, stepsOf}
 use Rattle.chains.specs.Values.{at, start, stepValue}
 use Rattle.chains.specs.Counts.{countsOf}
 use Rattle.step_checking.specs.Verdicts.{stepVerdict}
-use Rattle.work_space.specs.End.{endVerdict}
+use Rattle.work_space.specs.End.{isSame}
 use Rattle.records.specs.Recording.{recorded}
 
 -- ---- before the steps: 1, 2, 7, 8
 
--- the room that the records of so many bytes of plan take: record 0 and one for each step
+-- the room that the records of a plan of this many bytes take: record 0 and one for each step
 abbrev pub roomFor : ℕ → ℕ
 roomFor planLength = recordBytes * (planLength / stepBytes + 1)
 
@@ -53,7 +54,10 @@ judge values (s ∷ steps) = unless (stepVerdict values s) values (judge (values
 unfoldable pub judged : List ℕ → Judged
 judged plan = judge start (stepsOf plan)
 
--- then 12
+-- then 12: the value after all r steps is not the number
+abbrev pub endVerdict : List ℕ → ℤ → ℕ → Verdict
+endVerdict number end r = cond (isSame end (pos (bytesValue number))) Passed (Failed (WrongEnd r))
+
 unfoldable pub stepsVerdict : List ℕ → List ℕ → Verdict
 stepsVerdict number plan = andThen (judged plan .verdict) (endVerdict number (at (judged plan .values) (length (stepsOf plan))) (length (stepsOf plan)))
 

@@ -11,7 +11,7 @@ use step_checking::check_step;
 use step_reading::count_step;
 use step_reading::read_step;
 use work_space::begin;
-use work_space::finish;
+use work_space::ends_at;
 ghost use mathlib.Core.Path.{_≡_};
 ghost use lib.ListN.{length};
 ghost use Rattle.checking.specs.Check.{admission, checkAnswer, checkSpace};
@@ -53,15 +53,14 @@ pub fn check(number: &[u8], plan: &[u8], space: &mut [u8]) -> Counted
     let mut n = 0;
     while n < steps {
         let step = read_step(plan, n);
-        counts = count_step(counts, step);
         if let Verdict::Failed(refusal) = check_step(step, space, n) {
             return Counted::Refused(refusal);
         }
+        counts = count_step(counts, step);
         n += 1;
     }
-    let verdict = finish(number, space, steps);
-    match verdict {
-        Verdict::Failed(refusal) => Counted::Refused(refusal),
-        Verdict::Passed => Counted::Steps(counts),
+    if ends_at(number, space, steps) {
+        return Counted::Steps(counts);
     }
+    Counted::Refused(Refusal::WrongEnd(steps))
 }

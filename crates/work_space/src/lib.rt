@@ -1,4 +1,4 @@
-// A work space in use: record 0 before the first step, and the last value beside the number.
+// A work space before the first step and after the last: record 0, and the last value beside the number.
 use chain_values::Value;
 use chain_values::one;
 use integers::words_of;
@@ -6,8 +6,6 @@ use records::load;
 use records::store;
 use rules::NUMBER_WORDS;
 use rules::RECORD_BYTES;
-use rules::Refusal;
-use rules::Verdict;
 ghost use mathlib.Core.Path.{_≡_};
 ghost use Prim.Native.Nat.{_+_, _*_, _≤_};
 ghost use lib.IntN.{pos};
@@ -18,7 +16,7 @@ ghost use Rattle.numbers.specs.Admission.{Positive};
 ghost use Rattle.chain_values.specs.Value.{integerOf};
 ghost use Rattle.chains.specs.Values.{start};
 ghost use Rattle.records.specs.Recording.{Recording};
-ghost use Rattle.work_space.specs.End.{isSame, EndChecked};
+ghost use Rattle.work_space.specs.End.{isSame, EndsAt};
 
 // Position 0 holds 1.
 pub fn begin(space: &mut [u8])
@@ -49,14 +47,11 @@ fn is_number(v: Value, number: &[u8]) -> bool
     words[NUMBER_WORDS] == 0
 }
 
-// The verdict after so many sound steps: 12 where the last value is not the number.
-pub fn finish(number: &[u8], space: &[u8], steps: usize) -> Verdict
+// Whether the value after this many steps is the number.
+pub fn ends_at(number: &[u8], space: &[u8], steps: usize) -> bool
     requires { ⌜ Positive (now number) ⌝ }
     requires { ⌜ recordBytes * steps + recordBytes ≤ length (now space) ⌝ }
-    ensures { λ r. ⌜ EndChecked (now (number .entry)) steps (now (space .entry)) r ⌝ }
+    ensures { λ r. ⌜ EndsAt (now (number .entry)) steps (now (space .entry)) r ⌝ }
 {
-    if is_number(load(space, RECORD_BYTES * steps), number) {
-        return Verdict::Passed;
-    }
-    Verdict::Failed(Refusal::WrongEnd(steps))
+    is_number(load(space, RECORD_BYTES * steps), number)
 }

@@ -1,12 +1,14 @@
 -- `checking::check` meets its contract: n steps are checked and counted. Assumes nothing.
 use mathlib.Core.Path.{_≡_, refl, sym, ap, _∙_}
+use mathlib.Core.Bool.{cond}
 use mathlib.Core.List.{List}
 use Prim.Native.Nat.{ℕ, _≤_, _-_, _/_}
 use native.Mathlib.Omega.{arith}
 use lib.ListN.{length, take}
 use lib.Seq.{take-all}
 use Rattle.rules.specs.Limits.{stepBytes}
-use Rattle.rules.specs.declared.Verdict.the-variants.{Passed}
+use Rattle.rules.specs.declared.Refusal.the-variants.{WrongEnd}
+use Rattle.rules.specs.declared.Verdict.the-variants.{Passed, Failed}
 use Rattle.chains.specs.Steps.{stepsOf}
 use Rattle.chains.specs.Values.{start}
 use Rattle.chains.specs.Counts.{countsOf, total}
@@ -71,22 +73,19 @@ underway c = c .loop .inv .4 _ (c .before .before .before .begin .ensures)
 read-step-requires : tie.Need-read-step-requires Inv-loop μ-loop
 read-step-requires c κs = search needs
 
-count-step-requires : tie.Need-count-step-requires Inv-loop μ-loop
-count-step-requires c κs = search needs
-
 check-step-requires : tie.Need-check-step-requires Inv-loop μ-loop
-check-step-requires c κs = omega (arith, room (c .before .before .before .before))
+check-step-requires c κs = omega (arith, room (c .before .before .before))
 
 enum-known-refusal-2 : tie.Need-enum-known-refusal-2 Inv-loop μ-loop
 enum-known-refusal-2 c = search needs
 
 same-length : tie.Need-same-length Inv-loop μ-loop
-same-length c = c .before .before .before .before .before .check-step .kept .1 .0 ∙ kept (c .before .before .before .before .before .before .before .before .before .before)
+same-length c = c .before .before .before .before .before .check-step .kept .1 .0 ∙ kept (c .before .before .before .before .before .before .before .before .before)
 
 returns-2 : tie.Need-returns-2 Inv-loop μ-loop
 returns-2 c =
     let checked = c .before .before .before .before .before in
-    let read = checked .before .before .before in
+    let read = checked .before .before in
     let at = read .before .before in
     let args = at .before .before .before .before .before .before .before .before .before .before .before .args in
     let check = checked .check-step in
@@ -96,6 +95,9 @@ returns-2 c =
 enum-told-2 : tie.Need-enum-told-2 Inv-loop μ-loop
 enum-told-2 c = search needs
 
+count-step-requires : tie.Need-count-step-requires Inv-loop μ-loop
+count-step-requires c κs = search needs
+
 add-n : tie.Need-add-n Inv-loop μ-loop
 add-n c = search needs
 
@@ -104,9 +106,10 @@ loop-less c = search needs
 
 loop-again : tie.Need-loop-again Inv-loop μ-loop
 loop-again c =
-    let checked = c .before .before .before .before in
-    let counted = checked .before .before in
-    let read = counted .before in
+    let counted = c in
+    let told = counted .before in
+    let checked = told .before .before .before .before in
+    let read = checked .before .before in
     let at = read .before .before in
     let args = at .before .before .before .before .before .before .before .before .before .before .before .args in
     let check = checked .check-step in
@@ -117,47 +120,45 @@ loop-again c =
       counted .count-step .ensures .0 ∙ rw (at .loop .inv .3) (counts-more (args .plan .now) (at .loop .n) step (search needs) (read .read-step .ensures)),
       λ lent w.
           underway-next (args .number .now) (args .plan .now) lent (at .loop .space) (at .loop .n) (at .loop .inv .4 lent w) (search needs) step (read .read-step .ensures) (check .result) (check .last .1 .0) (check .ensures)
-          (c .enum-told2 .given .1),
+          (told .enum-told2 .given .1),
     )
 
-finish-requires : tie.Need-finish-requires Inv-loop μ-loop
-finish-requires c κs = let at = c .before .before in (admitted (at .before .before .before .before .before) .positive, omega (arith, room at))
+ends-at-requires : tie.Need-ends-at-requires Inv-loop μ-loop
+ends-at-requires c κs = let at = c .before .before in (admitted (at .before .before .before .before .before) .positive, omega (arith, room at))
 
 -- the verdict after the last step
-ended : (c : tie.After-finish Inv-loop μ-loop)
-    → let at = c .before .before .before in let args = at .before .before .before .before .before .before .before .before .before .before .before .args in Done (args .number .now) (args .plan .now) (args .space .now) (at .loop .space) (c .finish .result)
+ended : (c : tie.After-ends-at Inv-loop μ-loop)
+    → let at = c .before .before .before in
+    let args = at .before .before .before .before .before .before .before .before .before .before .before .args in
+    Done (args .number .now) (args .plan .now) (args .space .now) (at .loop .space) (cond (c .ends-at .result) Passed (Failed (WrongEnd (length (args .plan .now) / stepBytes))))
 ended c =
     let at = c .before .before .before in
     let args = at .before .before .before .before .before .before .before .before .before .before .before .args in
     let e : at .loop .n ≡ length (args .plan .now) / stepBytes = omega arith in
-    underway-end (args .number .now) (args .plan .now) (args .space .now) (at .loop .space) (at .loop .n) (underway at) e (rw e (c .finish .ensures))
-
-enum-known-verdict : tie.Need-enum-known-verdict Inv-loop μ-loop
-enum-known-verdict c = search needs
-
-enum-told-3 : tie.Need-enum-told-3 Inv-loop μ-loop
-enum-told-3 c = search needs
+    rw e at (underway-end (args .number .now) (args .plan .now) (args .space .now) (at .loop .space) (at .loop .n) (underway at) e {t = c .ends-at .result} (rw e (c .ends-at .ensures)))
 
 same-length-2 : tie.Need-same-length-2 Inv-loop μ-loop
-same-length-2 c = kept (c .before .before .before .before .before .before)
+same-length-2 c = kept (c .before .before .before .before)
 
 returns-3 : tie.Need-returns-3 Inv-loop μ-loop
 returns-3 c =
-    let finished = c .before .before .before in
-    let done = rw (c .before .verdict .given .1) at (ended finished) in
-    (done-answer (passed (finished .before .before .before .before .before .before .before .before)) done, done-space (passed (finished .before .before .before .before .before .before .before .before)) done)
+    let finished = c .before in
+    let at = finished .before .before .before in
+    let plan = at .before .before .before .before .before .before .before .before .before .before .before .args .plan .now in
+    let done = rw (c .if1 .taken) at (ended finished) in
+    let all : at .loop .counts ≡ countsOf (stepsOf plan) = at .loop .inv .3 ∙ ap countsOf (take-all (at .loop .n) (stepsOf plan) (omega (arith, length-steps plan))) in
+    let admission = passed (at .before .before .before .before .before) in
+    (rw all (done-answer admission done), done-space admission done)
 
 same-length-3 : tie.Need-same-length-3 Inv-loop μ-loop
-same-length-3 c = kept (c .before .before .before .before .before)
+same-length-3 c = kept (c .before .before .before .before)
 
 returns-4 : tie.Need-returns-4 Inv-loop μ-loop
 returns-4 c =
-    let finished = c .before .before in
-    let loop = finished .before .before .before .loop in
-    let plan = finished .before .before .before .before .before .before .before .before .before .before .before .before .before .before .args .plan .now in
-    let done = rw (c .enum-told3 .given .1) at (ended finished) in
-    let all : loop .counts ≡ countsOf (stepsOf plan) = loop .inv .3 ∙ ap countsOf (take-all (loop .n) (stepsOf plan) (omega (arith, length-steps plan))) in
-    (rw all (done-answer (passed (finished .before .before .before .before .before .before .before .before)) done), done-space (passed (finished .before .before .before .before .before .before .before .before)) done)
+    let finished = c .before in
+    let done = rw (c .if1 .left) at (ended finished) in
+    let admission = passed (finished .before .before .before .before .before .before .before .before) in
+    (done-answer admission done, done-space admission done)
 
 pub check-spec : {M : Type 1} → statement M
 check-spec =
@@ -172,18 +173,16 @@ check-spec =
     begin-requires
     loop-holds
     read-step-requires
-    count-step-requires
     check-step-requires
     enum-known-refusal-2
     same-length
     returns-2
     enum-told-2
+    count-step-requires
     add-n
     loop-less
     loop-again
-    finish-requires
-    enum-known-verdict
-    enum-told-3
+    ends-at-requires
     same-length-2
     returns-3
     same-length-3

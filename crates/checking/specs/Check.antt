@@ -59,7 +59,9 @@ abbrev pub endVerdict : List ℕ → ℤ → ℕ → Verdict
 endVerdict number end r = cond (isSame end (pos (bytesValue number))) Passed (Failed (WrongEnd r))
 
 unfoldable pub stepsVerdict : List ℕ → List ℕ → Verdict
-stepsVerdict number plan = andThen (judged plan .verdict) (endVerdict number (at (judged plan .values) (length (stepsOf plan))) (length (stepsOf plan)))
+stepsVerdict number plan =
+    let r = length (stepsOf plan) in
+    andThen (judged plan .verdict) (endVerdict number (at (judged plan .values) r) r)
 
 -- ---- the answer, and the work space: untouched at 1, 2, 7 and 8; else the records of the values by then, and the bytes past these stay
 abbrev pub checkAnswer : List ℕ → List ℕ → ℕ → Counted

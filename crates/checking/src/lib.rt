@@ -59,8 +59,13 @@ pub fn check(number: &[u8], plan: &[u8], space: &mut [u8]) -> Counted
         counts = count_step(counts, step);
         n += 1;
     }
+    // Field by field: a copy of the whole is split into bytes, and then so is each turn's counting.
     if ends_at(number, space, steps) {
-        return Counted::Steps(counts);
+        return Counted::Steps(Counts {
+            doublings: counts.doublings,
+            additions: counts.additions,
+            subtractions: counts.subtractions,
+        });
     }
     Counted::Refused(Refusal::WrongEnd(steps))
 }

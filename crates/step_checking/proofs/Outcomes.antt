@@ -1,6 +1,6 @@
 -- What testing a step comes to at each of its outcomes. Assumes nothing.
-use mathlib.Core.Path.{_≡_, refl, sym, _∙_}
-use mathlib.Core.Bool.{Bool, true, false, not, _&&_, cond, false≢true}
+use mathlib.Core.Path.{_≡_, refl, _∙_}
+use mathlib.Core.Bool.{Bool, true, false, not, cond}
 use mathlib.Core.List.{List}
 use Prim.Native.Nat.{ℕ, _+_, _*_, _<_}
 use borrow.Author.Tests.{ltb-true}
@@ -8,14 +8,14 @@ use lib.Dec.{ltb, eqb}
 use lib.IntN.{ℤ, natAbs, _+ℤ_, _-ℤ_}
 use lib.ListN.{length}
 use Rattle.rules.specs.Limits.{valueBound, recordBytes}
-use Rattle.rules.specs.declared.Refusal.the-variants.{MalformedStep}
-use Rattle.rules.specs.declared.Verdict.the-variants.{Failed}
+use Rattle.rules.specs.declared.Refusal.the-variants.{MalformedStep, ValueIsZero, ValueTooLarge}
+use Rattle.rules.specs.declared.Verdict.the-variants.{Passed, Failed}
 use Rattle.integers.proofs.Blocks.{placed}
 use Rattle.chains.specs.Steps.{Step, adding}
 use Rattle.chains.specs.Values.{stepValue}
 use Rattle.chains.specs.Sound.{WellFormed}
 use Rattle.chains.specs.Records.{recordOf}
-use Rattle.step_checking.specs.Verdicts.{isWellFormed, valueVerdict, stepVerdict, grown, StepChecked}
+use Rattle.step_checking.specs.Verdicts.{isWellFormed, valueVerdict, stepVerdict, StepChecked}
 use Rattle.records.specs.Recording.{Recording}
 use Rattle.step_checking.proofs.Tested.{well-formed-is}
 use Rattle.records.proofs.Recording.{Loaded, loaded-is, recording-more}
@@ -45,25 +45,20 @@ gives s n here x y z formed first second e = record {
       e ∙ turned (eqb (s .operation) adding) (x -ℤ y) (x +ℤ y) ∙ rw (loaded-is lent here values w (s .first) x first j, loaded-is lent here values w (s .second) y second k);
 }
 
--- the verdict on its value; where it passes, the value is stored
-module _ (s : Step) (n : ℕ) (here : List ℕ) (z : ℤ) (g : Gives s n here z) (zero small : Bool) (is-zero : zero ≡ eqb (natAbs z) 0) (is-small : small ≡ ltb (natAbs z) valueBound) where
-  verdict-is : (lent : List ℕ) (values : List ℤ) → length values ≡ n + 1 → Recording lent here values → valueVerdict (n + 1) zero small ≡ stepVerdict values s
+-- the verdict on its value; if it passes, the value is stored
+module _ (s : Step) (n : ℕ) (here : List ℕ) (z : ℤ) (g : Gives s n here z) where
+  verdict-is : (lent : List ℕ) (values : List ℤ) → length values ≡ n + 1 → Recording lent here values
+      → valueVerdict (n + 1) (eqb (natAbs z) 0) (ltb (natAbs z) valueBound) ≡ stepVerdict values s
   unfolding stepVerdict
-  verdict-is lent values long w = rw (long, well-formed-is (n + 1) s .1 (g .formed), ← g .value lent values long w, is-zero, is-small)
+  verdict-is lent values long w = rw (long, well-formed-is (n + 1) s .1 (g .formed), ← g .value lent values long w)
 
-  pub stored-checked : (next : List ℕ) → small && not zero ≡ true → next ≡ placed here (recordBytes * (n + 1)) recordBytes (recordOf z)
-      → StepChecked s n here next (valueVerdict (n + 1) zero small)
-  stored-checked next passes store lent values long w = (verdict-is lent values long w, go zero small passes is-small)
-    where
-      go : (zero small : Bool) → small && not zero ≡ true → small ≡ ltb (natAbs z) valueBound → Recording lent next (grown (valueVerdict (n + 1) zero small) values (stepValue values s))
-      go false true e l = rw (← g .value lent values long w) (recording-more lent here values w z (n + 1) next long (ltb-true _ _ (sym l)) store)
-      go true true e l = absurd (false≢true e)
-      go zero false e l = absurd (false≢true e)
+  pub zero-checked : eqb (natAbs z) 0 ≡ true → StepChecked s n here here (Failed (ValueIsZero (n + 1)))
+  zero-checked e lent values long w = (rw e at (verdict-is lent values long w), w)
 
-  pub left-checked : small && not zero ≡ false → StepChecked s n here here (valueVerdict (n + 1) zero small)
-  left-checked fails lent values long w = (verdict-is lent values long w, go zero small fails)
-    where
-      go : (zero small : Bool) → small && not zero ≡ false → Recording lent here (grown (valueVerdict (n + 1) zero small) values (stepValue values s))
-      go true small e = w
-      go false false e = w
-      go false true e = absurd (false≢true (sym e))
+  module _ (nonzero : eqb (natAbs z) 0 ≡ false) where
+    pub large-checked : ltb (natAbs z) valueBound ≡ false → StepChecked s n here here (Failed (ValueTooLarge (n + 1)))
+    large-checked e lent values long w = (rw (nonzero, e) at (verdict-is lent values long w), w)
+
+    pub stored-checked : (next : List ℕ) → ltb (natAbs z) valueBound ≡ true → next ≡ placed here (recordBytes * (n + 1)) recordBytes (recordOf z) → StepChecked s n here next Passed
+    stored-checked next e store lent values long w =
+        (rw (nonzero, e) at (verdict-is lent values long w), rw (← g .value lent values long w) (recording-more lent here values w z (n + 1) next long (ltb-true _ _ e) store))

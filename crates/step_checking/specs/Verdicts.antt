@@ -29,7 +29,10 @@ valueVerdict i zero small = cond zero (Failed (ValueIsZero i)) (cond small Passe
 
 -- step i = the number of values, with the values of the positions below its own
 unfoldable pub stepVerdict : List ℤ → Step → Verdict
-stepVerdict values s = andThen (formVerdict (length values) s) (valueVerdict (length values) (eqb (natAbs (stepValue values s)) 0) (ltb (natAbs (stepValue values s)) valueBound))
+stepVerdict values s =
+    let i = length values in
+    let z = stepValue values s in
+    andThen (formVerdict i s) (valueVerdict i (eqb (natAbs z) 0) (ltb (natAbs z) valueBound))
 
 -- a step that passes fills the next position, and any other none
 abbrev pub grown : Verdict → List ℤ → ℤ → List ℤ

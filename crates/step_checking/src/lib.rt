@@ -8,14 +8,13 @@ use rules::RECORD_BYTES;
 use rules::Refusal;
 use rules::Verdict;
 use step_reading::Step;
-ghost use mathlib.Core.Path.{_≡_};
 ghost use Prim.Native.Nat.{_+_, _*_, _≤_};
 ghost use lib.ListN.{length};
 ghost use Rattle.rules.specs.Limits.{recordBytes};
 ghost use Rattle.step_reading.specs.Held.{asStep};
-ghost use Rattle.step_checking.specs.Verdicts.{valueVerdict, StepChecked};
+ghost use Rattle.step_checking.specs.Verdicts.{StepChecked};
 
-// Tests the step after n others, and records its value where it passes.
+// Tests the step after n others, and records its value if it passes.
 pub fn check_step(step: Step, space: &mut [u8], n: usize) -> Verdict
     requires { ⌜ recordBytes * n + 2 * recordBytes ≤ length (now space) ⌝ }
     ensures { λ r. ⌜ StepChecked (asStep step) n (now (space .entry)) (now (space .exit)) r ⌝ }
@@ -30,22 +29,11 @@ pub fn check_step(step: Step, space: &mut [u8], n: usize) -> Verdict
     let first = load(space, RECORD_BYTES * j);
     let second = load(space, RECORD_BYTES * k);
     let value = combined(first, second, step.operation != 0);
-    let zero = is_zero(value);
-    let small = is_small(value);
-    if small & !zero {
-        store(space, RECORD_BYTES * i, value);
-    }
-    value_verdict(i, zero, small)
-}
-
-// The verdict on the value of step i: 10 or 11.
-fn value_verdict(i: usize, zero: bool, small: bool) -> Verdict
-    ensures { λ r. ⌜ r ≡ valueVerdict i zero small ⌝ }
-{
-    if zero {
+    if is_zero(value) {
         return Verdict::Failed(Refusal::ValueIsZero(i));
     }
-    if small {
+    if is_small(value) {
+        store(space, RECORD_BYTES * i, value);
         return Verdict::Passed;
     }
     Verdict::Failed(Refusal::ValueTooLarge(i))

@@ -1,17 +1,18 @@
 -- `step_checking::check_step` meets its contract. Assumes nothing.
-use mathlib.Core.Bool.{_&&_}
-use mathlib.Core.Logic.{⊎-elim}
+use mathlib.Core.Path.{_≡_, sym, _∙_}
+use mathlib.Core.Bool.{false, _&&_}
 use Prim.Native.Nat.{_+_}
 use borrow.Author.Tests.{not-true, not-false}
 use native.Mathlib.Omega.{arith}
-use lib.Dec.{ltb, leb}
+use lib.Dec.{ltb, eqb, leb}
+use lib.IntN.{natAbs}
 use Rattle.chain_values.specs.Value.{integerOf}
 use Rattle.chains.specs.Steps.{subtracting}
 use Rattle.chains.specs.Sound.{WellFormed}
 use Rattle.step_reading.specs.Held.{asStep}
-use Rattle.step_checking.specs.Verdicts.{isWellFormed, valueVerdict, StepChecked}
+use Rattle.step_checking.specs.Verdicts.{isWellFormed}
 use Rattle.step_checking.proofs.Tested.{well-formed-is}
-use Rattle.step_checking.proofs.Outcomes.{Gives, gives, malformed-checked, stored-checked, left-checked}
+use Rattle.step_checking.proofs.Outcomes.{Gives, gives, malformed-checked, zero-checked, large-checked, stored-checked}
 use borrow.Author.Needs.{needs}
 use Rattle.step_checking.proofs.check_step.Statement.{statement}
 use Rattle.step_checking.proofs.check_step.Tie as tie
@@ -61,35 +62,48 @@ combines c =
 is-zero-requires : tie.Need-is-zero-requires
 is-zero-requires c κs = search needs
 
+same-length : tie.Need-same-length
+same-length c = search needs
+
+returns-2 : tie.Need-returns-2
+returns-2 c =
+    let tested = c .before in
+    let combined = tested .before in
+    let args = combined .before .before .before .before .before .before .before .before .before .args in
+    zero-checked (asStep (args .step)) (args .n) (args .space .now) _ (combines combined) (sym (tested .is-zero .ensures) ∙ c .if2 .taken)
+
 is-small-requires : tie.Need-is-small-requires
 is-small-requires c κs = search needs
 
 mul-store : tie.Need-mul-store
-mul-store c = omega (arith, formed (c .before .before .before .before .before .before .before .before .before .before) .first)
+mul-store c = search needs
 
 store-requires : tie.Need-store-requires
-store-requires c κs = omega (arith, formed (c .before .before .before .before .before .before .before .before .before .before) .first)
+store-requires c κs = search needs
 
-value-verdict-requires : tie.Need-value-verdict-requires
-value-verdict-requires c κs = search needs
+same-length-2 : tie.Need-same-length-2
+same-length-2 c = search needs
 
-same-length : tie.Need-same-length
-same-length c = ⊎-elim (λ w. rw (w .5) (w .2 .kept .0)) (λ w. rw (w .1)) (c .before .if2 .came)
+-- not zero
+nonzero : (c : tie.Else2) → eqb (natAbs (integerOf (c .before .before .combined .result))) 0 ≡ false
+nonzero c = sym (c .before .is-zero .ensures) ∙ c .if2 .left
 
-returns-2 : tie.Need-returns-2
-returns-2 c =
-    let tested = c .before .before in
-    let combined = tested .before .before in
+returns-3 : tie.Need-returns-3
+returns-3 c =
+    let stored = c .before .before in
+    let small = stored .before .before in
+    let combined = small .before .before .before .before in
     let args = combined .before .before .before .before .before .before .before .before .before .args in
-    let s = asStep (args .step) in
-    let here = args .space .now in
-    let zero = tested .before .is-zero in
-    let small = tested .is-small in
-    rw (c .value-verdict .ensures)
-    (⊎-elim {C = StepChecked s (args .n) here (c .before .if2 .space) (valueVerdict (args .n + 1) (zero .result) (small .result))}
-    (λ w. rw (w .5) (stored-checked s (args .n) here _ (combines combined) _ _ (zero .ensures) (small .ensures) (w .2 .last .0) (w .0 .taken) (w .2 .ensures)))
-    (λ w. rw (w .1) (left-checked s (args .n) here _ (combines combined) _ _ (zero .ensures) (small .ensures) (w .0 .left)))
-    (c .before .if2 .came))
+    stored-checked (asStep (args .step)) (args .n) (args .space .now) _ (combines combined) (nonzero (small .before .before)) _ (sym (small .before .is-small .ensures) ∙ small .if3 .taken) (stored .store .ensures)
+
+same-length-3 : tie.Need-same-length-3
+same-length-3 c = search needs
+
+returns-4 : tie.Need-returns-4
+returns-4 c =
+    let combined = c .before .before .before .before in
+    let args = combined .before .before .before .before .before .before .before .before .before .args in
+    large-checked (asStep (args .step)) (args .n) (args .space .now) _ (combines combined) (nonzero (c .before .before)) (sym (c .before .is-small .ensures) ∙ c .if3 .left)
 
 pub check-step-spec : {M : Type 1} → statement M
 check-step-spec =
@@ -103,9 +117,12 @@ check-step-spec =
     load-requires-2
     combined-requires
     is-zero-requires
+    same-length
+    returns-2
     is-small-requires
     mul-store
     store-requires
-    value-verdict-requires
-    same-length
-    returns-2)
+    same-length-2
+    returns-3
+    same-length-3
+    returns-4)

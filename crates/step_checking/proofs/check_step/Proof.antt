@@ -76,10 +76,10 @@ is-small-requires : tie.Need-is-small-requires
 is-small-requires c κs = search needs
 
 mul-store : tie.Need-mul-store
-mul-store c = search needs
+mul-store c = omega (arith, formed (c .before .before .before .before .before .before .before .before .before .before .before) .first)
 
 store-requires : tie.Need-store-requires
-store-requires c κs = search needs
+store-requires c κs = omega (arith, formed (c .before .before .before .before .before .before .before .before .before .before .before) .first)
 
 same-length-2 : tie.Need-same-length-2
 same-length-2 c = search needs

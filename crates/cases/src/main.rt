@@ -13,7 +13,8 @@
 // is copied, and behind it stand the fields of the answer in the order of include/lesmutka.h, then
 // the lent buffer: its bytes up to the last one that changed, and how many above it did not. A take
 // has instead what each take answers, then the words of the recoder. A request that does not fit is
-// answered with one word. A line that is empty or begins with `# ` is copied and not answered.
+// answered with one word: `long`, `room` or `unknown`. A line that is empty or begins with `# ` is
+// copied and not answered, and so is a last line without its newline.
 mod line;
 mod show;
 
@@ -62,7 +63,7 @@ const CHECK: u64 = 0x636865636b;
 // The first word of a comment, `#`. That of an empty line is 0.
 const COMMENT: u64 = 0x23;
 
-// Takes so many digits. What a recoder holds is fixed only once it is done: zeros.
+// Takes this many digits. What a recoder holds is fixed only once it is done: zeros.
 fn take(number: &[u8], times: usize) {
     let mut recoder = [0; NUMBER_WORDS + 1];
     let a = lesmutka_start(number, &mut recoder);

@@ -19,6 +19,12 @@ const FILL: u8 = 0xA5;
 /// What a take answers where no digit is left.
 const DONE: usize = 0x100;
 
+/// What the program takes in: the bytes of a request's words, and the room to lend.
+const LINE_BYTES: usize = 2 * PLAN_ROOM;
+const MOST_ROOM: usize = work_space(PLAN_STEPS + 1);
+
+const CALLS: [&str; 7] = ["recode", "take", "clean", "readback", "plan", "forecast", "check"];
+
 // Answers.
 
 /// The lines of the requests, each request with its answer behind it.
@@ -34,7 +40,13 @@ pub fn answers(requests: &str) -> String {
 
 fn answer(request: &str) -> String {
     let words: Vec<&str> = request.split(' ').collect();
+    if LINE_BYTES < words.iter().map(|word| word.len() / 2).sum() {
+        return "long".to_string();
+    }
     let room = decimal(words[1]) as usize;
+    if MOST_ROOM < room {
+        return "room".to_string();
+    }
     let input = bytes(words[2]);
     let mut out = vec![FILL; room];
     match (words[0], &words[3..]) {
@@ -54,6 +66,7 @@ fn answer(request: &str) -> String {
             let counts = check(&input, &bytes(plan), &mut out);
             fields(counts.map(numbers)) + &buffer(&out)
         }
+        (name, _) if !CALLS.contains(&name) => "unknown".to_string(),
         _ => panic!("{} is no request", request),
     }
 }
@@ -122,6 +135,7 @@ pub fn requests() -> String {
     requests.strings();
     requests.plans();
     requests.checks();
+    requests.unanswered();
     requests.families();
     requests.0
 }
@@ -273,9 +287,7 @@ impl Requests {
     }
 
     fn numbers(&mut self) {
-        self.title(
-            "Numbers to try by hand: recoded, then taken digit by digit until done, and done again",
-        );
+        self.title("Numbers to try by hand: recoded, then taken digit by digit until done, and done again");
         for number in [0, 1, 3, 7, 15, 25, 27, 43] {
             self.recoded(&small(number));
         }
@@ -364,7 +376,8 @@ impl Requests {
         }
         self.planned(&small(3), 1, 0);
         self.title("The number 1, and high zero bytes");
-        for (method, width) in [(1, 0), (2, 1), (2, 6), (3, 1), (3, 6), (4, 0)] {
+        let widest = *WINDOW_WIDTHS.end();
+        for (method, width) in [(1, 0), (2, 1), (2, widest), (3, 1), (3, widest), (4, 0)] {
             self.planned(&small(1), method, width);
         }
         self.planned(&padded(43, 2), 1, 0);
@@ -464,6 +477,14 @@ impl Requests {
         self.check(work_space(0) - 1, &small(1), &[]);
     }
 
+    /// What the program does not hand to a call.
+    fn unanswered(&mut self) {
+        self.title(UNANSWERED);
+        self.line("plans", 5, &small(2), " 1 0");
+        self.check(MOST_ROOM + 1, &small(1), &[]);
+        self.check(MOST_ROOM, &small(1), &vec![0; LINE_BYTES]);
+    }
+
     fn families(&mut self) {
         self.title(ONES);
         for k in 2..=NUMBER_BITS {
@@ -486,6 +507,7 @@ impl Requests {
     }
 }
 
-/// The titles of two sections.
+/// The titles of three sections.
+pub const UNANSWERED: &str = "A call of another name, more room than there is, a line that is too long";
 pub const ONES: &str = "2^k - 1 for each k of 2 or more, by methods 1 and 4";
 pub const SMALL: &str = "1 to 1,023, by methods 1 and 4";

@@ -272,23 +272,25 @@ fn own_position() {
 
 #[test]
 fn window_tables() {
+    let widest = *WINDOW_WIDTHS.end();
     // Below 2^d the table of method 2 stops at the number.
-    for number in 1..64u8 {
-        let steps = planned(&[number], 2, 6);
+    for number in 1..1u8 << widest {
+        let steps = planned(&[number], 2, widest);
         assert_eq!(steps.len(), STEP_BYTES * (usize::from(number) - 1));
     }
     // 2 by method 3, width 2: the whole table, then a doubling of position 0.
     let steps = [step(0, 0, 0), step(0, 1, 0), step(0, 0, 0)].concat();
     assert_eq!(planned(&[2], 3, 2), steps);
-    assert_eq!(planned(&[1], 3, 6), Vec::<u8>::new());
-    assert_eq!(planned(&[3], 3, 6).len(), STEP_BYTES * 2);
-    assert_eq!(planned(&[63], 3, 6).len(), STEP_BYTES * 32);
+    assert_eq!(planned(&[1], 3, widest), Vec::<u8>::new());
+    assert_eq!(planned(&[3], 3, widest).len(), STEP_BYTES * 2);
+    let largest = (1u8 << widest) - 1;
+    assert_eq!(planned(&[largest], 3, widest).len(), STEP_BYTES * (1 << (widest - 1)));
 }
 
 #[test]
 fn methods_and_widths() {
     for method in [0, 1, 2, 3, 4, 5, 257, u32::MAX] {
-        for width in [0, 1, 2, 3, 4, 5, 6, 7, 256, 257, u32::MAX] {
+        for width in (0..=WINDOW_WIDTHS.end() + 1).chain([256, 257, u32::MAX]) {
             let allowed = match method {
                 1 | 4 => width == 0,
                 2 | 3 => WINDOW_WIDTHS.contains(&width),

@@ -2,7 +2,7 @@
 //! `reference::cases` makes them, so the program answers as this crate does, and what they hold
 //! agrees with document 01 and with source document 004.
 
-use reference::cases::{answers, requests, ONES, SMALL};
+use reference::cases::{answers, requests, ONES, SMALL, UNANSWERED};
 use reference::limits::NUMBER_BITS;
 use reference::refusal::{LAST, WORK_SPACE_TOO_SHORT};
 
@@ -70,7 +70,8 @@ fn section(title: &str) -> Vec<Stored> {
 #[test]
 fn every_refusal_is_stored() {
     let mut seen = [0; LAST + 1];
-    for stored in STDOUT.lines().filter_map(Stored::read) {
+    let answered = |stored: &Stored| stored.answer.len() > 1;
+    for stored in STDOUT.lines().filter_map(Stored::read).filter(answered) {
         let refusal = stored.field(0);
         seen[refusal] += 1;
         let lends = !["take", "forecast"].contains(&stored.request[0]);
@@ -80,6 +81,18 @@ fn every_refusal_is_stored() {
         }
     }
     assert!(seen.iter().all(|&times| times > 0), "{:?}", seen);
+}
+
+/// What no call is made for has one word for an answer, and nothing else has.
+#[test]
+fn requests_without_a_call() {
+    let words = |stored: &[Stored]| -> Vec<&str> {
+        let single = stored.iter().filter(|stored| stored.answer.len() == 1);
+        single.map(|stored| stored.answer[0]).collect()
+    };
+    let all: Vec<Stored> = STDOUT.lines().filter_map(Stored::read).collect();
+    assert_eq!(words(&all), ["unknown", "room", "long"]);
+    assert_eq!(words(&section(UNANSWERED)), words(&all));
 }
 
 /// 2^k - 1 takes 2k - 2 steps by method 1 and k + 1 by method 4 (source document 004).

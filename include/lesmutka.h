@@ -40,19 +40,22 @@
  *   refused, both are 0. Where it was, they are these, and every other field of the answer is 0.
  *
  *    refusal                                 given when                                place
- *    1  LESMUTKA_NUMBER_TOO_LONG             number longer than 32 bytes               0
+ *    1  LESMUTKA_NUMBER_TOO_LONG             number longer than LESMUTKA_NUMBER_BYTES  0
  *    2  LESMUTKA_NUMBER_IS_ZERO              number is zero (plan, forecast, check)    0
  *    3  LESMUTKA_METHOD_OR_WIDTH             method not 1 to 4, or width not allowed   0
  *    4  LESMUTKA_NOT_A_DIGIT                 a digit byte other than 00, 01, FF        lowest such
- *    5  LESMUTKA_STRING_TOO_LONG             digit string longer than 512              0
+ *    5  LESMUTKA_STRING_TOO_LONG             digit string longer than                  0
+ *                                            LESMUTKA_STRING_DIGITS
  *    6  LESMUTKA_ROOM_TOO_SMALL              output needs more bytes than lent         bytes needed
- *    7  LESMUTKA_PLAN_LENGTH                 plan bytes not a multiple of 5,           0
- *                                            or more than 3,200
- *    8  LESMUTKA_WORK_SPACE_TOO_SHORT        work space shorter than 34 (r + 1)        0
+ *    7  LESMUTKA_PLAN_LENGTH                 plan bytes not a multiple of              0
+ *                                            LESMUTKA_STEP_BYTES, or more than
+ *                                            LESMUTKA_PLAN_ROOM
+ *    8  LESMUTKA_WORK_SPACE_TOO_SHORT        work space shorter than                   0
+ *                                            LESMUTKA_WORK_SPACE(r)
  *    9  LESMUTKA_MALFORMED_STEP              unknown operation, or j or k not below i  i
  *   10  LESMUTKA_VALUE_IS_ZERO               the value at step i is zero               i
- *   11  LESMUTKA_VALUE_TOO_LARGE             the value at step i has size 2^264        i
- *                                            or more
+ *   11  LESMUTKA_VALUE_TOO_LARGE             the size of the value at step i takes     i
+ *                                            more than LESMUTKA_VALUE_BYTES bytes
  *   12  LESMUTKA_WRONG_END                   all r steps sound, the last value is      r
  *                                            not the number
  *
@@ -76,13 +79,17 @@ extern "C" {
 #define LESMUTKA_VALUE_BYTES 33
 #define LESMUTKA_RECORD_BYTES (1 + LESMUTKA_VALUE_BYTES)
 
+/* The widest windows. */
+#define LESMUTKA_FIXED_WINDOW_BITS 6
+#define LESMUTKA_SLIDING_WINDOW_BITS 6
+
 /* Room that is enough for every answer. */
 #define LESMUTKA_RECODE_ROOM (8 * LESMUTKA_NUMBER_BYTES + 1)
 #define LESMUTKA_CLEAN_ROOM (LESMUTKA_STRING_DIGITS + 1)
 #define LESMUTKA_READ_BACK_ROOM (LESMUTKA_STRING_DIGITS / 8)
 #define LESMUTKA_PLAN_ROOM (LESMUTKA_STEP_BYTES * LESMUTKA_PLAN_STEPS)
 
-/* The work space that the check of a plan of so many steps takes. */
+/* The work space that the check of a plan of this many steps takes. */
 #define LESMUTKA_WORK_SPACE(steps) (LESMUTKA_RECORD_BYTES * ((size_t)(steps) + 1))
 
 /* Refusals. */
@@ -102,7 +109,8 @@ enum {
 };
 
 /* Methods, for a number e above zero. "Latest" is the position filled last, at first 0; "double" is
- * add(latest, latest). The width d is 0 for binary and NAF, and 1 to 6 for the windows.
+ * add(latest, latest). The width d is 0 for binary and NAF, 1 to LESMUTKA_FIXED_WINDOW_BITS for fixed
+ * windows and 1 to LESMUTKA_SLIDING_WINDOW_BITS for sliding windows.
  *
  *   Binary            From the bit below the top bit down: double; if the bit is 1, add(latest, 0).
  *   Fixed windows     of d bits, cut from the low end. If e is below 2^d: add(i - 1, 0) for i = 1 to
@@ -230,7 +238,7 @@ lesmutka_value lesmutka_read_back(const uint8_t *digits, size_t digits_length, u
  *           Refused: 1, then 2, then 3, then 6; nothing is written.
  *  In:      number: the number, number_length bytes.
  *           method: LESMUTKA_BINARY, LESMUTKA_FIXED_WINDOWS, LESMUTKA_SLIDING_WINDOWS or LESMUTKA_NAF.
- *           width: the bits of a window, 1 to 6; 0 for the methods without.
+ *           width: the bits of a window, from 1 to the limit of the method; 0 for the methods without.
  *  Out:     out: room for the plan, out_length bytes. LESMUTKA_PLAN_ROOM is always enough.
  */
 lesmutka_steps lesmutka_plan(const uint8_t *number, size_t number_length, uint32_t method, uint32_t width,

@@ -42,6 +42,10 @@ pub const PLAN_STEPS: usize = 640;
 pub const VALUE_BYTES: usize = 33;
 /// The bytes of a record of the work space: a sign, then a size.
 pub const RECORD_BYTES: usize = 1 + VALUE_BYTES;
+/// The most bits of a fixed window.
+pub const FIXED_WINDOW_BITS: u32 = 6;
+/// The most bits of a sliding window.
+pub const SLIDING_WINDOW_BITS: u32 = 6;
 
 /// Room for every answer of [`recode`].
 pub const RECODE_ROOM: usize = 8 * NUMBER_BYTES + 1;
@@ -52,7 +56,7 @@ pub const READ_BACK_ROOM: usize = STRING_DIGITS / 8;
 /// Room for every plan.
 pub const PLAN_ROOM: usize = STEP_BYTES * PLAN_STEPS;
 
-/// The work space that [`check`] takes for a plan of so many steps.
+/// The work space that [`check`] takes for a plan of this many steps.
 pub const fn work_space(steps: usize) -> usize {
     RECORD_BYTES * (steps + 1)
 }
@@ -63,9 +67,9 @@ pub const fn work_space(steps: usize) -> usize {
 pub enum Method {
     /// 1: double for each bit below the top, add for each 1.
     Binary,
-    /// 2: windows of so many bits, 1 to 6, cut from the low end.
+    /// 2: windows of this many bits, 1 to [`FIXED_WINDOW_BITS`], cut from the low end.
     FixedWindows(u32),
-    /// 3: windows of at most so many bits, 1 to 6, that begin and end in 1.
+    /// 3: windows of at most this many bits, 1 to [`SLIDING_WINDOW_BITS`], that begin and end in 1.
     SlidingWindows(u32),
     /// 4: the non-adjacent form's digits, from the top.
     Naf,

@@ -1,5 +1,5 @@
 //! The C header, this crate and the linked library say the same: limits, refusals, words.
-use lesmutka::{limits, Refusal};
+use lesmutka::{forecast, limits, Method, Refusal};
 
 const HEADER: &str = include_str!("../../../include/lesmutka.h");
 
@@ -24,6 +24,21 @@ fn limits_agree() {
     assert_eq!(linked.step_bytes, constant("LESMUTKA_STEP_BYTES"));
     assert_eq!(linked.plan_steps, constant("LESMUTKA_PLAN_STEPS"));
     assert_eq!(linked.value_bytes, constant("LESMUTKA_VALUE_BYTES"));
+}
+
+/// The widest windows are taken, and a bit more is refused.
+#[test]
+fn widest_windows_agree() {
+    let (fixed, sliding) = (lesmutka::FIXED_WINDOW_BITS, lesmutka::SLIDING_WINDOW_BITS);
+    assert_eq!(fixed as usize, constant("LESMUTKA_FIXED_WINDOW_BITS"));
+    assert_eq!(sliding as usize, constant("LESMUTKA_SLIDING_WINDOW_BITS"));
+    for (widest, wider) in [
+        (Method::FixedWindows(fixed), Method::FixedWindows(fixed + 1)),
+        (Method::SlidingWindows(sliding), Method::SlidingWindows(sliding + 1)),
+    ] {
+        assert!(forecast(&[43], widest).is_ok());
+        assert_eq!(forecast(&[43], wider), Err(Refusal::MethodOrWidth));
+    }
 }
 
 /// All refusals, in the order of their numbers.

@@ -83,7 +83,7 @@ static void recoders(void) {
     EXPECT(memcmp(&recoder, &before, sizeof recoder) == 0);
 }
 
-/* A plan of so many doublings. */
+/* A plan of this many doublings. */
 static size_t doublings(uint8_t *plan, size_t steps) {
     for (size_t i = 0; i < steps; i++) {
         uint8_t *step = plan + LESMUTKA_STEP_BYTES * i;

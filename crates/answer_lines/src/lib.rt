@@ -89,7 +89,7 @@ fn put_size(out: &mut [u8], at: usize, size: &[u8]) -> usize {
     end
 }
 
-// A byte in hexadecimal, of at least so many digits.
+// A byte in hexadecimal, of at least this many digits.
 fn put_hex(out: &mut [u8], at: usize, byte: u8, width: usize) -> usize {
     let mut text = [0u8; 16];
     let n = io::hex(byte as u64, width, &mut text);

@@ -1,4 +1,4 @@
--- The answers as C takes them. Where a call is not refused, the refusal and its place are 0; where it is, they are its number and place (docs/RULES.md, 4.13), and
+-- The answers as C takes them. If a call is not refused, the refusal and its place are 0; if it is, they are its number and place (docs/RULES.md, 4.13), and
 -- every other field is 0: a refusal answers its number and place and nothing else.
 use Rattle.rules.specs.Refusals.{refusalNumber, refusalPlace}
 use Rattle.rules.specs.declared.Written.{Written}

@@ -1,4 +1,4 @@
-// A recoder as C keeps it: the words of a `Recoder`, then one that is not 0 where it carries.
+// A recoder as C keeps it: the words of a `Recoder`, then one that is not 0 if it carries.
 use rules::NUMBER_WORDS;
 use taking::Recoder;
 ghost use mathlib.Core.Path.{_≡_};

@@ -54,7 +54,7 @@ pub fn with(before: Line, byte: u8, bytes: &mut [u8; LINE_BYTES]) -> Line {
     line
 }
 
-// The bytes from one place to another; none where a word is missing.
+// The bytes from one place to another; none if a word is missing.
 pub fn part(bytes: &[u8], start: usize, end: usize) -> &[u8] {
     if start <= end {
         if end <= bytes.len() {

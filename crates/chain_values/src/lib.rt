@@ -48,7 +48,7 @@ fn sum(a: [u64; VALUE_WORDS], b: [u64; VALUE_WORDS]) -> [u64; VALUE_WORDS]
     words
 }
 
-// Whether one size is below another; where it is not, what is left of it without the other.
+// Whether one size is below another; if it is not, what is left of it without the other.
 struct Difference {
     words: [u64; VALUE_WORDS],
     below: bool,

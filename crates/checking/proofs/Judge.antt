@@ -27,13 +27,13 @@ module _ (steps : List Step) (n : ℕ) (h : n < length steps) where
   pub step-tested-only : {v : Verdict} → Tested (suc n) (stepAt steps n) (at (valuesOf steps) (suc n)) v → stepVerdict (valuesAfter steps n) (stepAt steps n) ≡ v
   step-tested-only t = tested-only (valuesAfter steps n) (stepAt steps n) (rw (length-after steps n (omega arith), ← value-at steps n h) t)
 
-  -- fine: on to the next
+  -- it passes: on to the next
   pub judge-next : stepVerdict (valuesAfter steps n) (stepAt steps n) ≡ Passed
       → judge (valuesAfter steps n) (drop n steps) ≡ judge (valuesAfter steps (suc n)) (drop (suc n) steps)
   unfolding judge
   judge-next e = rw (drop-cons steps n (add 0 0) h, e) (ap (λ (values : List ℤ). judge values (drop (suc n) steps)) (sym (after-more steps n h)))
 
-  -- not fine: the first refusal, with the values recorded by then
+  -- it fails: the first refusal, with the values recorded by then
   pub judge-stop : {r : Refusal} → stepVerdict (valuesAfter steps n) (stepAt steps n) ≡ Failed r
       → judge (valuesAfter steps n) (drop n steps) ≡ record { verdict = Failed r; values = valuesAfter steps n }
   unfolding judge

@@ -43,7 +43,7 @@ fn top(sum: u64, above: usize, below: usize) -> usize
     if sum % 2 == 0 { below } else { above }
 }
 
-// The place above the highest canonical digit other than 0, from `from` to n; 0 where there is none.
+// The place above the highest canonical digit other than 0, from `from` to n; 0 if there is none.
 fn highest(digits: &[u8], from: usize, n: usize, start: u64) -> usize
     requires { ⌜ DigitString canonicalWidth (now digits) ⌝ }
     requires { ⌜ from ≤ n ⌝ }

@@ -3,7 +3,7 @@
 use answer_lines::front;
 use answer_lines::put;
 
-// What reading a file gives: so many bytes, or nothing.
+// What reading a file gives: this many bytes, or nothing.
 pub enum Contents {
     Bytes(usize),
     Failed,

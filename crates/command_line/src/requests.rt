@@ -57,7 +57,7 @@ pub enum Verb {
     Unknown,
 }
 
-// What is answered: a line of so many bytes in the buffer, or that the words are no request.
+// What is answered: a line of this many bytes in the buffer, or that the words are no request.
 pub enum Outcome {
     Line(usize),
     WrongWords,
@@ -153,7 +153,7 @@ fn read_back_line(string: &[u8], out: &mut [u8]) -> usize {
     }
 }
 
-// A number of so many bytes, and how to plan for it.
+// A number of this many bytes, and how to plan for it.
 struct Request {
     bytes: usize,
     method: u32,
@@ -282,7 +282,7 @@ fn limited(count: usize) -> usize
     }
 }
 
-// The bytes of a plan with so many steps.
+// The bytes of a plan with this many steps.
 fn plan_bytes(counts: Counts) -> usize {
     let doublings = limited(counts.doublings);
     let additions = limited(counts.additions);

@@ -41,7 +41,7 @@ module _ (test : ℕ → Bool) (s : List ℕ) where
       let f : from + n + 1 ≡ from + (n + 1) = omega arith in
       omega (arith, e, rw f at l)
 
-  -- so many more
+  -- this many more
   pub joined : (n m : ℕ) → PassFor test s 0 n → PassFor test s n m → PassFor test s 0 (n + m)
   joined n m e f =
       let g : 0 + n ≡ n = omega arith in

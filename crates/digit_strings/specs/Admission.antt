@@ -30,7 +30,7 @@ digitUpTo size b = ltb b 256 && (eqb b 0 || (eqb (natAbs (byteDigit b) % 2) 1 &&
 abbrev pub isDigit : ℕ → ℕ → Bool
 isDigit w b = digitUpTo (largestDigit w) b
 
--- the lowest place whose byte does not pass a test; the length where there is none
+-- the lowest place whose byte does not pass a test; the length if there is none
 unfoldable pub firstFailing : (ℕ → Bool) → List ℕ → ℕ
 firstFailing test [] = 0
 firstFailing test (b ∷ bs) = cond (test b) (suc (firstFailing test bs)) 0

@@ -53,7 +53,7 @@ fn whole_digits(digits: &[u8], largest: u8) -> usize
     i
 }
 
-// The lowest place whose byte is no digit; the length where there is none.
+// The lowest place whose byte is no digit; the length if there is none.
 fn first_bad(digits: &[u8], largest: u8) -> usize
     requires { ⌜ largest ≤ 127 ⌝ }
     ensures { λ r. ⌜ r ≡ firstFailing (digitUpTo largest) (now (digits .entry)) ⌝ }

@@ -94,7 +94,7 @@ parsed-count text room n = go (eqb (length text) 0) (ltb room (byteCount text)) 
     go false false true e = ap bytesIn e
     go false false false e = no-number e
 
--- where the answer is a number of so many bytes, these bytes have its value
+-- where the answer is a number of this many bytes, these bytes have its value
 pub parsed-value : (text bytes : List ℕ) (n : ℕ) → parsed text (length bytes) ≡ Bytes n → bytesValue (take n (parsedBuffer text bytes)) ≡ hexValue text
 parsed-value text bytes n e =
     let m = parsed-count text (length bytes) n e in

@@ -6,7 +6,7 @@ ghost use lib.ListN.{length, drop};
 ghost use Rattle.integers.specs.Tabulate.{tabulate};
 ghost use Rattle.hexadecimal.specs.Hex.{digitValue, placeValue, byteAt, isHex, isPrefix, parsed, parsedBuffer, withoutPrefix};
 
-// What a word holds: a number in so many bytes, or something else.
+// What a word holds: a number in this many bytes, or something else.
 pub enum Parsed {
     Bytes(usize),
     NotHex,

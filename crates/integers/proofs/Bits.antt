@@ -161,7 +161,7 @@ pub zero-length : (l : List ℕ) → bytesValue l ≡ 0 → bitLength (bytesValu
 unfolding bitLength lengthUpTo
 zero-length l z = rw z
 
--- so many bytes have no more bits
+-- this many bytes have no more bits
 pub bytes-length : (l : List ℕ) (k : ℕ) → Below 256 l → length l ≤ k → bitLength (bytesValue l) ≤ 8 * k
 bytes-length l k b h = bit-length-iff (bytesValue l) (8 * k) .1 (rw (← power-of-bytes k) (positional-lt 256 k l h b))
 

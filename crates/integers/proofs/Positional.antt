@@ -54,7 +54,7 @@ positional-take base (suc k) (x ∷ l) =
     let e : base * (p + base ^ k * g) ≡ base * p + base ^ suc k * g = rw (mul-add, pow-succ', mul-assoc) in
     omega (arith, e, ap (λ (y : ℕ). base * y) (positional-take base k l))
 
--- so many elements hold no more
+-- this many elements hold no more
 pub positional-lt : (base k : ℕ) (l : List ℕ) → length l ≤ k → Below base l → positional base l < base ^ k
 unfolding positional
 positional-lt base zero [] h b = rw pow-zero (omega arith)

@@ -32,7 +32,7 @@ pub extern "C" fn lesmutka_recode(number: &[u8], out: &mut [u8]) -> Length
     c_answers::of_written(recoding::recode(number, out))
 }
 
-// What a take answers where no digit is left: a number above all bytes.
+// What a take answers if no digit is left: a number above all bytes.
 const DONE: u32 = 256;
 
 // Starts taking the digits of a number, in a recoder that the caller keeps.

@@ -38,7 +38,7 @@ digit-byte e i = rw (digit-left i e) (go (low (rests 2 i e)))
     go (minus-one q) = minus
 
 module _ (number out : List ℕ) (bytes : Below 256 number) (h : length number ≤ numberBytes) (room : mostDigits ≤ length out) where
-  -- so many digits are answered
+  -- this many digits are answered
   all-answered : recodeAnswer number (length out) ≡ Length (length (recoding number))
   all-answered = length-answered number (length out) (record { short = h }) (omega (arith, recoding-length number bytes))
 

@@ -9,7 +9,7 @@ use Rattle.integers.specs.Positional.{bytesValue}
 use Rattle.signed_digits.specs.Strings.{digitAt}
 use Rattle.signed_digits.specs.Naf.{canonical}
 
--- a number within the limit has at most so many canonical digits: one more than bits
+-- a number within the limit has at most this many canonical digits: one more than bits
 abbrev pub mostDigits : ℕ
 mostDigits = 8 * numberBytes + 1
 

@@ -10,7 +10,7 @@ use Rattle.method_naf.specs.declared.words.Tally.{Tally}
 unfoldable pub onlyIn : ℕ → ℕ → ℕ
 onlyIn a b = ones (a - bitAnd a b)
 
--- the bit length of a number that has v above so many places, and this bit length below
+-- the bit length of a number that has v above this many places, and this bit length below
 unfoldable pub lengthAbove : ℕ → ℕ → ℕ → ℕ
 lengthAbove below places zero = below
 lengthAbove below places (suc v) = places + bitLength (suc v)

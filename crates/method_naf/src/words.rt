@@ -39,7 +39,7 @@ fn only_in(a: u64, b: u64) -> usize
     u64::count_ones(a - (a & b)) as usize
 }
 
-// The bit length of a number, by its word above so many places and the bit length of what is below.
+// The bit length of a number, by its word above this many places and the bit length of what is below.
 fn length_with(below: usize, places: usize, word: u64) -> usize
     requires { ⌜ places ≤ 8 * numberBytes ⌝ }
     ensures { λ r. ⌜ r ≡ lengthAbove below places word ⌝ }
@@ -50,7 +50,7 @@ fn length_with(below: usize, places: usize, word: u64) -> usize
     places + (64 - u64::leading_zeros(word) as usize)
 }
 
-// What the words of e below so many places give: how many of these places hold a 1 of 3 e alone, and
+// What the words of e below this many places give: how many of these places hold a 1 of 3 e alone, and
 // of e alone; the bit length of 3 e there; and what 3 e carries into the next word.
 pub struct Tally {
     pub places: usize,

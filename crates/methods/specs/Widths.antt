@@ -1,7 +1,7 @@
 -- The widths that methods allow, by name. src/lib.rt has the same for the code; the contracts show that the two agree.
 use Prim.Native.Nat.{ℕ}
 
--- a fixed window has from 1 to so many bits
+-- a fixed window has from 1 to this many bits
 abbrev pub fixedWindowBits : ℕ
 fixedWindowBits = 6
 

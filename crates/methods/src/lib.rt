@@ -3,7 +3,7 @@
 // them.
 use rules::Refusal;
 
-// Windows have from 1 to so many bits.
+// Windows have from 1 to this many bits.
 pub const FIXED_WINDOW_BITS: usize = 6;
 
 pub const SLIDING_WINDOW_BITS: usize = 6;

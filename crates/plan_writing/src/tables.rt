@@ -36,8 +36,8 @@ fn second(i: usize, later: usize) -> usize
     if i < 2 { 0 } else { later }
 }
 
-// Writes the first n steps of a table: add(0,0), add(1,0), then add(i-1, later) for i = 3 on. Where
-// later is 0, it holds all multiples; where it is 1, the odd ones.
+// Writes the first n steps of a table: add(0,0), add(1,0), then add(i-1, later) for i = 3 on. If
+// later is 0, it holds all multiples; if it is 1, the odd ones.
 pub fn write_table(out: &mut [u8], n: usize, later: usize) -> Cursor
     requires { ⌜ stepBytes * n ≤ length (now out) ⌝ }
     ensures { λ r. ⌜ Writing (now (out .entry)) (now (out .exit)) r (record { steps = tableBy (secondOf later) n; latest = n }) ⌝ }
@@ -51,7 +51,7 @@ pub fn write_table(out: &mut [u8], n: usize, later: usize) -> Cursor
     c
 }
 
-// How many steps the whole table of odd multiples has, for windows of so many bits.
+// How many steps the whole table of odd multiples has, for windows of this many bits.
 pub fn table_length(width: usize) -> usize
     requires { ⌜ width ≤ 64 ⌝ }
     ensures { λ r. ⌜ r ≡ tableLength width ⌝ }

@@ -92,7 +92,7 @@ module _ (number : List ℕ) (method width : ℕ) where
       → forecasts ≡ answered vs ↔ ((m : Method) × Positive number × (methodOf method width ≡ Chosen.Method m) × (vs ≡ countsBy number m))
   forecast-answers vs = (λ e. elim (forecast-given e) [ counts {m = m} p c v ↦ (m, p, c, v) ], λ h. forecast-given-only (counts (h .1) (h .2) (h .3)))
 
-  -- ---- plan, lent so many bytes: the same refusals, then room
+  -- ---- plan, lent this many bytes: the same refusals, then room
 
   module _ (room : ℕ) where
     -- its outcome, in the rules' numbers

@@ -2,7 +2,7 @@
 use Prim.Native.Nat.{ℕ, _+_, _*_, _/_, _^_}
 use Rattle.rules.specs.declared.Limits.{Limits}
 
--- a number has at most so many bytes
+-- a number has at most this many bytes
 abbrev pub numberBytes : ℕ
 numberBytes = 32
 
@@ -10,19 +10,19 @@ numberBytes = 32
 abbrev pub numberWords : ℕ
 numberWords = numberBytes / 8
 
--- a digit string that is handed in has at most so many digits
+-- a digit string that is handed in has at most this many digits
 abbrev pub stringDigits : ℕ
 stringDigits = 512
 
--- a step of a plan has so many bytes
+-- a step of a plan has this many bytes
 abbrev pub stepBytes : ℕ
 stepBytes = 5
 
--- a plan has at most so many steps
+-- a plan has at most this many steps
 abbrev pub planSteps : ℕ
 planSteps = 640
 
--- the size of a value has at most so many bytes
+-- the size of a value has at most this many bytes
 abbrev pub valueBytes : ℕ
 valueBytes = 33
 

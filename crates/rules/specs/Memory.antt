@@ -10,7 +10,7 @@ use Rattle.rules.specs.declared.Written.{Written}
 use Rattle.rules.specs.declared.Written.the-variants.{Length, Refused}
 use Rattle.rules.specs.Outcome.{unlessFailed}
 
--- the answer of a call that has these bytes to write and is lent so many: it needs more than lent, or it writes them all
+-- the answer of a call that has these bytes to write and is lent this many: it needs more than lent, or it writes them all
 unfoldable pub fitted : List ℕ → ℕ → Written
 fitted bytes room = cond (ltb room (length bytes)) (Refused (RoomTooSmall (length bytes))) (Length (length bytes))
 

@@ -52,7 +52,7 @@ pub fn current() -> Limits
     }
 }
 
-// Why a call says no. A case holds its place where that is not always 0.
+// Why a call says no. A case holds its place, unless that is always 0.
 pub enum Refusal {
     // Number longer than the limit.
     NumberTooLong,
@@ -64,7 +64,7 @@ pub enum Refusal {
     NotADigit(usize),
     // Digit string longer than the limit.
     StringTooLong,
-    // Output needs so many bytes, more than lent.
+    // Output needs this many bytes, more than lent.
     RoomTooSmall(usize),
     // Plan bytes not a whole number of steps, or too many.
     PlanLength,

@@ -11,7 +11,7 @@ ghost use Rattle.signed_digits.specs.Naf.{lowDigit};
 ghost use Rattle.signed_digits.specs.Bytes.{digitByte};
 ghost use Rattle.taking.specs.Take.{IsStart, IsTake};
 
-// A recoder stands for the value of its words, least significant first, plus one where it carries.
+// A recoder stands for the value of its words, least significant first, plus one if it carries.
 pub struct Recoder {
     pub words: [u64; NUMBER_WORDS],
     pub carry: bool,
@@ -40,7 +40,7 @@ pub struct Taken {
 }
 
 impl Recoder {
-    // A recoder for a number; for zero where the number is refused.
+    // A recoder for a number; for zero if the number is refused.
     pub fn start(number: &[u8]) -> Started
         ensures { λ r. ⌜ IsStart (now (number .entry)) r ⌝ }
     {
@@ -62,7 +62,7 @@ impl Recoder {
         }
     }
 
-    // The lowest digit, and the recoder moved on by one place; done where no digit is left.
+    // The lowest digit, and the recoder moved on by one place; done if no digit is left.
     pub fn take(self) -> Taken
         ensures { λ r. ⌜ IsTake self r ⌝ }
     {

@@ -16,7 +16,7 @@ use Rattle.integers.specs.Positional.{positional, wordsValue}
 use Rattle.integers.proofs.Positional.{positional-take}
 use Rattle.integers.proofs.Bits.{bool-small}
 
--- a sum has wrapped where it is below its first part
+-- a sum has wrapped if it is below its first part
 wrapped : (a b s : ℕ) → a < 2 ^ 64 → b < 2 ^ 64 → s ≡ (a + b) % 2 ^ 64 → s + 2 ^ 64 * boolByte (ltb s a) ≡ a + b
 wrapped a b s ha hb e = go (ltb s a) refl
   where
@@ -24,7 +24,7 @@ wrapped a b s ha hb e = go (ltb s a) refl
     go true l = omega (arith, ltb-true s a l)
     go false l = omega (arith, ltb-false s a l)
 
--- a difference has wrapped where its first part is below the second
+-- a difference has wrapped if its first part is below the second
 unwrapped : (a b d : ℕ) → b < 2 ^ 64 → d < 2 ^ 64 → (d + b) % 2 ^ 64 ≡ a → d + b ≡ a + 2 ^ 64 * boolByte (ltb a b)
 unwrapped a b d hb hd e = go (ltb a b) refl
   where

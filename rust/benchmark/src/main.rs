@@ -109,7 +109,7 @@ fn numbers(rng: &mut Rng) -> Vec<Vec<u8>> {
         .collect()
 }
 
-/// Strings of so many digits, none of them better than another.
+/// Strings of this many digits, none of them better than another.
 fn strings(rng: &mut Rng, length: usize) -> Vec<Vec<u8>> {
     (0..INPUTS)
         .map(|_| (0..length).map(|_| [0, 1, 255][rng.below(3)]).collect())

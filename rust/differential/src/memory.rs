@@ -13,7 +13,7 @@ pub struct Lent {
 }
 
 impl Lent {
-    /// A part of so many bytes, noise inside too.
+    /// A part of this many bytes, noise inside too.
     pub fn noise(rng: &mut Rng, length: usize) -> Lent {
         let start = GUARD + rng.below(8);
         Lent {

@@ -446,7 +446,7 @@ impl Requests {
         let mut number = padded(0, NUMBER_BYTES);
         number[NUMBER_BYTES - 1] = 0x80;
         self.check(room, &number, &doublings(NUMBER_BITS - 1));
-        self.title("Below zero: 1 less half the limit, 1 less the limit, which is fine, then minus the limit");
+        self.title("Below zero: 1 less half the limit, 1 less the limit, which passes, then minus the limit");
         let below = [subtract(0, top), subtract(top + 1, top), subtract(top + 2, 0)].concat();
         self.check(room, &small(1), &[doublings(top), below].concat());
         self.title("Steps that are refused");

@@ -26,7 +26,7 @@ pub const CLEAN_ROOM: usize = STRING_DIGITS + 1;
 pub const READ_BACK_ROOM: usize = (STRING_DIGITS + 7) / 8;
 pub const PLAN_ROOM: usize = STEP_BYTES * PLAN_STEPS;
 
-/// The work space that the check of a plan of so many steps takes.
+/// The work space that the check of a plan of this many steps takes.
 pub const fn work_space(steps: usize) -> usize {
     RECORD_BYTES * (steps + 1)
 }

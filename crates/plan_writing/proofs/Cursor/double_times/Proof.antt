@@ -1,4 +1,4 @@
--- `plan_writing::Cursor::double_times` meets its contract: so many doublings are written. Assumes nothing.
+-- `plan_writing::Cursor::double_times` meets its contract: this many doublings are written. Assumes nothing.
 use mathlib.Core.Path.{_≡_, refl}
 use mathlib.Core.List.{List}
 use Prim.Native.Nat.{ℕ, _≤_, _+_, _-_}

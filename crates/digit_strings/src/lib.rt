@@ -40,7 +40,7 @@ fn are_digits(digits: &[u8], from: usize, largest: u8) -> bool
 // A place below which all bytes are digits, eight at a time.
 fn whole_digits(digits: &[u8], largest: u8) -> usize
     requires { ⌜ largest ≤ 127 ⌝ }
-    ensures { λ r. ⌜ (r ≤ length (now (digits .entry))) × PassFor (digitUpTo largest) (now (digits .entry)) 0 r ⌝ }
+    ensures { λ r. ⌜ PassFor (digitUpTo largest) (now (digits .entry)) 0 r × (r ≤ length (now (digits .entry))) ⌝ }
 {
     let mut i = 0;
     while i + 8 <= digits.len() {

@@ -22,7 +22,7 @@ whole-digits-requires c κs = search needs
 loop-holds : tie.Need-loop-holds Inv-loop μ-loop
 loop-holds c =
     let e = zero-add (c .whole-digits .result) in
-    (c .whole-digits .ensures .0, rw e at (c .whole-digits .ensures .1))
+    (c .whole-digits .ensures .1, rw e at (c .whole-digits .ensures .0))
 
 shared-slice-read-is-digit : tie.Need-shared-slice-read-is-digit Inv-loop μ-loop
 shared-slice-read-is-digit c = search needs

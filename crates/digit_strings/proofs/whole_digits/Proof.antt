@@ -9,13 +9,13 @@ use Rattle.digit_strings.proofs.whole_digits.Statement.{statement}
 use Rattle.digit_strings.proofs.whole_digits.Tie as tie
 
 abbrev Inv-loop : tie.InvT-loop
-Inv-loop digits largest i₀ i = (i ≤ length digits) × PassFor (digitUpTo largest) digits 0 i
+Inv-loop digits largest i₀ i = PassFor (digitUpTo largest) digits 0 i × (i ≤ length digits)
 
 abbrev μ-loop : tie.MeasureT-loop
 μ-loop digits largest i₀ i = length digits - i
 
 loop-holds : tie.Need-loop-holds Inv-loop μ-loop
-loop-holds c = (search needs, none-yet (digitUpTo (c .before .args .largest)) (c .before .args .digits .now) 0)
+loop-holds c = (none-yet (digitUpTo (c .before .args .largest)) (c .before .args .digits .now) 0, search needs)
 
 add-loop : tie.Need-add-loop Inv-loop μ-loop
 add-loop c = search needs
@@ -33,7 +33,7 @@ loop-again : tie.Need-loop-again Inv-loop μ-loop
 loop-again c =
     let loop = c .before .before .before .loop in
     let args = c .before .before .before .before .before .args in
-    (search needs, joined (digitUpTo (args .largest)) (args .digits .now) (loop .i) 8 (loop .inv .1) (c .before .are-digits .ensures (c .if1 .taken)))
+    (joined (digitUpTo (args .largest)) (args .digits .now) (loop .i) 8 (loop .inv .0) (c .before .are-digits .ensures (c .if1 .taken)), search needs)
 
 returns : tie.Need-returns Inv-loop μ-loop
 returns c = c .before .before .before .loop .inv

@@ -11,9 +11,10 @@ pub fn number_verdict(number: &[u8]) -> Verdict
     ensures { λ r. ⌜ r ≡ numberVerdict (now (number .entry)) ⌝ }
 {
     if NUMBER_BYTES < number.len() {
-        return Verdict::Failed(Refusal::NumberTooLong);
+        Verdict::Failed(Refusal::NumberTooLong)
+    } else {
+        Verdict::Passed
     }
-    Verdict::Passed
 }
 
 // The same, then refusal 2.

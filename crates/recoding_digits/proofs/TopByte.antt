@@ -19,7 +19,7 @@ module _ (number : List ℕ) (n : ℕ) (bytes : Below 256 number) (s : Significa
   top-triple = rw (top-byte number n bytes s some, triple-div)
 
   pub count-is : (top : ℕ) → top ≡ 3 * getD number (n - 1) 0 + tripleCarry (bytesValue number) (n - 1) → top < 2 ^ 64
-      → (leadingZeros 64 top ≤ 63) × (8 * (n - 1) + (63 - leadingZeros 64 top) ≡ length (canonical (pos (bytesValue number))))
+      → (leadingZeros 64 top ≤ 62) × (8 * (n - 1) + (63 - leadingZeros 64 top) ≡ length (canonical (pos (bytesValue number))))
   count-is top e h =
       let nonzero : 0 < getD number (n - 1) 0 = omega (arith, s .top some) in
       let (m, zeros, low, high) = leading-length 64 top h in
@@ -27,16 +27,18 @@ module _ (number : List ℕ) (n : ℕ) (bytes : Below 256 number) (s : Significa
       let c = length-from (3 * bytesValue number) (n - 1) m (omega arith) (omega arith) (omega arith) in
       let positive : 0 < bytesValue number = go (bytesValue number) refl in
       let d = digit-count (bytesValue number) positive in
-      let some-digits : 1 ≤ m = least m low in
+      let some-digits : 2 ≤ m = least m low in
       (omega arith, omega arith)
     where
       go : (v : ℕ) → bytesValue number ≡ v → 0 < v
       go zero z = absurd (positional-nonzero 256 number (n - 1) (omega arith) (s .top some) z)
       go (suc v) z = omega arith
 
-      least : (m : ℕ) → top < 2 ^ m → 1 ≤ m
+      -- a byte that is not 0 gives a triple of two bits at least
+      least : (m : ℕ) → top < 2 ^ m → 2 ≤ m
       least zero l = absurd (omega (arith, s .top some))
-      least (suc m) l = omega arith
+      least (suc zero) l = absurd (omega (arith, s .top some))
+      least (suc (suc m)) l = omega arith
 
 -- a number with no significant byte is zero
 pub count-zero : (number : List ℕ) → bytesValue number ≡ 0 → length (canonical (pos (bytesValue number))) ≡ 0

@@ -15,7 +15,7 @@ use Rattle.recoding_digits.proofs.count.Tie as tie
 
 -- at the end: the count is right, and the subtraction in it does not wrap
 counted : (c : tie.After-carry-into)
-    → (leadingZeros 64 (3 * c .before .byte-at .result + c .carry-into .result) ≤ 63)
+    → (leadingZeros 64 (3 * c .before .byte-at .result + c .carry-into .result) ≤ 62)
     × (8 * (c .before .before .before .significant .result - 1) + (63 - leadingZeros 64 (3 * c .before .byte-at .result + c .carry-into .result))
     ≡ length (canonical (pos (bytesValue (c .before .before .before .before .before .args .number .now)))))
 counted c =
@@ -67,7 +67,7 @@ cast-result : tie.Need-cast-result
 cast-result c = omega (arith, counted c .0)
 
 sub-result-2 : tie.Need-sub-result-2
-sub-result-2 c = counted c .0
+sub-result-2 c = omega (arith, counted c .0)
 
 add-result : tie.Need-add-result
 add-result c = search needs

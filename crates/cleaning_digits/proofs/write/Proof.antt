@@ -1,16 +1,16 @@
 -- `cleaning_digits::write` meets its contract: after i turns the first i digits stand. Assumes nothing.
 use mathlib.Core.Path.{_≡_}
 use mathlib.Core.List.{_++_}
-use Prim.Native.Nat.{ℕ, _≤_, _-_, _+_, _*_, _%_}
+use Prim.Native.Nat.{_≤_, _-_, _+_}
 use native.Mathlib.Numerals.{add-one}
 use native.Mathlib.Omega.{arith}
-use lib.ListN.{length, drop, set}
+use lib.ListN.{length, drop}
 use Rattle.integers.specs.Tabulate.{tabulate}
 use Rattle.integers.proofs.Tabulate.{tabulate-more}
-use Rattle.signed_digits.specs.Naf.{rest, canonical}
+use Rattle.signed_digits.specs.Naf.{canonical}
 use Rattle.digit_strings.specs.Admission.{stringValue}
 use Rattle.digit_strings.specs.Places.{placeByte}
-use Rattle.cleaning_digits.specs.Sums.{raisedAt, sumAt, pairAt}
+use Rattle.cleaning_digits.specs.Sums.{sumAt}
 use Rattle.cleaning_digits.proofs.Places.{place-byte}
 use borrow.Author.Needs.{needs}
 use Rattle.cleaning_digits.proofs.write.Statement.{statement}
@@ -18,7 +18,7 @@ use Rattle.cleaning_digits.proofs.write.Tie as tie
 
 abbrev Inv-loop : tie.InvT-loop
 Inv-loop digits out₀ count sum₀ i₀ out sum i =
-    (i ≤ count) × (length out ≡ length out₀) × (sum ≤ 4) × (sum ≡ sumAt digits i) × (out ≡ tabulate (placeByte (canonical (stringValue digits))) i ++ drop i out₀)
+    (i ≤ count) × (length out ≡ length out₀) × (sum ≤ 4) × (out ≡ tabulate (placeByte (canonical (stringValue digits))) i ++ drop i out₀) × (sum ≡ sumAt digits i)
 
 abbrev μ-loop : tie.MeasureT-loop
 μ-loop digits out₀ count sum₀ i₀ out sum i = count - i
@@ -75,16 +75,16 @@ loop-again c =
     let loop = c .before .before .before .loop in
     let start = c .before .before .before .before .before .before .before in
     let s = start .args .digits .now in
-    let above = c .before .raised-at2 in
-    let pair : ℕ = loop .sum + 2 * above .result in
-    let a : above .result ≡ raisedAt s (loop .i + 1) = above .ensures .0 in
-    let p : pair ≡ pairAt s (loop .i) = rw (loop .inv .3, a, add-one (loop .i)) in
-    let r : c .rest-of .result ≡ rest 2 pair = c .rest-of .ensures .0 in
-    let n : c .rest-of .result ≡ sumAt s (loop .i + 1) = rw (r, p, add-one (loop .i)) in
-    let b : (256 + pair - 2 * c .rest-of .result) % 256 ≡ placeByte (canonical (stringValue s)) (loop .i) = rw (p, n, add-one (loop .i)) (place-byte s (start .pre .0) (loop .i)) in
-    let e : set (loop .out) (loop .i) ((256 + pair - 2 * c .rest-of .result) % 256) ≡ tabulate (placeByte (canonical (stringValue s))) (loop .i + 1) ++ drop (loop .i + 1) (start .args .out .now) =
-    rw (b, loop .inv .4) (tabulate-more (placeByte (canonical (stringValue s))) (start .args .out .now) (loop .i) (search needs)) in
-    (search needs, search needs, search needs, n, e)
+    let digit = placeByte (canonical (stringValue s)) in
+    let stored = tabulate-more digit (start .args .out .now) (loop .i) (search needs) in
+    let above = c .before .raised-at2 .ensures .0 in
+    let rest = c .rest-of .ensures .0 in (
+      search needs,
+      search needs,
+      search needs,
+      rw (loop .inv .3, rest, above) (rw (← place-byte s (start .pre .0) (loop .i), ← loop .inv .4, ← add-one (loop .i)) at stored),
+      rw (rest, above, loop .inv .4, add-one (loop .i)),
+    )
 
 same-length : tie.Need-same-length Inv-loop μ-loop
 same-length c = search needs
@@ -92,7 +92,7 @@ same-length c = search needs
 returns : tie.Need-returns Inv-loop μ-loop
 returns c =
     let e : c .before .loop .i ≡ c .before .before .before .before .before .args .count = omega arith in
-    rw e at (c .before .loop .inv .4)
+    rw e at (c .before .loop .inv .3)
 
 pub write-spec : {M : Type 1} → statement M
 write-spec =

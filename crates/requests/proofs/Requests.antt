@@ -2,11 +2,13 @@
 use mathlib.Core.Path.{_≡_, refl}
 use mathlib.Core.List.{List}
 use Prim.Native.Nat.{ℕ}
+use borrow.Author.Tests.{eq-eqb, ne-eqb}
 use Rattle.rules.specs.declared.Refusal.{Refusal}
 use Rattle.rules.specs.declared.Verdict.{Verdict}
 use Rattle.rules.specs.declared.Verdict.the-variants.{Passed, Failed}
+use Rattle.integers.specs.Positional.{bytesValue}
 use Rattle.numbers.specs.Admission.{Positive, positiveVerdict}
-use Rattle.numbers.proofs.Tests.{PositiveTest, positive, positive-only, positive-test}
+use Rattle.numbers.proofs.Tests.{PositiveTest, admitted, number-only, refused, is-zero, positive, positive-test}
 use Rattle.methods.specs.declared.Method.{Method}
 use Rattle.methods.specs.declared.Chosen.{Chosen}
 use Rattle.methods.specs.Method.{methodOf, Allowed}
@@ -19,9 +21,10 @@ module _ (number : List ℕ) (method width : ℕ) where
     chosen : {c : Chosen} → Positive number → methodOf method width ≡ c → Requests c
 
   pub requests-only : {c : Chosen} → Requests c → request number method width ≡ c
-  unfolding request
-  requests-only (stopped t) = rw (positive-only number t)
-  requests-only (chosen p e) = rw (positive-only number (positive p), e)
+  unfolding request positiveVerdict
+  requests-only (stopped (refused t)) = rw (number-only number t)
+  requests-only (stopped (is-zero a z)) = rw (number-only number (admitted a), eq-eqb (bytesValue number) 0 z)
+  requests-only (chosen p e) = rw (number-only number (admitted (p .admitted)), ne-eqb (bytesValue number) 0 (p .nonzero), e)
 
   pub requests-one : Requests (request number method width)
   requests-one = go (positiveVerdict number) (positive-test number)

@@ -20,7 +20,9 @@ shared-slice-read-if2 c = search needs
 
 returns-2 : tie.Need-returns-2
 unfolding withoutPrefix
-returns-2 c = simp (le-ltb _ _ (c .before .before .if1 .left), ne-eqb _ _ (c .if2 .taken))
+returns-2 c =
+    let first = getD (c .before .before .before .before .args .word .now) 0 0 in
+    simp (le-ltb _ _ (c .before .before .if1 .left), ne-eqb first 48 (search needs))
 
 shared-slice-read-is-prefix : tie.Need-shared-slice-read-is-prefix
 shared-slice-read-is-prefix c = search needs
@@ -42,7 +44,7 @@ unfolding withoutPrefix
 returns-3 c =
     let word = c .before .before .before .before .before .before .before .before .args .word .now in
     let prefix : isPrefix (getD (c .before .before .before .before .before .before .before .before .args .word .now) 1 0) ≡ true = sym (c .before .before .is-prefix .ensures) ∙ c .before .if3 .taken in
-    simp (le-ltb _ _ (c .before .before .before .before .before .before .if1 .left), eq-eqb _ _ (c .before .before .before .before .if2 .left), prefix)
+    simp (le-ltb _ _ (c .before .before .before .before .before .before .if1 .left), eq-eqb (getD word 0 0) 48 (search needs), prefix)
     (take-all (length word - 2) (drop 2 word) (omega (arith, length-drop 2 word)))
 
 returns-4 : tie.Need-returns-4

@@ -56,9 +56,7 @@ loop-again c =
     let loop = c .before .before .before .loop in
     let args = c .before .before .before .before .before .before .args in
     let f = byteAt (args .text .now) in
-    let byte : c .before .digit-at .result + 16 * c .digit-at2 .result ≡ f (loop .k) =
-    rw (c .before .digit-at .ensures .0, c .digit-at2 .ensures .0) in
-    (search needs, search needs, rw (byte, loop .inv .2) (tabulate-more f (args .bytes .now) (loop .k) (search needs)))
+    (search needs, search needs, rw (c .before .digit-at .ensures .0, c .digit-at2 .ensures .0, loop .inv .2) (tabulate-more f (args .bytes .now) (loop .k) (search needs)))
 
 same-length : tie.Need-same-length Inv-loop μ-loop
 same-length c = search needs

@@ -57,9 +57,11 @@ fn window_in(bits: u64, width: usize) -> Window
     let zeros = u64::leading_zeros(bits) as usize;
     let window = bits >> (64 - zeros - width);
     let trailing = u64::trailing_zeros(window) as usize;
+    let taken = zeros + width - trailing;
+    let value = window >> trailing;
     Window {
-        bits: zeros + width - trailing,
-        value: window >> trailing,
+        bits: taken,
+        value: value,
     }
 }
 

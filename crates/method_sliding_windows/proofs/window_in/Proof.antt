@@ -21,14 +21,14 @@ shr-window c = search needs
 cast-trailing : tie.Need-cast-trailing
 cast-trailing c = omega (arith, trailing-few (c .args .bits) (c .args .width) (search needs) (omega arith) (search needs) (search needs))
 
-add-t7 : tie.Need-add-t7
-add-t7 c = omega (arith, leading-le 64 (c .args .bits))
+add-taken : tie.Need-add-taken
+add-taken c = omega (arith, leading-le 64 (c .args .bits))
 
-sub-t8 : tie.Need-sub-t8
-sub-t8 c = omega (arith, trailing-few (c .args .bits) (c .args .width) (search needs) (omega arith) (search needs) (search needs))
+sub-taken : tie.Need-sub-taken
+sub-taken c = omega (arith, trailing-few (c .args .bits) (c .args .width) (search needs) (omega arith) (search needs) (search needs))
 
-shr-t10 : tie.Need-shr-t10
-shr-t10 c = omega (arith, trailing-few (c .args .bits) (c .args .width) (search needs) (omega arith) (search needs) (search needs))
+shr-value : tie.Need-shr-value
+shr-value c = omega (arith, trailing-few (c .args .bits) (c .args .width) (search needs) (omega arith) (search needs) (search needs))
 
 returns : tie.Need-returns
 returns c = first-read (c .args .bits) (c .args .width) (search needs) (omega arith) (search needs) (search needs)
@@ -42,7 +42,7 @@ window-in-spec =
     sub-window-2
     shr-window
     cast-trailing
-    add-t7
-    sub-t8
-    shr-t10
+    add-taken
+    sub-taken
+    shr-value
     returns)

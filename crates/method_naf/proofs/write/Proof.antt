@@ -24,7 +24,7 @@ abbrev atPlace : ℕ → ℕ → PartialPlan → PartialPlan
 atPlace e i b = atDigit (digitAt (canonical (pos e)) i) b
 
 abbrev Inv-loop : tie.InvT-loop
-Inv-loop number out₀ digits c₀ i₀ out c i = (i + 1 ≤ length (canonical (pos (bytesValue number)))) × (length out ≡ length out₀) × Underway out₀ out c (atPlace (bytesValue number)) i (nafSteps (bytesValue number))
+Inv-loop number out₀ digits c₀ i₀ out c i = Underway out₀ out c (atPlace (bytesValue number)) i (nafSteps (bytesValue number)) × (i + 1 ≤ length (canonical (pos (bytesValue number)))) × (length out ≡ length out₀)
 
 abbrev μ-loop : tie.MeasureT-loop
 μ-loop number out₀ digits c₀ i₀ out c i = i
@@ -46,7 +46,7 @@ loop-holds c =
     let n = c .recoded .ensures .count in
     let first = c .before .before .first in
     let small : Small (e + 1) = number-small (args .number .now) (λ i. c .before .before .before .before .shared-slice-known .given i .fits) (search needs) in
-    (omega (arith, n, some-digits e (search needs)), refl, record { building = none; writing = nothing-written (args .out .now) (first .result) (first .ensures .0) (first .ensures .1); rest = rw (n, naf-down e (search needs) small) })
+    (record { building = none; writing = nothing-written (args .out .now) (first .result) (first .ensures .0) (first .ensures .1); rest = rw (n, naf-down e (search needs) small) }, omega (arith, n, some-digits e (search needs)), refl)
 
 sub-i-2 : tie.Need-sub-i-2 Inv-loop μ-loop
 sub-i-2 c = search needs
@@ -60,7 +60,7 @@ at-digit-requires c κs =
     let args = c .before .before .before .before .before .before .before .before .args in
     let e : ℕ = bytesValue (args .number .now) in
     let digit = c .before .before .before .recoded .ensures .digit (loop .i - 1) (search needs) in
-    let u : Underway (args .out .now) (loop .out) (loop .c) (atPlace e) (suc (loop .i - 1)) (nafSteps e) = down (args .out .now) (loop .out) (loop .c) (atPlace e) (nafSteps e) (loop .i) (search needs) (loop .inv .2) in
+    let u : Underway (args .out .now) (loop .out) (loop .c) (atPlace e) (suc (loop .i - 1)) (nafSteps e) = down (args .out .now) (loop .out) (loop .c) (atPlace e) (nafSteps e) (loop .i) (search needs) (loop .inv .0) in
     let room = underway-room (args .out .now) (loop .out) (loop .c) (atPlace e) (nafSteps e) (loop .i - 1) (λ i b. omega (arith, length-at-digit (digitAt (canonical (pos e)) i) b)) u in
     let more = length-at-digit (digitAt (canonical (pos e)) (loop .i - 1)) (u .building) in
     (omega (arith, u .writing .steps), λ n. omega (arith, u .writing .steps, step-more digit n))
@@ -74,9 +74,9 @@ loop-again c =
     let args = c .before .before .before .before .before .before .before .before .before .before .before .args in
     let e : ℕ = bytesValue (args .number .now) in
     let digit = c .before .before .before .before .before .before .recoded .ensures .digit (loop .i - 1) (search needs) in
-    let u : Underway (args .out .now) (loop .out) (loop .c) (atPlace e) (suc (loop .i - 1)) (nafSteps e) = down (args .out .now) (loop .out) (loop .c) (atPlace e) (nafSteps e) (loop .i) (search needs) (loop .inv .2) in
+    let u : Underway (args .out .now) (loop .out) (loop .c) (atPlace e) (suc (loop .i - 1)) (nafSteps e) = down (args .out .now) (loop .out) (loop .c) (atPlace e) (nafSteps e) (loop .i) (search needs) (loop .inv .0) in
     let step = c .before .before .at-digit in
-    (omega arith, search needs, underway-next (args .out .now) (loop .out) (loop .c) (atPlace e) (nafSteps e) (step .last .1 .0) (step .result) (loop .i - 1) u (step .ensures (args .out .now) (u .building) (digitAt (canonical (pos e)) (loop .i - 1)) digit (u .writing)))
+    (underway-next (args .out .now) (loop .out) (loop .c) (atPlace e) (nafSteps e) (step .last .1 .0) (step .result) (loop .i - 1) u (step .ensures (args .out .now) (u .building) (digitAt (canonical (pos e)) (loop .i - 1)) digit (u .writing)), omega arith, search needs)
 
 same-length : tie.Need-same-length Inv-loop μ-loop
 same-length c = search needs
@@ -87,7 +87,7 @@ returns c =
     let loop = c .before .loop in
     let e : ℕ = bytesValue (args .number .now) in
     let z : loop .i ≡ 0 = omega arith in
-    underway-end (args .out .now) (loop .out) (loop .c) (atPlace e) (nafSteps e) (rw z at (loop .inv .2))
+    underway-end (args .out .now) (loop .out) (loop .c) (atPlace e) (nafSteps e) (rw z at (loop .inv .0))
 
 pub write-spec : {M : Type 1} → statement M
 write-spec =

@@ -41,7 +41,7 @@ returns c =
       record {
         plus = omega (arith, plus .1);
         minus = omega (arith, minus .1);
-        carry = next-small word (t .carry) (triple .result .word) (triple .result .carry) fits triple-fits (triple .ensures) (search needs);
+        carry = omega (arith, next-small word (t .carry) (triple .result .word) (triple .result .carry) fits triple-fits (triple .ensures) (search needs));
       },
       next-carry word (t .carry) (triple .result .word) (triple .result .carry) fits triple-fits (triple .ensures),
       λ e left h. tallied-word word (t .carry) (triple .result .word) (triple .result .carry) fits triple-fits (triple .ensures) e left t _ refl refl refl (omega (arith, plus .0)) (omega (arith, minus .0)) (c .length-with .ensures) h,

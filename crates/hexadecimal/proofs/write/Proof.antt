@@ -1,7 +1,7 @@
 -- `hexadecimal::write` meets its contract: the bytes below k are written, and the others stay. Assumes nothing.
 use mathlib.Core.Path.{_≡_}
 use mathlib.Core.List.{_++_}
-use Prim.Native.Nat.{_+_, _*_, _≤_, _-_}
+use Prim.Native.Nat.{_≤_, _-_}
 use native.Mathlib.Omega.{arith}
 use lib.ListN.{length, drop}
 use Rattle.integers.specs.Tabulate.{tabulate}

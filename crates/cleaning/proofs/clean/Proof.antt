@@ -33,7 +33,10 @@ count-requires : tie.Need-count-requires
 count-requires c κs = digit-string-is _ _ .0 (sym (c .before .before .string-verdict .ensures) ∙ c .enum-told .given .1)
 
 returns-2 : tie.Need-returns-2
-returns-2 c = no-room _ _ _ (cc) (search needs) (search needs)
+returns-2 c =
+    let found : tie.After-count = search in
+    let args = found .before .before .before .before .before .before .args in
+    no-room (args .digits .now) (args .out .now) (found .count .result) (passed found) (found .count .ensures) (search needs)
 
 write-requires : tie.Need-write-requires
 write-requires c κs = (digit-string-is _ _ .0 (passed (c .before .before)), search needs)

@@ -57,7 +57,11 @@ significant-requires-2 : tie.Need-significant-requires-2
 significant-requires-2 c κs = search needs
 
 returns-2 : tie.Need-returns-2
-returns-2 c = let found : tie.After-significant2 = search in no-room _ _ _ (cc) (sized found .1) (search needs)
+returns-2 c =
+    let found : tie.After-significant2 = search in
+    let told = found .before .before .before .before .before in
+    let args = told .before .before .before .before .before .args in
+    no-room (args .digits .now) (args .out .now) (found .significant2 .result) (passed told) (sized found .1) (search needs)
 
 slice-aggregate-copy : tie.Need-slice-aggregate-copy
 slice-aggregate-copy c = search needs

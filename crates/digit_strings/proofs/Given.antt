@@ -3,16 +3,14 @@ use mathlib.Core.Path.{_≡_, refl}
 use mathlib.Core.Logic.{_↔_}
 use mathlib.Core.List.{List}
 use Prim.Native.Nat.{ℕ, _<_, _≤_}
-use native.Mathlib.Decide.{decLt}
-use native.Mathlib.Omega.{arith}
 use lib.ListN.{length}
 use Rattle.rules.specs.Limits.{stringDigits}
-use Rattle.rules.specs.Outcome.{Outcome, refused, answered}
-use Rattle.rules.specs.declared.Verdict.{Verdict}
-use Rattle.rules.proofs.Fitted.{too-small, fits}
-use Rattle.rules.proofs.Memory.{writes, stopped, no-room, all-fits, writes-only}
+use Rattle.rules.specs.Outcome.{Outcome, refused, answered, refusal}
+use Rattle.rules.specs.declared.Refusal.{Refusal}
+use Rattle.rules.specs.declared.Verdict.the-variants.{Failed}
+use Rattle.rules.proofs.Memory.{writes, Writes, stopped, no-room, all-fits, writes-only, writes-one}
 use Rattle.digit_strings.specs.Admission.{stringVerdict, DigitString, LowestBad}
-use Rattle.digit_strings.proofs.Tests.{StringTest, too-long, bad-digit, digits, string-only, string-test}
+use Rattle.digit_strings.proofs.Tests.{StringTest, too-long, bad-digit, digits, string-only, string-test, digit-string-is}
 
 module _ (values : ℕ → List ℕ) (w : ℕ) (string bytes : List ℕ) (room : ℕ) where
   abbrev pub outcome : Outcome
@@ -30,15 +28,18 @@ module _ (values : ℕ → List ℕ) (w : ℕ) (string bytes : List ℕ) (room :
   given-only (six d h e) = rw e (writes-only values _ bytes room (no-room (string-only w string (digits d)) h))
   given-only (answer d h e) = rw e (writes-only values _ bytes room (all-fits (string-only w string (digits d)) h))
 
+  stops : {r : Refusal} → StringTest w string (Failed r) → Given (refusal r)
+  stops (too-long h) = five h
+  stops (bad-digit h l) = four h l
+
   -- every outcome is one of these
   pub no-other : Given outcome
-  no-other = go (string-test w string) refl (decLt room (length bytes))
+  no-other = go (writes-one values (stringVerdict w string) bytes room)
     where
-      go : {v : Verdict} → StringTest w string v → stringVerdict w string ≡ v → Dec (room < length bytes) → Given outcome
-      go (too-long h) e _ = rw e (five h)
-      go (bad-digit h l) e _ = rw e (four h l)
-      go (digits d) e (yes h) = rw (e, too-small bytes room h) (six d h refl)
-      go (digits d) e (no h) = let l : length bytes ≤ room = omega arith in rw (e, fits bytes room l) (answer d l refl)
+      go : {o : Outcome} → Writes values (stringVerdict w string) bytes room o → Given o
+      go (stopped t) = stops (rw t at (string-test w string))
+      go (no-room t h) = six (digit-string-is w string .0 t) h refl
+      go (all-fits t h) = answer (digit-string-is w string .0 t) h refl
 
   given : {o : Outcome} → outcome ≡ o → Given o
   given e = rw e at no-other

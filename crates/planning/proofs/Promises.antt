@@ -3,15 +3,13 @@ use mathlib.Core.Path.{_≡_, refl, sym, _∙_}
 use mathlib.Core.Logic.{_↔_}
 use mathlib.Core.List.{List, _++_}
 use Prim.Native.Nat.{ℕ, _<_, _≤_}
-use native.Mathlib.Decide.{decLt}
-use native.Mathlib.Omega.{arith}
 use lib.ListN.{length, drop}
 use Rattle.rules.specs.Limits.{numberBytes}
 use Rattle.rules.specs.Outcome.{Outcome, refused, answered, refusal, outcomeOf, countedOutcome, countValues}
 use Rattle.rules.specs.declared.Refusal.{Refusal}
 use Rattle.rules.specs.declared.Refusal.the-variants.{NumberTooLong, NumberIsZero, MethodOrWidth}
 use Rattle.rules.specs.declared.Written.{Written}
-use Rattle.rules.proofs.Fitted.{too-small, fits}
+use Rattle.rules.proofs.Fitted.{too-small, fits, by-room}
 use Rattle.rules.proofs.Memory as memory
 use Rattle.integers.specs.Positional.{bytesValue}
 use Rattle.numbers.specs.Admission.{Admitted, Positive}
@@ -114,16 +112,12 @@ module _ (number : List ℕ) (method width : ℕ) where
     pub plan-no-other : PlanGiven plans
     plan-no-other = go (request number method width) refl
       where
-        fit : {m : Method} → request number method width ≡ Chosen.Method m → Dec (room < length (planBy number m)) → PlanGiven plans
-        fit e (yes l) = let g = granted number method width e in rw (e, too-small _ room l) (six (g .0) (g .1) l refl)
-        fit {m} e (no l) =
-            let g = granted number method width e in
-            let h : length (planBy number m) ≤ room = omega arith in
-            rw (e, fits _ room h) (counts (g .0) (g .1) h refl)
-
         go : (c : Chosen) → request number method width ≡ c → PlanGiven plans
         go (Chosen.Refused r) e = rw e (refuses (refuses-one (rw e at (requests-one number method width))))
-        go (Chosen.Method m) e = fit e (decLt room _)
+        go (Chosen.Method m) e =
+            let g = granted number method width e in
+            let answer : Written → Outcome = λ w. countedOutcome (withCounts (countsOf (stepsBy m (bytesValue number))) w) in
+            rw e (by-room (planBy number m) room (λ w. PlanGiven (answer w)) (λ l. six (g .0) (g .1) l refl) (λ l. counts (g .0) (g .1) l refl))
 
     plan-given : {o : Outcome} → plans ≡ o → PlanGiven o
     plan-given e = rw e at plan-no-other

@@ -1,5 +1,5 @@
 -- The two outcomes of plan for a request that is granted. Assumes nothing.
-use mathlib.Core.Path.{_≡_, ap, _∙_}
+use mathlib.Core.Path.{_≡_, refl, sym, ap, _∙_}
 use mathlib.Core.List.{List, _++_}
 use Prim.Native.Nat.{ℕ, _*_, _<_, _≤_}
 use lib.ListN.{length, drop}
@@ -7,7 +7,7 @@ use Rattle.rules.specs.Limits.{stepBytes, planSteps}
 use Rattle.rules.specs.declared.Refusal.the-variants.{RoomTooSmall}
 use Rattle.rules.specs.declared.Counts.{Counts}
 use Rattle.rules.specs.declared.Counted.the-variants.{Steps, Refused}
-use Rattle.rules.proofs.Fitted.{too-small, fits}
+use Rattle.rules.proofs.Returns.{returns-refused, returns-written}
 use Rattle.integers.specs.Positional.{bytesValue}
 use Rattle.integers.proofs.Positional.{Below}
 use Rattle.chains.specs.Steps.{Step, planBytesOf}
@@ -20,7 +20,7 @@ use Rattle.methods.proofs.Counted.{length-counted}
 use Rattle.methods.proofs.Every.{plannable, every-fit}
 use Rattle.requests.specs.Request.{request}
 use Rattle.requests.proofs.Requests.{granted-allowed}
-use Rattle.planning.specs.Plan.{planAnswer, planBuffer}
+use Rattle.planning.specs.Plan.{withCounts, planAnswer, planBuffer}
 
 -- the steps of a granted request are counted within the limit
 pub counted-few : (number : List ℕ) (method width : ℕ) → Below 256 number → {m : Method} → request number method width ≡ Chosen.Method m
@@ -34,24 +34,21 @@ module _ (steps : List Step) (c : Counts) (counted : c ≡ countsOf steps) where
   all-counted : length steps ≡ total c
   all-counted = length-counted steps ∙ rw (← counted)
 
-  needed : length (planBytesOf steps) ≡ stepBytes * total c
-  needed = length-plan steps ∙ ap (λ (n : ℕ). stepBytes * n) all-counted
+  needed : stepBytes * total c ≡ length (planBytesOf steps)
+  needed = sym (length-plan steps ∙ ap (λ (n : ℕ). stepBytes * n) all-counted)
 
   pub room-for : {room : ℕ} → stepBytes * total c ≤ room → stepBytes * length steps ≤ room
   room-for l = rw all-counted l
 
 module _ (number : List ℕ) (method width : ℕ) (out : List ℕ) {m : Method} (granted : request number method width ≡ Chosen.Method m) (c : Counts)
     (counted : c ≡ countsOf (stepsBy m (bytesValue number))) where
+  abbrev steps : List Step
+  steps = stepsBy m (bytesValue number)
+
   pub no-room : length out < stepBytes * total c
       → (Refused (RoomTooSmall (stepBytes * total c)) ≡ planAnswer number method width (length out)) × (out ≡ planBuffer number method width out)
-  no-room l =
-      let n = needed (stepsBy m (bytesValue number)) c counted in
-      let s = too-small (planBytesOf (stepsBy m (bytesValue number))) (length out) (rw n l) in
-      (rw (granted, s, n), rw (granted, s))
+  no-room l = rw granted (returns-refused (withCounts (countsOf steps)) (planBytesOf steps) out refl (needed steps c counted) l)
 
-  pub done : stepBytes * total c ≤ length out → {after : List ℕ}
-      → after ≡ planBytesOf (stepsBy m (bytesValue number)) ++ drop (length (planBytesOf (stepsBy m (bytesValue number)))) out
+  pub done : stepBytes * total c ≤ length out → {after : List ℕ} → after ≡ planBytesOf steps ++ drop (length (planBytesOf steps)) out
       → (Steps c ≡ planAnswer number method width (length out)) × (after ≡ planBuffer number method width out)
-  done l e =
-      let s = fits (planBytesOf (stepsBy m (bytesValue number))) (length out) (rw (needed (stepsBy m (bytesValue number)) c counted) l) in
-      (rw (granted, s, counted), rw (granted, s) e)
+  done l e = rw (granted, ← counted) (returns-written (withCounts c) (planBytesOf steps) out refl (needed steps c counted) l (rw (needed steps c counted) e))

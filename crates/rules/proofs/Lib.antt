@@ -1,2 +1,3 @@
 pub mod Fitted
 pub mod Memory
+pub mod Returns

@@ -1,15 +1,16 @@
 -- `reading::read_back` meets its contract: at each return the tests that led there say which outcome holds. Assumes nothing.
 use mathlib.Core.Path.{_≡_, sym, _∙_}
-use mathlib.Core.List.{List, _++_}
-use Prim.Native.Nat.{ℕ}
+use mathlib.Core.List.{_++_}
 use lib.ListN.{length, getD, take, drop}
 use mir.Syntax.{w8}
 use mir.Val.{Fits}
 use Rattle.rules.specs.declared.Verdict.the-variants.{Passed}
-use Rattle.digit_strings.specs.Admission.{canonicalWidth, stringVerdict, DigitString}
+use Rattle.rules.proofs.Returns.{returns-refused, returns-written}
+use Rattle.integers.specs.Signed.{signOf}
+use Rattle.digit_strings.specs.Admission.{canonicalWidth, stringVerdict, stringValue, DigitString}
 use Rattle.digit_strings.proofs.Tests.{digit-string-is}
-use Rattle.reading.specs.ReadBack.{sizeBytes}
-use Rattle.reading.proofs.Outcomes.{size-is, no-room, all-fits}
+use Rattle.reading.specs.ReadBack.{sizeBytes, withSign}
+use Rattle.reading.proofs.Outcomes.{size-is}
 use borrow.Author.Needs.{needs}
 use Rattle.reading.proofs.read_back.Statement.{statement}
 use Rattle.reading.proofs.read_back.Tie as tie
@@ -61,7 +62,7 @@ returns-2 c =
     let found : tie.After-significant2 = search in
     let told = found .before .before .before .before .before in
     let args = told .before .before .before .before .before .args in
-    no-room (args .digits .now) (args .out .now) (found .significant2 .result) (passed told) (sized found .1) (search needs)
+    returns-refused (withSign (signOf (stringValue (args .digits .now)))) (sizeBytes (args .digits .now)) (args .out .now) (passed told) (sized found .1) (search needs)
 
 slice-aggregate-copy : tie.Need-slice-aggregate-copy
 slice-aggregate-copy c = search needs
@@ -79,10 +80,8 @@ returns-3 c =
     let told = found .before .before .before .before .before in
     let sign = found .before .before .before .sign-of in
     let args = told .before .before .before .before .before .args in
-    let bytes : List ℕ = take (n .result) (found .before .before .size-of .result) in
-    let o = all-fits (args .digits .now) (args .out .now) (n .result) (passed told) (sized found .1) (sign .result) bytes (sign .ensures) (sized found .0) (search needs) in
-    let w : _ ≡ bytes ++ drop (n .result) (args .out .now) = c .before .before .copy .ensures in
-    (o .0, w ∙ o .1)
+    let w : _ ≡ take (n .result) (found .before .before .size-of .result) ++ drop (n .result) (args .out .now) = c .before .before .copy .ensures in
+    rw (sign .ensures) (returns-written (withSign (signOf (stringValue (args .digits .now)))) (sizeBytes (args .digits .now)) (args .out .now) (passed told) (sized found .1) (search needs) (rw (sized found .0) at w))
 
 pub read-back-spec : {M : Type 1} → statement M
 read-back-spec =

@@ -1,6 +1,7 @@
 -- The answers as C takes them. If a call is not refused, the refusal and its place are 0; if it is, they are its number and place (docs/RULES.md, 4.13), and
 -- every other field is 0: a refusal answers its number and place and nothing else.
 use Rattle.rules.specs.Refusals.{refusalNumber, refusalPlace}
+use Rattle.rules.specs.declared.Refusal.{Refusal}
 use Rattle.rules.specs.declared.Written.{Written}
 use Rattle.rules.specs.declared.Written.the-variants.{Length as Fitted, Refused as NotWritten}
 use Rattle.rules.specs.declared.Counted.{Counted}
@@ -16,9 +17,13 @@ use Rattle.c_answers.specs.declared.Length.{Length}
 use Rattle.c_answers.specs.declared.Value.{Value}
 use Rattle.c_answers.specs.declared.Steps.{Steps}
 
+-- a refusal
+abbrev pub refusedFields : Refusal → Started
+refusedFields r = record { refusal = refusalNumber r; place = refusalPlace r }
+
 abbrev pub startedFields : Start → Started
 startedFields Ready = record { refusal = 0; place = 0 }
-startedFields (NotStarted r) = record { refusal = refusalNumber r; place = refusalPlace r }
+startedFields (NotStarted r) = refusedFields r
 
 abbrev pub writtenFields : Written → Length
 writtenFields (Fitted n) = record { refusal = 0; place = 0; length = n }

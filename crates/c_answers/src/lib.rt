@@ -4,10 +4,11 @@ pub mod kept;
 
 use reading::ReadBack;
 use rules::Counted;
+use rules::Refusal;
 use rules::Written;
 use taking::Start;
 ghost use mathlib.Core.Path.{_≡_};
-ghost use Rattle.c_answers.specs.Answers.{startedFields, writtenFields, readFields, countedFields, limitFields};
+ghost use Rattle.c_answers.specs.Answers.{refusedFields, startedFields, writtenFields, readFields, countedFields, limitFields};
 
 // What the start of taking answers.
 #[repr(C)]
@@ -67,6 +68,16 @@ pub fn of_limits(limits: rules::Limits) -> Limits
     }
 }
 
+// A refusal, by its number and place.
+fn refused(refusal: Refusal) -> Started
+    ensures { λ r. ⌜ r ≡ refusedFields refusal ⌝ }
+{
+    Started {
+        refusal: refusal.number() as usize,
+        place: refusal.place(),
+    }
+}
+
 pub fn of_start(answer: Start) -> Started
     ensures { λ r. ⌜ r ≡ startedFields answer ⌝ }
 {
@@ -75,10 +86,7 @@ pub fn of_start(answer: Start) -> Started
             refusal: 0,
             place: 0,
         },
-        Start::Refused(refusal) => Started {
-            refusal: refusal.number() as usize,
-            place: refusal.place(),
-        },
+        Start::Refused(refusal) => refused(refusal),
     }
 }
 
@@ -91,11 +99,14 @@ pub fn of_written(answer: Written) -> Length
             place: 0,
             length,
         },
-        Written::Refused(refusal) => Length {
-            refusal: refusal.number() as usize,
-            place: refusal.place(),
-            length: 0,
-        },
+        Written::Refused(refusal) => {
+            let given = refused(refusal);
+            Length {
+                refusal: given.refusal,
+                place: given.place,
+                length: 0,
+            }
+        }
     }
 }
 
@@ -109,12 +120,15 @@ pub fn of_read_back(answer: ReadBack) -> Value
             sign: sign as usize,
             length,
         },
-        ReadBack::Refused(refusal) => Value {
-            refusal: refusal.number() as usize,
-            place: refusal.place(),
-            sign: 0,
-            length: 0,
-        },
+        ReadBack::Refused(refusal) => {
+            let given = refused(refusal);
+            Value {
+                refusal: given.refusal,
+                place: given.place,
+                sign: 0,
+                length: 0,
+            }
+        }
     }
 }
 
@@ -129,12 +143,15 @@ pub fn of_counted(answer: Counted) -> Steps
             additions: counts.additions,
             subtractions: counts.subtractions,
         },
-        Counted::Refused(refusal) => Steps {
-            refusal: refusal.number() as usize,
-            place: refusal.place(),
-            doublings: 0,
-            additions: 0,
-            subtractions: 0,
-        },
+        Counted::Refused(refusal) => {
+            let given = refused(refusal);
+            Steps {
+                refusal: given.refusal,
+                place: given.place,
+                doublings: 0,
+                additions: 0,
+                subtractions: 0,
+            }
+        }
     }
 }

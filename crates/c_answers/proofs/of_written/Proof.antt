@@ -9,29 +9,14 @@ enum-known-answer c = search needs
 enum-known-answer-2 : tie.Need-enum-known-answer-2
 enum-known-answer-2 c = search needs
 
-number-requires : tie.Need-number-requires
-number-requires c κs = search needs
-
-cast-t6 : tie.Need-cast-t6
-cast-t6 c = search needs
-
-place-requires : tie.Need-place-requires
-place-requires c κs = search needs
+refused-requires : tie.Need-refused-requires
+refused-requires c κs = search needs
 
 returns : tie.Need-returns
 returns c = rw (c .before .answer .given .1)
 
 returns-2 : tie.Need-returns-2
-returns-2 c = rw (c .before .before .before .answer2 .given .1, c .before .number .ensures, c .place .ensures)
+returns-2 c = rw (c .before .before .answer2 .given .1, c .refused .ensures)
 
 pub of-written-spec : {M : Type 1} → statement M
-of-written-spec =
-    tie.close
-    (tie.spec
-    enum-known-answer
-    enum-known-answer-2
-    number-requires
-    cast-t6
-    place-requires
-    returns
-    returns-2)
+of-written-spec = tie.close (tie.spec enum-known-answer enum-known-answer-2 refused-requires returns returns-2)

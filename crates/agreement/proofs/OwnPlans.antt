@@ -15,8 +15,8 @@ use Rattle.chains.proofs.Bytes.{length-plan, steps-of-plan}
 use Rattle.methods.specs.declared.Method.{Method}
 use Rattle.methods.specs.declared.Chosen.{Chosen}
 use Rattle.methods.specs.Method.{methodOf, stepsBy}
-use Rattle.methods.proofs.Laws.{Fit}
-use Rattle.methods.proofs.Every.{is-allowed, plannable, every-fit}
+use Rattle.methods.proofs.Laws.{Fit, plannable}
+use Rattle.methods.proofs.Every.{is-allowed, every-fit}
 use Rattle.planning.specs.Plan.{forecastAnswer, planAnswer}
 use Rattle.planning.proofs.Promises.{forecast-answers, plan-answers}
 use Rattle.checking.specs.Check.{checkAnswer, roomFor}
@@ -31,7 +31,7 @@ module _ (number : List ℕ) (bytes : Below 256 number) (positive : Positive num
   plan = planBytesOf steps
 
   fit : Fit steps (bytesValue number)
-  fit = every-fit m (bytesValue number) (is-allowed method width asked) (plannable number bytes (positive .admitted .short) (positive .nonzero))
+  fit = every-fit m (bytesValue number) (is-allowed method width asked) (plannable number bytes positive)
 
   -- a plan has at most as many steps as the limit
   pub few-steps : length steps ≤ planSteps

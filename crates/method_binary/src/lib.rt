@@ -5,12 +5,12 @@ use integers::ones;
 use plan_writing::Cursor;
 use rules::Counts;
 ghost use mathlib.Core.Path.{_≡_};
-ghost use mathlib.Core.Logic.{_≢_};
 ghost use mathlib.Core.List.{List, _++_};
 ghost use Prim.Native.Nat.{ℕ, _+_, _*_, _≤_, _<_};
 ghost use lib.ListN.{length, drop};
-ghost use Rattle.rules.specs.Limits.{numberBytes, stepBytes};
+ghost use Rattle.rules.specs.Limits.{stepBytes};
 ghost use Rattle.integers.specs.Positional.{bytesValue};
+ghost use Rattle.numbers.specs.Admission.{Positive};
 ghost use Rattle.chains.specs.Steps.{planBytesOf};
 ghost use Rattle.chains.specs.Counts.{countsOf};
 ghost use Rattle.methods.specs.PartialPlan.{PartialPlan};
@@ -19,8 +19,7 @@ ghost use Rattle.plan_writing.specs.Writing.{Writing};
 
 // The counts of the steps for a number above zero: the bit length less one, the ones less one.
 pub fn counts(number: &[u8]) -> Counts
-    requires { ⌜ length (now number) ≤ numberBytes ⌝ }
-    requires { ⌜ bytesValue (now number) ≢ 0 ⌝ }
+    requires { ⌜ Positive (now number) ⌝ }
     ensures { λ r. ⌜ r ≡ countsOf (binarySteps (bytesValue (now (number .entry)))) ⌝ }
 {
     Counts {
@@ -46,8 +45,7 @@ fn at_bit(c: Cursor, out: &mut [u8], bit: u64) -> Cursor
 
 // Writes the steps for a number above zero.
 pub fn write(number: &[u8], out: &mut [u8])
-    requires { ⌜ length (now number) ≤ numberBytes ⌝ }
-    requires { ⌜ bytesValue (now number) ≢ 0 ⌝ }
+    requires { ⌜ Positive (now number) ⌝ }
     requires { ⌜ stepBytes * length (binarySteps (bytesValue (now number))) ≤ length (now out) ⌝ }
     ensures { λ _. ⌜ now (out .exit) ≡ planBytesOf (binarySteps (bytesValue (now (number .entry)))) ++ drop (length (planBytesOf (binarySteps (bytesValue (now (number .entry)))))) (now (out .entry)) ⌝ }
 {

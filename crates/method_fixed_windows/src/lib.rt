@@ -16,6 +16,7 @@ ghost use lib.Dec.{eqb};
 ghost use lib.ListN.{length, drop};
 ghost use Rattle.rules.specs.Limits.{numberBytes, stepBytes};
 ghost use Rattle.integers.specs.Positional.{bytesValue};
+ghost use Rattle.numbers.specs.Admission.{Positive};
 ghost use Rattle.chains.specs.Steps.{planBytesOf};
 ghost use Rattle.chains.specs.Counts.{countsOf};
 ghost use Rattle.methods.specs.PartialPlan.{PartialPlan};
@@ -35,8 +36,7 @@ fn window_at(number: &[u8], width: usize, i: usize) -> usize
 
 // The place of the top window, the one that holds the top bit: 0 for a number below 2^width.
 fn top_window(number: &[u8], width: usize) -> usize
-    requires { ⌜ length (now number) ≤ numberBytes ⌝ }
-    requires { ⌜ bytesValue (now number) ≢ 0 ⌝ }
+    requires { ⌜ Positive (now number) ⌝ }
     requires { ⌜ 1 ≤ width ⌝ }
     ensures { λ r. ⌜ (r ≡ topWindow (bytesValue (now (number .entry))) width) × (width * r ≤ 8 * numberBytes) ⌝ }
 {
@@ -83,8 +83,7 @@ fn nonzero_windows(number: &[u8], width: usize, n: usize) -> usize
 
 // The counts of the steps for a number above zero.
 pub fn counts(number: &[u8], width: usize) -> Counts
-    requires { ⌜ length (now number) ≤ numberBytes ⌝ }
-    requires { ⌜ bytesValue (now number) ≢ 0 ⌝ }
+    requires { ⌜ Positive (now number) ⌝ }
     requires { ⌜ (1 ≤ width) × (width ≤ fixedWindowBits) ⌝ }
     ensures { λ r. ⌜ r ≡ countsOf (fixedWindowSteps (bytesValue (now (number .entry))) width) ⌝ }
 {
@@ -135,8 +134,7 @@ fn write_windows(number: &[u8], width: usize, top: usize, out: &mut [u8])
 
 // Writes the steps for a number above zero.
 pub fn write(number: &[u8], width: usize, out: &mut [u8])
-    requires { ⌜ length (now number) ≤ numberBytes ⌝ }
-    requires { ⌜ bytesValue (now number) ≢ 0 ⌝ }
+    requires { ⌜ Positive (now number) ⌝ }
     requires { ⌜ (1 ≤ width) × (width ≤ fixedWindowBits) ⌝ }
     requires { ⌜ stepBytes * length (fixedWindowSteps (bytesValue (now number)) width) ≤ length (now out) ⌝ }
     ensures { λ _. ⌜ now (out .exit) ≡ planBytesOf (fixedWindowSteps (bytesValue (now (number .entry))) width) ++ drop (length (planBytesOf (fixedWindowSteps (bytesValue (now (number .entry))) width))) (now (out .entry)) ⌝ }

@@ -6,11 +6,11 @@ use Prim.Native.Nat.{ℕ, _+_, _≤_}
 use native.Mathlib.Omega.{arith}
 use lib.IntN.{ℤ, pos}
 use lib.ListN.{length, drop, List·getD-append, List·getD-map}
-use Rattle.rules.specs.Limits.{numberBytes}
 use Rattle.rules.specs.Memory.{lengthWritten}
 use Rattle.rules.specs.declared.Written.the-variants.{Length}
 use Rattle.integers.specs.Positional.{bytesValue}
 use Rattle.integers.proofs.Positional.{Below}
+use Rattle.numbers.specs.Admission.{Admitted}
 use Rattle.signed_digits.specs.Strings.{digitAt}
 use Rattle.signed_digits.specs.Naf.{canonical}
 use Rattle.signed_digits.specs.Bytes.{digitByte}
@@ -37,10 +37,10 @@ digit-byte e i = rw (digit-left i e) (go (low (rests 2 i e)))
     go (plus-one q) = plus
     go (minus-one q) = minus
 
-module _ (number out : List ℕ) (bytes : Below 256 number) (h : length number ≤ numberBytes) (room : mostDigits ≤ length out) where
+module _ (number out : List ℕ) (bytes : Below 256 number) (admitted : Admitted number) (room : mostDigits ≤ length out) where
   -- this many digits are answered
   all-answered : recodeAnswer number (length out) ≡ Length (length (recoding number))
-  all-answered = length-answered number (length out) (record { short = h }) (omega (arith, recoding-length number bytes))
+  all-answered = length-answered number (length out) admitted (omega (arith, recoding-length number bytes, admitted .short))
 
   pub recoded-there : (after : List ℕ) (n : ℕ) → after ≡ recodeBuffer number out → n ≡ lengthWritten (recodeAnswer number (length out)) → Recoded number after n
   unfolding recoding

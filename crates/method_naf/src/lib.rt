@@ -12,10 +12,11 @@ ghost use mathlib.Core.List.{List, _++_};
 ghost use Prim.Native.Nat.{ℕ, _+_, _*_, _≤_};
 ghost use lib.IntN.{ℤ};
 ghost use lib.ListN.{length, drop};
-ghost use Rattle.rules.specs.Limits.{numberBytes, stepBytes};
+ghost use Rattle.rules.specs.Limits.{stepBytes};
 ghost use Rattle.rules.specs.Memory.{lengthWritten};
 ghost use Rattle.integers.specs.Positional.{bytesValue};
 ghost use Rattle.integers.specs.Signed.{signOf};
+ghost use Rattle.numbers.specs.Admission.{Admitted, Positive};
 ghost use Rattle.chains.specs.Steps.{planBytesOf};
 ghost use Rattle.chains.specs.Counts.{countsOf};
 ghost use Rattle.methods.specs.PartialPlan.{PartialPlan};
@@ -39,7 +40,7 @@ fn length_of(written: Written) -> usize
 
 // Puts the canonical digits of a number at the start of an array; answers how many there are.
 fn recoded(number: &[u8], digits: &mut [u8; MOST_DIGITS]) -> usize
-    requires { ⌜ length (now number) ≤ numberBytes ⌝ }
+    requires { ⌜ Admitted (now number) ⌝ }
     ensures { λ r. ⌜ Recoded (now (number .entry)) (now (digits .exit)) r ⌝ }
 {
     length_of(recode(number, digits))
@@ -48,8 +49,7 @@ fn recoded(number: &[u8], digits: &mut [u8; MOST_DIGITS]) -> usize
 // The counts of the steps for a number above zero: of the digits below the top, a 1, all, those that
 // are 1, and those that are -1. All digits are one fewer than 3 e has in binary.
 pub fn counts(number: &[u8]) -> Counts
-    requires { ⌜ length (now number) ≤ numberBytes ⌝ }
-    requires { ⌜ bytesValue (now number) ≢ 0 ⌝ }
+    requires { ⌜ Positive (now number) ⌝ }
     ensures { λ r. ⌜ r ≡ countsOf (nafSteps (bytesValue (now (number .entry)))) ⌝ }
 {
     let digits = words::tally_of(number);
@@ -83,8 +83,7 @@ fn at_digit(c: Cursor, out: &mut [u8], digit: u8) -> Cursor
 
 // Writes the steps for a number above zero.
 pub fn write(number: &[u8], out: &mut [u8])
-    requires { ⌜ length (now number) ≤ numberBytes ⌝ }
-    requires { ⌜ bytesValue (now number) ≢ 0 ⌝ }
+    requires { ⌜ Positive (now number) ⌝ }
     requires { ⌜ stepBytes * length (nafSteps (bytesValue (now number))) ≤ length (now out) ⌝ }
     ensures { λ _. ⌜ now (out .exit) ≡ planBytesOf (nafSteps (bytesValue (now (number .entry)))) ++ drop (length (planBytesOf (nafSteps (bytesValue (now (number .entry)))))) (now (out .entry)) ⌝ }
 {

@@ -16,6 +16,7 @@ use Rattle.integers.proofs.Positional.{Below}
 use Rattle.integers.specs.Bits.{bit, bitLength}
 use Rattle.integers.proofs.Bits.{quotient-none, bit-length-iff, bytes-length}
 use Rattle.rules.specs.declared.Counts.{Counts}
+use Rattle.numbers.specs.Admission.{Positive}
 use Rattle.chains.specs.Steps.{Step, planBytesOf}
 use Rattle.chains.specs.Counts.{counts, countsOf, total}
 use Rattle.chains.proofs.Bytes.{length-plan}
@@ -46,14 +47,14 @@ pub record InWords (number words : List ℕ) (n : ℕ) : Type 0 where
   pub top : n ≡ bitLength (wordsValue words) - 1
   pub few : bitLength (wordsValue words) ≤ 8 * numberBytes
 
-pub in-words : (number words : List ℕ) (k : ℕ) → Below 256 number → length number ≤ numberBytes → bytesValue number ≢ 0 → wordsValue words ≡ bytesValue (take numberBytes number) → k ≡ bitLength (bytesValue number) → InWords number words (k - 1)
-in-words number words k b short some e l =
-    let same : wordsValue words ≡ bytesValue number = e ∙ ap bytesValue (take-all numberBytes number short) in
+pub in-words : (number words : List ℕ) (k : ℕ) → Below 256 number → Positive number → wordsValue words ≡ bytesValue (take numberBytes number) → k ≡ bitLength (bytesValue number) → InWords number words (k - 1)
+in-words number words k b p e l =
+    let same : wordsValue words ≡ bytesValue number = e ∙ ap bytesValue (take-all numberBytes number (p .admitted .short)) in
     record {
       same = same;
-      some = omega arith;
+      some = omega (arith, p .nonzero);
       top = rw (l, same);
-      few = rw same (bytes-length number numberBytes b short);
+      few = rw same (bytes-length number numberBytes b (p .admitted .short));
     }
 
 -- ---- one turn

@@ -17,6 +17,7 @@ ghost use lib.ListN.{length, drop};
 ghost use Rattle.rules.specs.Limits.{numberBytes, stepBytes};
 ghost use Rattle.integers.specs.Bits.{bitLength};
 ghost use Rattle.integers.specs.Positional.{bytesValue, wordsValue};
+ghost use Rattle.numbers.specs.Admission.{Positive};
 ghost use Rattle.chains.specs.Steps.{planBytesOf};
 ghost use Rattle.chains.specs.Counts.{countsOf};
 ghost use Rattle.methods.specs.PartialPlan.{PartialPlan};
@@ -138,8 +139,7 @@ fn later_windows(words: &[u64], below: usize, width: usize) -> usize
 // The counts of the steps for a number above zero: those of the table, a doubling for each bit
 // below the first window, an addition for each later window.
 pub fn counts(number: &[u8], width: usize) -> Counts
-    requires { ⌜ length (now number) ≤ numberBytes ⌝ }
-    requires { ⌜ bytesValue (now number) ≢ 0 ⌝ }
+    requires { ⌜ Positive (now number) ⌝ }
     requires { ⌜ (1 ≤ width) × (width ≤ slidingWindowBits) ⌝ }
     ensures { λ r. ⌜ r ≡ countsOf (slidingWindowSteps (bytesValue (now (number .entry))) width) ⌝ }
 {
@@ -170,8 +170,7 @@ fn at_window(c: Cursor, out: &mut [u8], w: Window) -> Cursor
 
 // Writes the steps for a number above zero.
 pub fn write(number: &[u8], width: usize, out: &mut [u8])
-    requires { ⌜ length (now number) ≤ numberBytes ⌝ }
-    requires { ⌜ bytesValue (now number) ≢ 0 ⌝ }
+    requires { ⌜ Positive (now number) ⌝ }
     requires { ⌜ (1 ≤ width) × (width ≤ slidingWindowBits) ⌝ }
     requires { ⌜ stepBytes * length (slidingWindowSteps (bytesValue (now number)) width) ≤ length (now out) ⌝ }
     ensures { λ _. ⌜ now (out .exit) ≡ planBytesOf (slidingWindowSteps (bytesValue (now (number .entry))) width) ++ drop (length (planBytesOf (slidingWindowSteps (bytesValue (now (number .entry))) width))) (now (out .entry)) ⌝ }

@@ -1,18 +1,13 @@
 -- Every method that is allowed: which they are, and that the steps are sound, end at the number, and are no more than a plan may have. Assumes nothing.
 use mathlib.Core.Path.{_≡_, refl, sym}
-use mathlib.Core.Logic.{_↔_, _≢_, ⊎-elim}
+use mathlib.Core.Logic.{_↔_, ⊎-elim}
 use mathlib.Core.List.{List, [], _∷_, map, List·Memᴰ, List·Memᴰ·head, List·Memᴰ·tail, List·Memᴰ·not-nil, List·Memᴰ·cases-cons, List·Memᴰ·append-cases, Memᴰ·cast, Memᴰ·append-left, Memᴰ·append-right, Memᴰ·map, Memᴰ·of-map}
 use Prim.Native.Nat.{ℕ, zero, suc, _+_, _-_, _<_, _≤_}
 use borrow.Author.Tests.{le-leb, lt-leb}
 use native.Mathlib.Decide.{decLt, ℕ-discrete}
 use native.Mathlib.Omega.{arith}
-use lib.ListN.{length}
-use Rattle.rules.specs.Limits.{numberBytes}
 use Rattle.rules.specs.declared.Refusal.{Refusal}
 use Rattle.rules.specs.declared.Refusal.the-variants.{MethodOrWidth}
-use Rattle.integers.specs.Positional.{bytesValue}
-use Rattle.integers.proofs.Positional.{Below}
-use Rattle.integers.proofs.Bits.{bytes-length}
 use Rattle.methods.specs.declared.Method.{Method}
 use Rattle.methods.specs.declared.Method.the-variants.{Binary, FixedWindows, SlidingWindows, Naf}
 use Rattle.methods.specs.declared.Chosen.{Chosen}
@@ -134,10 +129,6 @@ unfolding methodOf numbered
 sliding-widths {d} e = let w = within-is (SlidingWindows d) d 1 slidingWindowBits e in (w .1, w .2)
 
 -- ---- the steps
-
--- a number within the limit can be planned for
-pub plannable : (number : List ℕ) → Below 256 number → length number ≤ numberBytes → bytesValue number ≢ 0 → Plannable (bytesValue number)
-plannable number bytes short nonzero = record { some = omega arith; bits = bytes-length number numberBytes bytes short }
 
 -- a line a method
 pub every-fit : (m : Method) (e : ℕ) → Allowed m → Plannable e → Fit (stepsBy m e) e

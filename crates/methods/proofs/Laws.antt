@@ -9,14 +9,14 @@ use native.Mathlib.Numerals.{add-one}
 use native.Mathlib.Omega.{arith}
 use lib.IntN.{ℤ, pos}
 use lib.ListN.{length, length-append, List·getD-append}
-use lib.Dec.{lit<}
 use lib.Pow.{pow-pos, pow-mono, shr-le}
 use lib.Seq.{getD-at}
 use Rattle.rules.specs.Limits.{numberBytes, planSteps, valueBytes, valueBound}
 use Rattle.integers.specs.Bits.{bitLength}
 use Rattle.integers.specs.Positional.{bytesValue}
-use Rattle.integers.proofs.Bits.{bit-length-iff}
-use Rattle.integers.proofs.Positional.{Below, positional-lt}
+use Rattle.integers.proofs.Bits.{bit-length-iff, bytes-length}
+use Rattle.integers.proofs.Positional.{Below}
+use Rattle.numbers.specs.Admission.{Positive}
 use Rattle.chains.specs.Steps.{Step, add, subtract}
 use Rattle.chains.specs.Values.{at, start, stepValue, extend, valuesOf, endOf}
 use Rattle.chains.specs.Sound.{stepAt, WellFormed, Representable, Sound}
@@ -73,15 +73,7 @@ pub small-below : (a b : ℕ) → a ≤ b → Small b → Small a
 unfolding Small
 small-below a b h s = lt-of-le-of-lt h s
 
--- a number within the limit is small, with one to spare
-pub number-small : (number : List ℕ) → Below 256 number → length number ≤ numberBytes → Small (bytesValue number + 1)
-unfolding Small
-number-small number b h =
-    let v : bytesValue number < 256 ^ numberBytes = positional-lt 256 numberBytes number h b in
-    let u : bytesValue number + 1 ≤ 256 ^ numberBytes = rw add-one v in
-    lt-of-le-of-lt u (lit< tt)
-
--- and so is a power of two within the limit
+-- a power of two within the limit is small
 pub power-small : (d : ℕ) → d < 8 * valueBytes → Small (2 ^ d)
 unfolding Small
 power-small d h =
@@ -240,6 +232,10 @@ pub record Plannable (e : ℕ) : Type 0 where
   pub some : 0 < e
   pub bits : bitLength e ≤ 8 * numberBytes
 
+pub plannable : (number : List ℕ) → Below 256 number → Positive number → Plannable (bytesValue number)
+plannable number bytes p = record { some = omega (arith, p .nonzero); bits = bytes-length number numberBytes bytes (p .admitted .short) }
+
+-- it is small, with one to spare
 pub plannable-small : {e : ℕ} → Plannable e → Small (e + 1)
 plannable-small {e} p =
     let h : e < 2 ^ (8 * numberBytes) = bit-length-iff e (8 * numberBytes) .0 (p .bits) in

@@ -17,7 +17,8 @@ use Rattle.methods.specs.declared.Method.{Method}
 use Rattle.methods.specs.declared.Chosen.{Chosen}
 use Rattle.methods.specs.Method.{stepsBy}
 use Rattle.methods.proofs.Counted.{length-counted}
-use Rattle.methods.proofs.Every.{plannable, every-fit}
+use Rattle.methods.proofs.Laws.{plannable}
+use Rattle.methods.proofs.Every.{every-fit}
 use Rattle.requests.specs.Request.{request}
 use Rattle.requests.proofs.Requests.{granted-allowed}
 use Rattle.planning.specs.Plan.{withCounts, planAnswer, planBuffer}
@@ -27,7 +28,7 @@ pub counted-few : (number : List ℕ) (method width : ℕ) → Below 256 number 
     → total (countsOf (stepsBy m (bytesValue number))) ≤ planSteps
 counted-few number method width b {m} e =
     let g = granted-allowed number method width e in
-    rw (← length-counted (stepsBy m (bytesValue number))) (every-fit m (bytesValue number) (g .1) (plannable number b (g .0 .admitted .short) (g .0 .nonzero)) .few)
+    rw (← length-counted (stepsBy m (bytesValue number))) (every-fit m (bytesValue number) (g .1) (plannable number b (g .0)) .few)
 
 module _ (steps : List Step) (c : Counts) (counted : c ≡ countsOf steps) where
   -- the counts tell how many steps there are, and how many bytes they need

@@ -8,7 +8,7 @@ use lib.ListN.{length}
 use Rattle.integers.specs.Positional.{bytesValue}
 use Rattle.signed_digits.specs.Naf.{canonical}
 use Rattle.recoding_digits.proofs.Triple.{digit-count}
-use Rattle.methods.proofs.Laws.{Small, number-small}
+use Rattle.methods.proofs.Laws.{Small, plannable, plannable-small}
 use Rattle.methods.proofs.NonAdjacentForm.{some-digits, top-digit, naf-counts}
 use Rattle.method_naf.proofs.Tally.{plus-digits, minus-digits, some-plus}
 use borrow.Author.Needs.{needs}
@@ -28,7 +28,7 @@ sub-t4 c =
     let number = c .before .before .before .before .args .number .now in
     let e : ℕ = bytesValue number in
     let ds : List ℤ = canonical (pos e) in
-    let small : Small (e + 1) = number-small number (λ i. c .before .before .before .shared-slice-known .given i .fits) (search needs) in
+    let small : Small (e + 1) = plannable-small (plannable number (λ i. c .before .before .before .shared-slice-known .given i .fits) (c .before .before .before .before .pre)) in
     omega (arith, c .before .before .tally-of .ensures .0, plus-digits e, some-plus ds (length ds - 1) (top-digit e (search needs) small))
 
 returns : tie.Need-returns
@@ -36,7 +36,7 @@ returns c =
     let number = c .before .before .before .before .args .number .now in
     let e : ℕ = bytesValue number in
     let ds : List ℤ = canonical (pos e) in
-    let small : Small (e + 1) = number-small number (λ i. c .before .before .before .shared-slice-known .given i .fits) (search needs) in
+    let small : Small (e + 1) = plannable-small (plannable number (λ i. c .before .before .before .shared-slice-known .given i .fits) (c .before .before .before .before .pre)) in
     let t = c .before .before .tally-of in
     let below : t .result .length - 2 ≡ length ds - 1 = omega (arith, t .ensures .2, digit-count e (search needs)) in
     rw (below, t .ensures .0, t .ensures .1, ← plus-digits e, ← minus-digits e) (sym (naf-counts e (search needs) small))

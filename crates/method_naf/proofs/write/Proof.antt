@@ -10,7 +10,7 @@ use Rattle.signed_digits.specs.Naf.{canonical}
 use Rattle.methods.specs.PartialPlan.{PartialPlan, none}
 use Rattle.methods.specs.DigitSteps.{atDigit}
 use Rattle.methods.specs.NonAdjacentForm.{nafSteps}
-use Rattle.methods.proofs.Laws.{Small, number-small}
+use Rattle.methods.proofs.Laws.{Small, plannable, plannable-small}
 use Rattle.methods.proofs.DigitSteps.{length-at-digit}
 use Rattle.methods.proofs.NonAdjacentForm.{some-digits, naf-down}
 use Rattle.plan_writing.proofs.Underway.{Underway, down, nothing-written, underway-next, underway-room, underway-end}
@@ -45,7 +45,7 @@ loop-holds c =
     let e : ℕ = bytesValue (args .number .now) in
     let n = c .recoded .ensures .count in
     let first = c .before .before .first in
-    let small : Small (e + 1) = number-small (args .number .now) (λ i. c .before .before .before .before .shared-slice-known .given i .fits) (search needs) in
+    let small : Small (e + 1) = plannable-small (plannable (args .number .now) (λ i. c .before .before .before .before .shared-slice-known .given i .fits) (c .before .before .before .before .before .pre .0)) in
     (record { building = none; writing = nothing-written (args .out .now) (first .result) (first .ensures .0) (first .ensures .1); rest = rw (n, naf-down e (search needs) small) }, omega (arith, n, some-digits e (search needs)), refl)
 
 sub-i-2 : tie.Need-sub-i-2 Inv-loop μ-loop

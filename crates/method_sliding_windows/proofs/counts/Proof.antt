@@ -13,7 +13,7 @@ use Rattle.method_sliding_windows.proofs.counts.Tie as tie
 number : (c : tie.After-bit-length) → InWords (c .before .before .before .before .args .number .now) (c .before .before .words-of .result) (c .bit-length .result - 1)
 number c =
     let entry = c .before .before .before .before in
-    in-words (entry .args .number .now) (c .before .before .words-of .result) (c .bit-length .result) (λ i. c .before .before .before .shared-slice-known .given i .fits) (entry .pre .0) (entry .pre .1 .0) (c .before .before .words-of .ensures) (c .bit-length .ensures)
+    in-words (entry .args .number .now) (c .before .before .words-of .result) (c .bit-length .result) (λ i. c .before .before .before .shared-slice-known .given i .fits) (entry .pre .0) (c .before .before .words-of .ensures) (c .bit-length .ensures)
 
 -- few steps are counted
 bound : (c : tie.After-later-windows) → (c .before .before .table-counts .result .doublings + c .before .before .before .start-of .result .below) + (c .before .before .table-counts .result .additions + c .later-windows .result) ≤ 2 ^ slidingWindowBits + 2 * (8 * numberBytes)

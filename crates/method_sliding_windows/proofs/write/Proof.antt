@@ -39,13 +39,13 @@ module _ (c : tie.After-bit-length Inv-loop μ-loop) where
   number : InWords (given) words (c .bit-length .result - 1)
   number =
       let entry = c .before .before .before .before .before in
-      in-words (given) words (c .bit-length .result) (λ i. c .before .before .before .before .shared-slice-known .given i .fits) (entry .pre .0) (entry .pre .1 .0) (c .before .before .words-of .ensures) (c .bit-length .ensures)
+      in-words (given) words (c .bit-length .result) (λ i. c .before .before .before .before .shared-slice-known .given i .fits) (entry .pre .0) (c .before .before .words-of .ensures) (c .bit-length .ensures)
 
   wide : 1 ≤ width
-  wide = c .before .before .before .before .before .pre .1 .1 .0 .0
+  wide = c .before .before .before .before .before .pre .1 .0 .0
 
   room : stepBytes * length (slidingWindowSteps (wordsValue words) (width)) ≤ length (lent)
-  room = rw (number .same) (c .before .before .before .before .before .pre .1 .1 .1)
+  room = rw (number .same) (c .before .before .before .before .before .pre .1 .1)
 
 -- what is written so far, as part of all steps
 sliding : (c : tie.At-loop Inv-loop μ-loop) →

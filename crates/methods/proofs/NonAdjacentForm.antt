@@ -1,20 +1,19 @@
 -- Method 4: its steps are sound and end at the number, how many there are, and their counts. Assumes nothing.
-use mathlib.Core.Path.{_≡_, refl, ap, _∙_}
+use mathlib.Core.Path.{_≡_, refl, ap}
 use mathlib.Core.Logic.{_≢_}
 use mathlib.Core.List.{List, []}
-use Prim.Native.Nat.{ℕ, zero, suc, _+_, _*_, _-_, _^_, _<_, _≤_}
+use Prim.Native.Nat.{ℕ, suc, _+_, _*_, _-_, _^_, _<_, _≤_}
 use native.Mathlib.Nat.{zero-add, pow-suc}
 use native.Mathlib.Numerals.{add-one}
 use native.Mathlib.Omega.{arith}
 use lib.IntN.{ℤ, pos, natAbs}
-use lib.ListN.{length, drop}
-use lib.Seq.{drop-drop}
-use Rattle.signed_digits.specs.Strings.{value, digitAt}
-use Rattle.signed_digits.specs.Naf.{lowDigit, rest, naf, canonical}
+use lib.ListN.{length}
+use Rattle.signed_digits.specs.Strings.{digitAt}
+use Rattle.signed_digits.specs.Naf.{canonical}
 use Rattle.signed_digits.proofs.Parts.{negativePart}
-use Rattle.signed_digits.proofs.Steps.{naf-zero, naf-step, rests, length-rests, Low, even, plus, minus, low, rest-less}
+use Rattle.signed_digits.proofs.Steps.{Low, even, plus, minus, low}
+use Rattle.signed_digits.proofs.Left.{rests, some-digits, rests-le, value-left, some-left, digit-left}
 use Rattle.signed_digits.proofs.Exists.{naf-value}
-use Rattle.signed_digits.proofs.Triple.{digit-left}
 use Rattle.signed_digits.proofs.Length.{length-at-most}
 use Rattle.rules.specs.Limits.{planSteps}
 use Rattle.chains.specs.Counts.{counts, countsOf}
@@ -29,39 +28,6 @@ use Rattle.methods.specs.Forecast.{plusDigits, minusDigits}
 use Rattle.methods.proofs.Laws.{Small, small-below, Made, Fit, Plannable, plannable-small}
 use Rattle.methods.proofs.OddMultiples.{tableValue, InTable}
 use Rattle.methods.proofs.DigitSteps.{Suited, top-above-zero, digits-made, digits-counts, digits-short}
-
-pub some-digits : (n : ℕ) → 0 < n → 0 < length (canonical (pos n))
-some-digits n h = rw (naf-step 2 n (omega arith) h) (omega arith)
-
--- ---- the digits of width w from place i on
-
-rest-none : (w : ℕ) → rest w 0 ≡ 0
-unfolding rest lowDigit
-rest-none w = refl
-
-module _ (w : ℕ) (wide : 2 ≤ w) where
-  -- what is left is no larger
-  rests-le : (i n : ℕ) → rests w i n ≤ n
-  unfolding rests
-  rests-le zero n = omega arith
-  rests-le (suc i) n = go (rests w i n) (rests-le i n)
-    where
-      go : (m : ℕ) → m ≤ n → rest w m ≤ n
-      go zero h = rw rest-none (omega arith)
-      go (suc m) h = omega (arith, rest-less w (suc m) wide (omega arith))
-
-  -- they are those of what is left
-  digits-left : (i n : ℕ) → drop i (naf w (pos n)) ≡ naf w (pos (rests w i n))
-  unfolding rests
-  digits-left zero n = refl
-  digits-left (suc i) n = rw (← add-one i, ← drop-drop 1 i (naf w (pos n)), digits-left i n) (go (rests w i n))
-    where
-      go : (m : ℕ) → drop 1 (naf w (pos m)) ≡ naf w (pos (rest w m))
-      go zero = rw (rest-none w, naf-zero w)
-      go (suc m) = rw (naf-step w (suc m) wide (omega arith))
-
-  value-left : (i n : ℕ) → value (drop i (naf w (pos n))) ≡ pos (rests w i n)
-  value-left i n = ap value (digits-left i n) ∙ naf-value w (pos (rests w i n)) wide
 
 -- ---- the canonical digits
 
@@ -92,21 +58,13 @@ module _ (e : ℕ) (some : 0 < e) (small : Small (e + 1)) where
 
   step : (i : ℕ) → Low (rests 2 i e) (rests 2 (suc i) e) (digitAt ds i)
   unfolding rests
-  step i = rw (digit-left i e) (low (rests 2 i e))
-
-  -- below the end of the string something is left
-  left : (i : ℕ) → i < length ds → 0 < rests 2 i e
-  left i h = go (rests 2 i e) (length-rests i e)
-    where
-      go : (m : ℕ) → length (canonical (pos m)) ≡ length ds - i → 0 < m
-      go zero z = absurd (omega (arith, ap length (naf-zero 2)))
-      go (suc m) z = omega arith
+  step i = rw (digit-left 2 (omega arith) i e) (low (rests 2 i e))
 
   suited : Suited 0 ds
   unfolding tableValue
   suited = record {
-    some = some-digits e some;
-    positive = λ i h. rw (value-left 2 (omega arith) i e) (left i h);
+    some = some-digits 2 (omega arith) e some;
+    positive = λ i h. rw (value-left 2 (omega arith) i e) (some-left 2 (omega arith) i e h);
     small = λ i h. rw (value-left 2 (omega arith) i e) (small-below _ (e + 1) (omega (arith, rests-le 2 (omega arith) i e, low-minus (step i))) small);
     entry = λ i h. low-entry (step i);
     table = small-below 1 (e + 1) (omega arith) small;
@@ -114,7 +72,7 @@ module _ (e : ℕ) (some : 0 < e) (small : Small (e + 1)) where
   }
 
   pub top-digit : digitAt (canonical (pos e)) (length (canonical (pos e)) - 1) ≡ pos 1
-  top-digit = low-top _ (step (length ds - 1)) (top-above-zero 0 ds suited) (suited .positive (length ds - 1) (omega (arith, some-digits e some)))
+  top-digit = low-top _ (step (length ds - 1)) (top-above-zero 0 ds suited) (suited .positive (length ds - 1) (omega (arith, some-digits 2 (omega arith) e some)))
 
   -- with no table, the steps begin at position 0
   pub naf-down : nafSteps e ≡ downFrom (λ i b. atDigit (digitAt (canonical (pos e)) i) b) (length (canonical (pos e)) - 1) none .steps

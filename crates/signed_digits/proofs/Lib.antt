@@ -8,5 +8,6 @@ pub mod Cons
 pub mod Fewest
 pub mod Places
 pub mod Steps
+pub mod Left
 pub mod Length
 pub mod Triple

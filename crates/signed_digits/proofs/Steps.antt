@@ -9,7 +9,6 @@ use native.Mathlib.Numerals.{sub-one}
 use native.Mathlib.Nat.{mod-le}
 use lib.Dec.{ltb, eqb}
 use lib.IntN.{ℤ, pos, negsuc, negℤ, negℤ-negℤ, natAbs, _-ℤ_}
-use lib.ListN.{length}
 use borrow.Author.Tests.{ltb-false, le-ltb, eqb-false}
 use Rattle.signed_digits.specs.Naf.{residue, lowDigit, rest, digitsOf, naf}
 
@@ -97,25 +96,6 @@ by-four P h n = go (n % 4) refl
     go (suc (suc zero)) e = let split : n ≡ 4 * (n / 4) + 2 = omega arith in rw split (h (n / 4) .2)
     go (suc (suc (suc zero))) e = let split : n ≡ 4 * (n / 4) + 3 = omega arith in rw split (h (n / 4) .3)
     go (suc (suc (suc (suc r)))) e = absurd (omega arith)
-
--- ---- what is left after some digits
-
-unfoldable pub rests : ℕ → ℕ → ℕ → ℕ
-rests w zero n = n
-rests w (suc i) n = rest w (rests w i n)
-
-pub rest-zero : rest 2 0 ≡ 0
-rest-zero = rest-2 0 .0
-
--- the digits from place i on are those of what is left there
-pub length-rests : (i n : ℕ) → length (naf 2 (pos (rests 2 i n))) ≡ length (naf 2 (pos n)) - i
-unfolding rests
-length-rests zero n = omega arith
-length-rests (suc i) n = go (rests 2 i n) (length-rests i n)
-  where
-    go : (m : ℕ) → length (naf 2 (pos m)) ≡ length (naf 2 (pos n)) - i → length (naf 2 (pos (rest 2 m))) ≡ length (naf 2 (pos n)) - suc i
-    go zero e = rw (rest-zero, naf-zero 2) (omega (arith, ap length (naf-zero 2)))
-    go (suc m) e = omega (arith, ap length (naf-step 2 (suc m) (omega arith) (omega arith)))
 
 -- twice what is left, and the digit, make the number
 pub data Low (n m : ℕ) : ℤ → Type 0 where

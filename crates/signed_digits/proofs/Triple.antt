@@ -9,27 +9,8 @@ use lib.IntN.{pos, _-ℤ_, +ℤ-invr}
 use Rattle.signed_digits.specs.Strings.{digitAt}
 use Rattle.signed_digits.specs.Naf.{lowDigit, rest, canonical}
 use Rattle.signed_digits.specs.Bytes.{digitByte}
-use Rattle.signed_digits.proofs.Steps.{naf-zero, naf-step, low-digit-2, rest-2, by-four, rests}
-
--- the digit at a place is the lowest digit of n, or a digit of what is left of n; also at 0, which has no digits
-lowest : (n : ℕ) → digitAt (canonical (pos n)) 0 ≡ lowDigit 2 n
-lowest zero = rw (naf-zero 2) (sym (low-digit-2 0 .0))
-lowest (suc n) = rw (naf-step 2 (suc n) (omega arith) (omega arith))
-
-higher : (n i : ℕ) → digitAt (canonical (pos n)) (suc i) ≡ digitAt (canonical (pos (rest 2 n))) i
-higher zero i = rw (naf-zero 2, rest-2 0 .0, naf-zero 2)
-higher (suc n) i = rw (naf-step 2 (suc n) (omega arith) (omega arith))
-
-rests-inner : (i n : ℕ) → rests 2 (suc i) n ≡ rests 2 i (rest 2 n)
-unfolding rests
-rests-inner zero n = refl
-rests-inner (suc i) n = ap (rest 2) (rests-inner i n)
-
--- the digit at a place is the lowest of what is left there
-pub digit-left : (i n : ℕ) → digitAt (canonical (pos n)) i ≡ lowDigit 2 (rests 2 i n)
-unfolding rests
-digit-left zero n = lowest n
-digit-left (suc i) n = higher n i ∙ digit-left i (rest 2 n) ∙ ap (lowDigit 2) (sym (rests-inner i n))
+use Rattle.signed_digits.proofs.Steps.{low-digit-2, rest-2, by-four}
+use Rattle.signed_digits.proofs.Left.{lowest, higher}
 
 -- Where i digits of e are taken off and n is left, write a for e / 2 ^ (i + 1): then n lies between 2 a and 2 a + 2, and n + a is 3 e / 2 ^ (i + 1).
 -- The lowest bits of n + a and a give the lowest digit of n; with the digit off, both are halved, and n lies so again.
@@ -50,10 +31,10 @@ shift : (n i : ℕ) → n / 2 ^ suc i ≡ n / 2 / 2 ^ i
 shift n i = ap (λ (k : ℕ). n / 2 ^ k) (omega arith) ∙ sym (shr-shr n 1 i)
 
 digit-difference : (i a n : ℕ) → 2 * a ≤ n → n ≤ 2 * a + 2 → digitAt (canonical (pos n)) i ≡ pos ((n + a) / 2 ^ i % 2) -ℤ pos (a / 2 ^ i % 2)
-digit-difference zero a n l m = rw (div-one (n + a), div-one a) (lowest n ∙ low-difference a n l m)
+digit-difference zero a n l m = rw (div-one (n + a), div-one a) (lowest 2 (omega arith) n ∙ low-difference a n l m)
 digit-difference (suc i) a n l m =
     let h = halved a n l m in
-    rw (shift (n + a) i, shift a i, ← h .0) (higher n i ∙ digit-difference i (a / 2) (rest 2 n) (h .1) (h .2))
+    rw (shift (n + a) i, shift a i, ← h .0) (higher 2 (omega arith) n i ∙ digit-difference i (a / 2) (rest 2 n) (h .1) (h .2))
 
 -- at first a = e / 2 and n = e
 pub digit-at : (e i : ℕ) → digitAt (canonical (pos e)) i ≡ pos (3 * e / 2 ^ (i + 1) % 2) -ℤ pos (e / 2 ^ (i + 1) % 2)

@@ -7,9 +7,10 @@ use lib.IntN.{ℤ, pos}
 use lib.ListN.{length}
 use Rattle.integers.specs.Positional.{bytesValue}
 use Rattle.signed_digits.specs.Naf.{canonical}
+use Rattle.signed_digits.proofs.Left.{some-digits}
 use Rattle.recoding_digits.proofs.Triple.{digit-count}
 use Rattle.methods.proofs.Laws.{Small, plannable, plannable-small}
-use Rattle.methods.proofs.NonAdjacentForm.{some-digits, top-digit, naf-counts}
+use Rattle.methods.proofs.NonAdjacentForm.{top-digit, naf-counts}
 use Rattle.method_naf.proofs.Tally.{plus-digits, minus-digits, some-plus}
 use borrow.Author.Needs.{needs}
 use Rattle.method_naf.proofs.counts.Statement.{statement}
@@ -21,7 +22,7 @@ tally-of-requires c κs = search needs
 sub-t3 : tie.Need-sub-t3
 sub-t3 c =
     let e : ℕ = bytesValue (c .before .before .before .args .number .now) in
-    omega (arith, c .before .tally-of .ensures .2, digit-count e (search needs), some-digits e (search needs))
+    omega (arith, c .before .tally-of .ensures .2, digit-count e (search needs), some-digits 2 (omega arith) e (search needs))
 
 sub-t4 : tie.Need-sub-t4
 sub-t4 c =

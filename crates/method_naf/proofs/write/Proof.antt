@@ -7,12 +7,13 @@ use lib.ListN.{length}
 use Rattle.integers.specs.Positional.{bytesValue}
 use Rattle.signed_digits.specs.Strings.{digitAt}
 use Rattle.signed_digits.specs.Naf.{canonical}
+use Rattle.signed_digits.proofs.Left.{some-digits}
 use Rattle.methods.specs.PartialPlan.{PartialPlan, none}
 use Rattle.methods.specs.DigitSteps.{atDigit}
 use Rattle.methods.specs.NonAdjacentForm.{nafSteps}
 use Rattle.methods.proofs.Laws.{Small, plannable, plannable-small}
 use Rattle.methods.proofs.DigitSteps.{length-at-digit}
-use Rattle.methods.proofs.NonAdjacentForm.{some-digits, naf-down}
+use Rattle.methods.proofs.NonAdjacentForm.{naf-down}
 use Rattle.plan_writing.proofs.Underway.{Underway, down, nothing-written, underway-next, underway-room, underway-end}
 use Rattle.method_naf.proofs.Digits.{step-more}
 use borrow.Author.Needs.{needs}
@@ -37,7 +38,7 @@ recoded-requires c κs = search needs
 
 sub-i : tie.Need-sub-i Inv-loop μ-loop
 sub-i c =
-    omega (arith, c .recoded .ensures .count, some-digits (bytesValue (c .before .before .before .before .before .args .number .now)) (search needs))
+    omega (arith, c .recoded .ensures .count, some-digits 2 (omega arith) (bytesValue (c .before .before .before .before .before .args .number .now)) (search needs))
 
 loop-holds : tie.Need-loop-holds Inv-loop μ-loop
 loop-holds c =
@@ -46,7 +47,7 @@ loop-holds c =
     let n = c .recoded .ensures .count in
     let first = c .before .before .first in
     let small : Small (e + 1) = plannable-small (plannable (args .number .now) (λ i. c .before .before .before .before .shared-slice-known .given i .fits) (c .before .before .before .before .before .pre .0)) in
-    (record { building = none; writing = nothing-written (args .out .now) (first .result) (first .ensures .0) (first .ensures .1); rest = rw (n, naf-down e (search needs) small) }, omega (arith, n, some-digits e (search needs)), refl)
+    (record { building = none; writing = nothing-written (args .out .now) (first .result) (first .ensures .0) (first .ensures .1); rest = rw (n, naf-down e (search needs) small) }, omega (arith, n, some-digits 2 (omega arith) e (search needs)), refl)
 
 sub-i-2 : tie.Need-sub-i-2 Inv-loop μ-loop
 sub-i-2 c = search needs

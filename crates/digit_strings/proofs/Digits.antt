@@ -11,7 +11,7 @@ use lib.IntN.{natAbs}
 use lib.Pow.{pow-pos, pow-mono}
 use Rattle.signed_digits.specs.Form.{OddDigit}
 use Rattle.signed_digits.specs.Bytes.{byteDigit}
-use Rattle.digit_strings.specs.Admission.{canonicalWidth, largestDigit, digitUpTo, isDigit}
+use Rattle.digit_strings.specs.Admission.{canonicalWidth, widthLimit, largestDigit, digitUpTo, isDigit}
 
 -- an odd digit of at most this size
 abbrev pub OddUpTo : ℕ → ℕ → Type 0
@@ -93,6 +93,6 @@ module _ (size b : ℕ) (m : size ≤ 127) (h : b < 256) where
           rw (lt-leb b size (omega arith))
           (by-size (suc (255 - b)) (rw (le-ltb b 128 (omega arith))) (omega arith) (λ e. omega arith, λ e. omega arith))
 
--- the bound on the sizes of a width that fits a byte
-pub bound-fits : (w : ℕ) → w ≤ 8 → (1 ≤ 2 ^ (w - 1)) × (2 ^ (w - 1) ≤ 128)
+-- the bound on the sizes of a width within the limit
+pub bound-fits : (w : ℕ) → w ≤ widthLimit → (1 ≤ 2 ^ (w - 1)) × (2 ^ (w - 1) ≤ 128)
 bound-fits w h = (pow-pos (w - 1), pow-mono {i = w - 1} {j = 7} (omega arith))

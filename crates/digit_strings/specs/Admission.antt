@@ -18,6 +18,10 @@ use Rattle.signed_digits.specs.Bytes.{byteDigit, stringOf}
 abbrev pub canonicalWidth : ℕ
 canonicalWidth = 2
 
+-- the largest width whose digits all have a byte: their sizes are below 2 ^ 7
+abbrev pub widthLimit : ℕ
+widthLimit = 8
+
 -- the largest digit of a width: sizes are below 2 ^ (w - 1)
 abbrev pub largestDigit : ℕ → ℕ
 largestDigit w = 2 ^ (w - 1) - 1

@@ -7,7 +7,7 @@ ghost use mathlib.Core.Path.{_≡_};
 ghost use mathlib.Core.Bool.{true};
 ghost use Prim.Native.Nat.{_+_, _≤_};
 ghost use lib.ListN.{length};
-ghost use Rattle.digit_strings.specs.Admission.{digitUpTo, firstFailing, stringVerdict};
+ghost use Rattle.digit_strings.specs.Admission.{widthLimit, digitUpTo, firstFailing, stringVerdict};
 ghost use Rattle.digit_strings.specs.Internal.{PassFor};
 
 // The width of the canonical string, whose digits are 0, 1 and -1.
@@ -71,7 +71,7 @@ fn first_bad(digits: &[u8], largest: u8) -> usize
 
 // Refusal 5, then 4, for digits of this width.
 pub fn string_verdict(digits: &[u8], width: usize) -> Verdict
-    requires { ⌜ (2 ≤ width) × (width ≤ 8) ⌝ }
+    requires { ⌜ (2 ≤ width) × (width ≤ widthLimit) ⌝ }
     ensures { λ r. ⌜ r ≡ stringVerdict width (now (digits .entry)) ⌝ }
 {
     if STRING_DIGITS < digits.len() {

@@ -27,7 +27,7 @@ ghost use Rattle.plan_writing.specs.Writing.{Writing};
 
 // The value of window i.
 fn window_at(number: &[u8], width: usize, i: usize) -> usize
-    requires { ⌜ width ≤ 8 ⌝ }
+    requires { ⌜ width ≤ fixedWindowBits ⌝ }
     requires { ⌜ width * i ≤ 8 * numberBytes ⌝ }
     ensures { λ r. ⌜ r ≡ window (bytesValue (now (number .entry))) width i ⌝ }
 {
@@ -68,7 +68,7 @@ fn additions_for(v: usize) -> usize
 
 // How many of the windows 0 to n - 1 are not zero.
 fn nonzero_windows(number: &[u8], width: usize, n: usize) -> usize
-    requires { ⌜ width ≤ 8 ⌝ }
+    requires { ⌜ width ≤ fixedWindowBits ⌝ }
     requires { ⌜ width * n ≤ 8 * numberBytes ⌝ }
     ensures { λ r. ⌜ (r ≡ nonzeroWindows (bytesValue (now (number .entry))) width n) × (r ≤ n) ⌝ }
 {
@@ -116,7 +116,7 @@ fn at_window(c: Cursor, out: &mut [u8], width: usize, value: usize) -> Cursor
 fn write_windows(number: &[u8], width: usize, top: usize, out: &mut [u8])
     requires { ⌜ top ≡ topWindow (bytesValue (now number)) width ⌝ }
     requires { ⌜ bytesValue (now number) ≢ 0 ⌝ }
-    requires { ⌜ (1 ≤ width) × (width ≤ 8) × (width * top ≤ 8 * numberBytes) ⌝ }
+    requires { ⌜ (1 ≤ width) × (width ≤ fixedWindowBits) × (width * top ≤ 8 * numberBytes) ⌝ }
     requires { ⌜ stepBytes * length (windowSteps (bytesValue (now number)) width) ≤ length (now out) ⌝ }
     ensures { λ _. ⌜ now (out .exit) ≡ planBytesOf (windowSteps (bytesValue (now (number .entry))) width) ++ drop (length (planBytesOf (windowSteps (bytesValue (now (number .entry))) width))) (now (out .entry)) ⌝ }
 {

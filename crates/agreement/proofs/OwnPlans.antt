@@ -45,7 +45,7 @@ module _ (number : List ℕ) (bytes : Below 256 number) (positive : Positive num
   plan-counts room h = plan-answers number method width room (countValues (countsOf steps)) .1 (m, positive, asked, h, refl)
 
   -- the plan read back is those steps
-  pub read-steps : stepsOf plan ≡ steps
+  read-steps : stepsOf plan ≡ steps
   read-steps = steps-of-plan steps (λ n h. let s = fit .made .sound .formed n h in record { first = omega (arith, s .first, few-steps); second = omega (arith, s .second, few-steps) })
 
   -- given work space enough, check accepts it with the same counts

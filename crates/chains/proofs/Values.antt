@@ -13,7 +13,7 @@ use Rattle.chains.specs.Sound.{stepAt}
 
 -- ---- from any values on
 
-pub length-extend : (values : List ℤ) (steps : List Step) → length (extend values steps) ≡ length values + length steps
+length-extend : (values : List ℤ) (steps : List Step) → length (extend values steps) ≡ length values + length steps
 unfolding extend
 length-extend values [] = sym (add-zero (length values))
 length-extend values (s ∷ steps) = length-extend (values ++ (stepValue values s ∷ [])) steps ∙ rw length-append (omega arith)
@@ -24,7 +24,7 @@ extend-append values [] ys = refl
 extend-append values (s ∷ xs) ys = extend-append (values ++ (stepValue values s ∷ [])) xs ys
 
 -- the values that were there stay
-pub extend-prefix : (values : List ℤ) (steps : List Step) → take (length values) (extend values steps) ≡ values
+extend-prefix : (values : List ℤ) (steps : List Step) → take (length values) (extend values steps) ≡ values
 unfolding extend
 extend-prefix values [] = take-length values
 extend-prefix values (s ∷ steps) =
@@ -49,7 +49,7 @@ pub length-after : (steps : List Step) (n : ℕ) → n ≤ length steps → leng
 length-after steps n h = length-take-le (suc n) (valuesOf steps) (omega (arith, length-values steps))
 
 -- the steps from n on take no part in them
-pub values-of-take : (steps : List Step) (n : ℕ) → n ≤ length steps → valuesOf (take n steps) ≡ valuesAfter steps n
+values-of-take : (steps : List Step) (n : ℕ) → n ≤ length steps → valuesOf (take n steps) ≡ valuesAfter steps n
 unfolding valuesOf
 values-of-take steps n h =
     let below : List ℤ = extend start (take n steps) in

@@ -22,7 +22,7 @@ module _ (values : ℕ → List ℕ) (w : ℕ) (string bytes : List ℕ) (room :
     six : {p : ℕ} → DigitString w string → room < length bytes → p ≡ length bytes → Given (refused 6 p)
     answer : {vs : List ℕ} → DigitString w string → length bytes ≤ room → vs ≡ values (length bytes) → Given (answered vs)
 
-  pub given-only : {o : Outcome} → Given o → outcome ≡ o
+  given-only : {o : Outcome} → Given o → outcome ≡ o
   given-only (five h) = writes-only values _ bytes room (stopped (string-only w string (too-long h)))
   given-only (four h l) = writes-only values _ bytes room (stopped (string-only w string (bad-digit h l)))
   given-only (six d h e) = rw e (writes-only values _ bytes room (no-room (string-only w string (digits d)) h))

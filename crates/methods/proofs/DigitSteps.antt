@@ -183,7 +183,7 @@ module _ (n : ℕ) (ds : List ℤ) (suited : Suited n ds) where
   unfolding digitSteps
   digits-counts = rw sub-zero at (all .counted)
 
-  pub digits-length : length (digitSteps n ds) ≡ n + (length ds - 1) + (plusDigits ds - 1) + minusDigits ds
+  digits-length : length (digitSteps n ds) ≡ n + (length ds - 1) + (plusDigits ds - 1) + minusDigits ds
   digits-length = omega (arith, length-counted (digitSteps n ds), ap total digits-counts, table-total n, ap total (no-subtractions n))
 
   -- at most two steps for each digit below the top

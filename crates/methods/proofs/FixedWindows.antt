@@ -200,7 +200,7 @@ module _ (e d : ℕ) where
       ∙ rw (multiples-counts (e - 1), windows-counts e d t (multiplied n (window e d t - 1)) (tableCounts n .doublings) (tableCounts n .additions) long (multiples-counts n ∙ no-subtractions n))
 
   -- Brauer's bound: the table, and for each lower window d doublings and at most one addition
-  pub fixed-brauer : length (fixedWindowSteps e d) ≤ 2 ^ d - 2 + (d + 1) * topWindow e d
+  fixed-brauer : length (fixedWindowSteps e d) ≤ 2 ^ d - 2 + (d + 1) * topWindow e d
   fixed-brauer =
       rw (length-counted (fixedWindowSteps e d), fixed-counts)
       (cond-cases (ltb e (2 ^ d)) _ _ (λ c. total c ≤ 2 ^ d - 2 + (d + 1) * topWindow e d)

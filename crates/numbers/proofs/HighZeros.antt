@@ -13,7 +13,7 @@ module _ (number : List ℕ) (n : ℕ) (long : Admitted (number ++ replicate n 0
   pub same-value : bytesValue (number ++ replicate n 0) ≡ bytesValue number
   same-value = positional-zeros 256 n number
 
-  pub without-admitted : Admitted number
+  without-admitted : Admitted number
   without-admitted = record { short = omega (arith, long .short, length-append number (replicate n 0)) }
 
   pub same-number-verdict : numberVerdict (number ++ replicate n 0) ≡ numberVerdict number

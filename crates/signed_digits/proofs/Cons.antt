@@ -31,7 +31,7 @@ module _ (w : ℕ) (wide : 2 ≤ w) where
       go (d ∷ ds) e = omega arith
 
   -- the form of d + 2 z has the digit d and then those of z; also where both are 0, and it has no digits
-  pub naf-cons : (d z : ℤ) → Shape w d (natAbs z) → (i : ℕ) → digitAt (naf w (d +ℤ pos 2 *ℤ z)) i ≡ digitAt (d ∷ naf w z) i
+  naf-cons : (d z : ℤ) → Shape w d (natAbs z) → (i : ℕ) → digitAt (naf w (d +ℤ pos 2 *ℤ z)) i ≡ digitAt (d ∷ naf w z) i
   naf-cons d z (even e) i = go (ℤ-discrete z (pos 0)) i
     where
       go : Dec (z ≡ pos 0) → (i : ℕ) → digitAt (naf w (d +ℤ pos 2 *ℤ z)) i ≡ digitAt (d ∷ naf w z) i

@@ -2,14 +2,14 @@
  * Lesmutka: plans for multiplying a curve point by a public number, and their check.
  *
  * Recoding of a number into its non-adjacent form (NAF), cleaning and reading back of signed digit
- * strings, planning of addition-subtraction chains by four methods, and the check of such a plan.
- * Every function of the library is proved: whatever bytes it is handed, it returns, it touches only
+ * strings, planning of addition-subtraction chains by several methods, and the check of such a plan.
+ * Every function of the library is proved (lesmutka_words, which stands in this header alone, is not): whatever bytes it is handed, it returns, it touches only
  * what it was lent, and its answer and every byte that it leaves are those of a written definition.
  * For a recoder the definition fixes the number that it stands for, not its words: two recoders that
  * stand for the same number may differ.
  *
  * Link with liblesmutka.a (x86-64), which `rt staticlib lesmutka` writes to target/staticlib/. It
- * has to be linked with memcpy and memset and needs nothing else. The header is C99 and C++98.
+ * needs only memcpy and memset. The header is C99 and C++11.
  *
  * Conventions
  *
@@ -31,7 +31,7 @@
  *              overlap any other argument. They need not be cleared before.
  *   State      Nothing is kept after a function has returned. No function allocates, and none uses
  *              memory of its own but below 2 KiB of stack, so all may be called from any number of
- *              threads, each with recoders and buffers to write of its own.
+ *              threads, provided that each has its own recoders and output buffers.
  *   Time       All numbers here are public. Nothing is promised about time.
  *
  * Refusals
@@ -42,7 +42,7 @@
  *    refusal                                 given when                                place
  *    1  LESMUTKA_NUMBER_TOO_LONG             number longer than LESMUTKA_NUMBER_BYTES  0
  *    2  LESMUTKA_NUMBER_IS_ZERO              number is zero (plan, forecast, check)    0
- *    3  LESMUTKA_METHOD_OR_WIDTH             method not 1 to 4, or width not allowed   0
+ *    3  LESMUTKA_METHOD_OR_WIDTH             no such method, or width not allowed      0
  *    4  LESMUTKA_NOT_A_DIGIT                 a digit byte other than 00, 01, FF        lowest such
  *    5  LESMUTKA_STRING_TOO_LONG             digit string longer than                  0
  *                                            LESMUTKA_STRING_DIGITS
@@ -108,15 +108,15 @@ enum {
     LESMUTKA_WRONG_END = 12
 };
 
-/* Methods, for a number e above zero. "Latest" is the position filled last, at first 0; "double" is
- * add(latest, latest). The width d is 0 for binary and NAF, 1 to LESMUTKA_FIXED_WINDOW_BITS for fixed
+/* Methods, for a number e above zero. "Latest" is the position filled last, at first 0; the methods by
+ * windows also set it once, after their table. "Double" is add(latest, latest). The width d is 0 for binary and NAF, 1 to LESMUTKA_FIXED_WINDOW_BITS for fixed
  * windows and 1 to LESMUTKA_SLIDING_WINDOW_BITS for sliding windows.
  *
  *   Binary            From the bit below the top bit down: double; if the bit is 1, add(latest, 0).
  *   Fixed windows     of d bits, cut from the low end. If e is below 2^d: add(i - 1, 0) for i = 1 to
  *                     e - 1, and no more. Otherwise the table first: add(i - 1, 0) for i = 1 to
  *                     2^d - 2, so that value v stands at position v - 1. Latest becomes the position
- *                     of the value of the top window. For each lower window: double d times; if its
+ *                     of the value of the top window, the one that holds the top bit. For each lower window: double d times; if its
  *                     value v is not 0, add(latest, v - 1).
  *   Sliding windows   of at most d bits. The table for d of 2 or more: add(0, 0), add(1, 0), then
  *                     add(i - 1, 1) for i = 3 to 2^(d - 1). Odd v above 1 stands at position
@@ -274,7 +274,7 @@ lesmutka_limits_t lesmutka_limits(void);
 
 /** A refusal in plain words.
  *
- *  Returns: a constant string; "not refused" for 0, "no such refusal" for a number above 12.
+ *  Returns: a constant string; "not refused" for 0, "no such refusal" for a number that is none.
  *  In:      refusal: the refusal of an answer.
  */
 static inline const char *lesmutka_words(size_t refusal) {
@@ -291,7 +291,7 @@ static inline const char *lesmutka_words(size_t refusal) {
         "this step has an unknown operation, or a position that is not below its own",
         "the value at this step is zero",
         "the value at this step has a size of 2^264 or more",
-        "the last value, at this step, is not the number",
+        "the last value, at this position, is not the number",
     };
     return refusal < sizeof words / sizeof words[0] ? words[refusal] : "no such refusal";
 }

@@ -18,7 +18,7 @@ pub record WellFormed (i : ℕ) (s : Step) : Type 0 where
   pub first : s .first < i
   pub second : s .second < i
 
--- a value that has a form as a point: not zero, which is the point at infinity, and of size below the bound
+-- a value that is representable: not zero, which is the point at infinity, and of size below the bound
 pub record Representable (z : ℤ) : Type 0 where
   pub nonzero : z ≢ pos 0
   pub small : natAbs z < valueBound

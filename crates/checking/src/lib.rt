@@ -59,7 +59,7 @@ pub fn check(number: &[u8], plan: &[u8], space: &mut [u8]) -> Counted
         counts = count_step(counts, step);
         n += 1;
     }
-    // Field by field: a copy of the whole is split into bytes, and then so is each turn's counting.
+    // Field by field: if the struct is copied whole, the compiler counts by parts of its words.
     if ends_at(number, space, steps) {
         return Counted::Steps(Counts {
             doublings: counts.doublings,

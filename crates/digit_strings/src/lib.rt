@@ -13,7 +13,7 @@ ghost use Rattle.digit_strings.specs.Internal.{PassFor};
 // The width of the canonical string, whose digits are 0, 1 and -1.
 pub const CANONICAL_WIDTH: usize = 2;
 
-// Whether a byte is 0, or an odd digit of at most the size of the largest. No branch goes by which.
+// Whether a byte is 0, or an odd digit of at most the size of the largest. Branch-free.
 // Up to the size 1 only 0 is even, so at width 2 the second test falls away.
 fn is_digit(byte: u8, largest: u8) -> bool
     requires { ⌜ largest ≤ 127 ⌝ }

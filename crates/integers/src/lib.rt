@@ -48,8 +48,7 @@ pub fn power_of_two(n: usize) -> u64
     1 << n
 }
 
-// The value of the `count` bits from a place on. They may cross from a byte into the next
-// one.
+// The value of the `count` bits from a place on, which may cross into the next byte.
 pub fn bits_at(number: &[u8], place: usize, count: usize) -> u64
     requires { ⌜ count ≤ 8 ⌝ }
     ensures { λ r. ⌜ r ≡ bytesValue (now (number .entry)) / 2 ^ place % 2 ^ count ⌝ }
@@ -108,7 +107,7 @@ pub fn whole_word_at(bytes: &[u8], from: usize) -> u64
     word_of(bytes, from, 8)
 }
 
-// The same, or the value of as many as there are. Eight become one load.
+// The value of the eight bytes from `from` on, or of those that there are. Eight are one load.
 fn word_at(bytes: &[u8], from: usize) -> u64
     ensures { λ r. ⌜ r ≡ bytesValue (take 8 (drop from (now (bytes .entry)))) ⌝ }
 {
@@ -122,7 +121,7 @@ fn word_at(bytes: &[u8], from: usize) -> u64
     word_of(bytes, from, count)
 }
 
-// The words of a number, of which bytes above the limit are left out.
+// The words of a number. Bytes above the limit are left out.
 pub fn words_of(number: &[u8]) -> [u64; NUMBER_WORDS]
     ensures { λ r. ⌜ wordsValue r ≡ bytesValue (take numberBytes (now (number .entry))) ⌝ }
 {

@@ -46,8 +46,9 @@ fn recoded(number: &[u8], digits: &mut [u8; MOST_DIGITS]) -> usize
     length_of(recode(number, digits))
 }
 
-// The counts of the steps for a number above zero: of the digits below the top, a 1, all, those that
-// are 1, and those that are -1. All digits are one fewer than 3 e has in binary.
+// The counts of the steps for a number above zero: a doubling for each digit below the top one, which
+// is 1, an addition for each of these that is 1, and a subtraction for each -1. The digits are one
+// fewer than the bits of 3 e.
 pub fn counts(number: &[u8]) -> Counts
     requires { ⌜ Positive (now number) ⌝ }
     ensures { λ r. ⌜ r ≡ countsOf (nafSteps (bytesValue (now (number .entry)))) ⌝ }
@@ -60,7 +61,7 @@ pub fn counts(number: &[u8]) -> Counts
     }
 }
 
-// 1 for -1, and 0 for the others: so also the operation that a digit takes. No branch waits for it.
+// 1 for -1, and 0 for the others: so also the operation that a digit takes.
 fn sign(digit: u8) -> u8
     ensures { λ r. ⌜ ((d : ℤ) → Digit digit d → r ≡ signOf d) ⌝ }
 {

@@ -27,7 +27,7 @@ ghost use Rattle.methods.specs.Forecast.{laterWindows};
 ghost use Rattle.plan_writing.specs.Writing.{Writing};
 ghost use Rattle.method_sliding_windows.specs.Scan.{firstIn, atSlidingWindow, Turn, tableSteps, startOf};
 
-// As many values have the bits of a widest window.
+// The number of values of a widest window.
 const WINDOW_VALUES: u64 = 1 << SLIDING_WINDOW_BITS;
 
 // Of the 64 bits that are read at once, those above the lowest such window.
@@ -66,7 +66,7 @@ fn window_in(bits: u64, width: usize) -> Window
     }
 }
 
-// As many zeros as are seen where no window is whole: of 64 bits, all but those of a window.
+// The zeros that are taken if no window is whole: of 64 bits, all but those of a window.
 fn zeros_above(place: usize) -> usize
     requires { ⌜ 1 ≤ place ⌝ }
     ensures { λ r. ⌜ (1 ≤ r) × (r ≤ place) × (r ≤ 64 - slidingWindowBits) ⌝ }

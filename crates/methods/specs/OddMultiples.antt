@@ -4,12 +4,10 @@ use mathlib.Core.Bool.{cond}
 use mathlib.Core.List.{List}
 use lib.Dec.{ltb, eqb}
 use Rattle.chains.specs.Steps.{Step}
-use Rattle.methods.specs.Tables.{tableBy}
+use Rattle.methods.specs.Tables.{tableBy, secondOf}
 
 abbrev pub oddSecond : ℕ → ℕ
-oddSecond zero = 0
-oddSecond (suc zero) = 0
-oddSecond (suc (suc i)) = 1
+oddSecond i = secondOf 1 i
 
 -- its first n steps
 abbrev pub oddTable : ℕ → List Step

@@ -6,10 +6,9 @@ ghost use mathlib.Core.Path.{_≡_};
 ghost use Prim.Native.Nat.{_*_, _≤_};
 ghost use lib.ListN.{length};
 ghost use Rattle.rules.specs.Limits.{stepBytes};
-ghost use Rattle.methods.specs.Tables.{tableBy, tableCounts};
+ghost use Rattle.methods.specs.Tables.{tableBy, tableCounts, secondOf};
 ghost use Rattle.methods.specs.OddMultiples.{oddPosition, tableLength};
 ghost use Rattle.plan_writing.specs.Writing.{Writing};
-ghost use Rattle.plan_writing.specs.Multiples.{secondOf};
 
 // The counts of the first n steps of a table.
 pub fn table_counts(n: usize) -> Counts

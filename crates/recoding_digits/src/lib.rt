@@ -30,7 +30,7 @@ fn carry_into(number: &[u8], n: usize) -> u64
     carry
 }
 
-// How many digits the canonical string has: one less than three times the number has in binary.
+// How many digits the canonical string has: one fewer than the bits of three times the number.
 pub fn count(number: &[u8]) -> usize
     requires { ⌜ Admitted (now number) ⌝ }
     ensures { λ r. ⌜ r ≡ length (canonical (pos (bytesValue (now (number .entry))))) ⌝ }

@@ -52,7 +52,7 @@ pub fn current() -> Limits
     }
 }
 
-// Why a call says no. A case holds its place, unless that is always 0.
+// Why a call refuses. A case holds its place, unless that is always 0.
 pub enum Refusal {
     // Number longer than the limit.
     NumberTooLong,
@@ -76,7 +76,7 @@ pub enum Refusal {
     ValueIsZero(usize),
     // The value at this step is too large.
     ValueTooLarge(usize),
-    // All steps sound, and the last value, at this step, is not the number.
+    // All steps sound, and the last value, at this position, is not the number.
     WrongEnd(usize),
 }
 

@@ -30,7 +30,7 @@ pub fn bits_down(words: &[u64], n: usize) -> u64
     (word_in(words, k) << (63 - n % 64)) + (word_under(words, k) >> (n % 64)) / 2
 }
 
-// Whether the words hold nothing: without a branch, since most numbers have no zero word.
+// Whether the words hold nothing. Without a branch, so that the loop can be unrolled.
 pub fn is_zero(words: &[u64]) -> bool
     ensures { λ r. ⌜ r ≡ eqb (wordsValue (now (words .entry))) 0 ⌝ }
 {

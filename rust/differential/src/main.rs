@@ -193,7 +193,8 @@ fn plan(cases: &mut Generator, rng: &mut Rng) -> Tally {
     tally
 }
 
-/// Every number that source document 004's tables sum up, 1 to 1,023, by every method and width.
+/// Every number that the tables of Bosma, "Signed bits and fast exponentiation", sum up, 1 to 1,023, by every method
+/// and width.
 fn small() -> impl Iterator<Item = (Vec<u8>, u32, u32)> {
     (1..1024usize).flat_map(|number| {
         let bytes = number.to_le_bytes()[..1 + usize::from(number > 255)].to_vec();

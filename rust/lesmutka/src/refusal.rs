@@ -1,8 +1,8 @@
-//! Why a call says no.
+//! Why a call refuses.
 use crate::{NUMBER_BYTES, PLAN_STEPS, STEP_BYTES, STRING_DIGITS, VALUE_BYTES};
 use core::fmt;
 
-/// Why a call says no. A case holds its place where it has one other than 0.
+/// Why a call refuses. A case holds its place if that can be other than 0.
 #[derive(Clone, Copy, Debug, PartialEq, Eq, Hash)]
 #[non_exhaustive]
 pub enum Refusal {
@@ -51,7 +51,7 @@ pub enum Refusal {
 }
 
 impl Refusal {
-    /// The number of the refusal, 1 to 12.
+    /// The number of the refusal (docs/RULES.md, 6.1).
     pub fn number(self) -> u8 {
         match self {
             Refusal::NumberTooLong => 1,
@@ -98,7 +98,7 @@ impl Refusal {
             10 => Refusal::ValueIsZero { step: place },
             11 => Refusal::ValueTooLarge { step: place },
             12 => Refusal::WrongEnd { step: place },
-            _ => unreachable!("the library gives no refusal above 12"),
+            _ => unreachable!("the library gives no other refusal"),
         })
     }
 
@@ -134,7 +134,7 @@ impl fmt::Display for Message {
             Refusal::ValueTooLarge { .. } => {
                 write!(f, "the value at this step has a size of 2^{} or more", 8 * VALUE_BYTES)
             }
-            Refusal::WrongEnd { .. } => f.write_str("the last value, at this step, is not the number"),
+            Refusal::WrongEnd { .. } => f.write_str("the last value, at this position, is not the number"),
         }
     }
 }

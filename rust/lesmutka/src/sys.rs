@@ -1,7 +1,7 @@
 //! The functions of include/lesmutka.h as they are linked, and each over slices and references,
 //! which keep the header's rule for pointers.
 //!
-//! [`crate`] has calls over all of them with answers in Rust's own habits.
+//! [`crate`] has calls over all of them with idiomatic Rust answers.
 
 /// What the start of taking answers.
 #[repr(C)]
@@ -90,8 +90,8 @@ extern "C" {
     pub fn lesmutka_limits() -> Limits;
 }
 
-// SAFETY of each call below: a slice's pointer stands for as many bytes as its length says, and
-// what is written to is lent alone.
+// SAFETY of each call below: a slice's pointer stands for as many bytes as its length says, a `&mut`
+// is not aliased, and a reference to a recoder is not null and is aligned.
 
 /// [`lesmutka_recode`] over slices.
 #[inline]

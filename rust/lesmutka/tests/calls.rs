@@ -1,4 +1,4 @@
-//! The cases of document 01 through the safe calls, and what the calls leave in memory.
+//! The cases of docs/RULES.md through the safe calls, and what the calls leave in memory.
 use lesmutka::*;
 
 fn digits_of(number: &[u8]) -> Vec<i8> {

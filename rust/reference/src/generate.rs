@@ -1,5 +1,5 @@
 //! Deterministic inputs for the calls, chosen so that each success and each
-//! refusal of document 01 comes up often. The same seed gives the same cases.
+//! refusal comes up often. The same seed gives the same cases.
 
 use crate::limits::*;
 use crate::refusal::WRONG_END;

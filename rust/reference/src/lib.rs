@@ -1,5 +1,5 @@
-//! Signed digit recoding and addition-subtraction chains, as laid down in
-//! document 01. No call allocates or panics.
+//! Signed digit recoding and addition-subtraction chains by the rules of
+//! docs/RULES.md. No call allocates or panics.
 
 #![forbid(unsafe_code)]
 

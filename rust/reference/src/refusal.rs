@@ -1,4 +1,4 @@
-//! Refusals by their numbers in the table of document 01.
+//! Refusals by their numbers (docs/RULES.md, 6.1).
 
 /// A refusal: its number, and its place.
 #[derive(Clone, Copy, PartialEq, Eq, Debug)]

@@ -1,4 +1,4 @@
-//! "Numbers to try by hand" of document 01, and the slips it names.
+//! Numbers to try by hand, and slips that are easy to make.
 
 use reference::limits::*;
 use reference::refusal::*;

@@ -1,6 +1,6 @@
 //! What the proved program `cases` is given and must write (crates/cases): both files are as
 //! `reference::cases` makes them, so the program answers as this crate does, and what they hold
-//! agrees with document 01 and with source document 004.
+//! agrees with the rules and with the tables of Bosma, "Signed bits and fast exponentiation".
 
 use reference::cases::{answers, requests, ONES, SMALL, UNANSWERED};
 use reference::limits::NUMBER_BITS;
@@ -95,7 +95,7 @@ fn requests_without_a_call() {
     assert_eq!(words(&section(UNANSWERED)), words(&all));
 }
 
-/// 2^k - 1 takes 2k - 2 steps by method 1 and k + 1 by method 4 (source document 004).
+/// 2^k - 1 takes 2k - 2 steps by method 1 and k + 1 by method 4 (docs/RULES.md, 5.10).
 #[test]
 fn one_below_a_power_of_two() {
     let stored = section(ONES);
@@ -108,7 +108,7 @@ fn one_below_a_power_of_two() {
 }
 
 /// Each plan has one doubling less than the digits and one other step less than the nonzero digits,
-/// so over all numbers below 2^10 source document 004's totals give the sums (propositions 7 and 8).
+/// so over all numbers below 2^10 Bosma's totals give the sums (propositions 7 and 8).
 #[test]
 fn published_totals() {
     let stored = section(SMALL);

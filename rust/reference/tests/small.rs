@@ -1,5 +1,5 @@
-//! Small numbers against plain integers and brute force, and the totals that
-//! source document 004 publishes.
+//! Small numbers against plain integers and brute force, and the totals
+//! that Bosma, "Signed bits and fast exponentiation", publishes.
 
 use reference::generate::methods;
 use reference::limits::*;
@@ -105,7 +105,7 @@ fn plans_end_at_the_number() {
     }
 }
 
-/// Propositions 4, 5, 7 and 8 of source document 004: the tables.
+/// Propositions 4, 5, 7 and 8 of Bosma, "Signed bits and fast exponentiation": the tables.
 #[test]
 fn published_totals() {
     // Numbers with a non-adjacent form of n digits, and their nonzero digits.

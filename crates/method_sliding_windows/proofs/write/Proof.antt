@@ -10,7 +10,6 @@ use Rattle.integers.proofs.Bits.{some-bits}
 use Rattle.methods.specs.PartialPlan.{PartialPlan}
 use Rattle.methods.specs.SlidingWindows.{slide, slidingWindowSteps}
 use Rattle.plan_writing.specs.Writing.{Writing}
-use Rattle.plan_writing.proofs.Multiples.{odd-multiples}
 use Rattle.method_sliding_windows.proofs.Scan.{InWords, in-words, Sliding, sliding-room, sliding-next, sliding-end, begun, sliding-all, table-room}
 use borrow.Author.Needs.{needs}
 use Rattle.method_sliding_windows.proofs.write.Statement.{statement}
@@ -54,7 +53,7 @@ sliding : (c : tie.At-loop Inv-loop μ-loop) →
 sliding c =
     let at = c .before .before .before .before .before .before in
     let start = c .before .before .before .before .before .start-of in
-    let table = rw (odd-multiples (start .result .table)) at (c .before .before .before .write-table .ensures) in
+    let table = c .before .before .before .write-table .ensures in
     sliding-all (wordsValue (words at)) (width at) (number at .some) (wide at) (start .result) (start .ensures) (lent at) (c .loop .out) (c .loop .c) (c .loop .i)
     (c .loop .inv .1 (lent at) (begun (start .result)) (record { steps = table .steps; latest = refl; bytes = table .bytes }))
 

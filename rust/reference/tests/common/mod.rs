@@ -214,7 +214,7 @@ fn bits_value(bits: &[bool]) -> usize {
     bits.iter().rev().fold(0, |value, &bit| 2 * value + usize::from(bit))
 }
 
-/// The steps of a plan, straight from the words of document 01.
+/// The steps of a plan, straight from the words of docs/RULES.md, "Methods".
 fn steps_of(e: &Big, method: u32, width: u32) -> Result<Vec<Step>, Refusal> {
     let allowed = match method {
         1 | 4 => width == 0,

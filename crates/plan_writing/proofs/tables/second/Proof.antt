@@ -2,7 +2,7 @@
 use mathlib.Core.Path.{_≡_, refl}
 use Prim.Native.Nat.{ℕ, zero, suc, _<_, _≤_}
 use native.Mathlib.Omega.{arith}
-use Rattle.plan_writing.specs.Multiples.{secondOf}
+use Rattle.methods.specs.Tables.{secondOf}
 use borrow.Author.Needs.{needs}
 use Rattle.plan_writing.proofs.tables.second.Statement.{statement}
 use Rattle.plan_writing.proofs.tables.second.Tie as tie

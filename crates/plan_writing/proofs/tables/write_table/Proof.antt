@@ -7,7 +7,7 @@ use lib.ListN.{length}
 use Rattle.methods.specs.Tables.{tableBy}
 use Rattle.methods.proofs.Tables.{tabled, table-next}
 use Rattle.plan_writing.specs.Writing.{Writing}
-use Rattle.plan_writing.specs.Multiples.{secondOf}
+use Rattle.methods.specs.Tables.{secondOf}
 use Rattle.plan_writing.proofs.Underway.{nothing-written}
 use borrow.Author.Needs.{needs}
 use Rattle.plan_writing.proofs.tables.write_table.Statement.{statement}

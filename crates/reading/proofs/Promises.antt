@@ -5,7 +5,8 @@ use mathlib.Core.List.{List, [], _∷_, _++_}
 use Prim.Native.Nat.{ℕ, zero, suc, _<_, _≤_}
 use native.Mathlib.Omega.{arith}
 use lib.IntN.{ℤ, pos, negsuc, negℤ, natAbs}
-use lib.ListN.{length, drop, replicate}
+use lib.ListN.{length, take, drop, replicate}
+use lib.Seq.{take-append-seam}
 use Rattle.rules.specs.Limits.{stringDigits}
 use Rattle.rules.specs.Outcome.{Outcome, refused, answered, outcomeOf}
 use Rattle.rules.specs.declared.Written.{Written}
@@ -89,7 +90,7 @@ pub record Gives (v : ℤ) (sign : ℕ) (bytes : List ℕ) : Type 0 where
   pub below : Below 256 bytes
   pub top : TopByte bytes
 
--- what read back answers and writes gives the value of the digit string back
+-- the sign and the size that read back is defined by give the value of the digit string back
 pub reads-value : (digits : List ℕ) → Gives (stringValue digits) (signOf (stringValue digits)) (sizeBytes digits)
 unfolding sizeBytes
 reads-value digits = go (stringValue digits)
@@ -99,6 +100,14 @@ reads-value digits = go (stringValue digits)
     go (negsuc n) =
         let e = bytes-value (suc n) in
         record { signed = inr (refl, ap (λ (m : ℕ). negℤ (pos m)) (sym e), omega (arith, e)); below = bytes-below (suc n); top = bytes-top (suc n) }
+
+-- so does what it answers and writes
+pub reads-back : (digits out : List ℕ) (sign n : ℕ) → outcome digits (length out) ≡ answered (sign ∷ n ∷ []) → Gives (stringValue digits) sign (take n (readBackBuffer digits out))
+reads-back digits out sign n e =
+    let a = answers digits (length out) (sign ∷ n ∷ []) .0 e .2 in
+    let s : sign ≡ signOf (stringValue digits) = cc in
+    let l : n ≡ length (sizeBytes digits) = cc in
+    rw (answered-leaves digits out (sign ∷ n ∷ []) e, s, l, take-append-seam (sizeBytes digits) (drop (length (sizeBytes digits)) out)) (reads-value digits)
 
 -- and no other sign and bytes do
 pub reads-only : (digits : List ℕ) (sign : ℕ) (bytes : List ℕ) → Gives (stringValue digits) sign bytes → (sign ≡ signOf (stringValue digits)) × (bytes ≡ sizeBytes digits)

@@ -5,17 +5,13 @@ use mathlib.Core.List.{List, [], _∷_, _++_}
 use Prim.Native.Nat.{ℕ, _+_, _<_, _≤_}
 use lib.ListN.{length, drop}
 use Rattle.rules.specs.Limits.{stringDigits}
-use Rattle.rules.specs.Outcome.{Outcome, refused, answered, writtenOutcome}
+use Rattle.rules.specs.Outcome.{Outcome, refused, answered, writtenOutcome, lengthValue}
 use Rattle.rules.proofs.Memory as memory
 use Rattle.digit_strings.specs.Admission.{canonicalWidth, stringVerdict, DigitString, LowestBad}
 use Rattle.digit_strings.proofs.Given as string
 use Rattle.cleaning_digits.proofs.Length.{canonical-length}
 use Rattle.cleaning.specs.Clean.{cleaning, cleanAnswer, cleanBuffer}
 use Rattle.cleaning.proofs.Outcomes.{length-cleaning}
-
--- what goes with the length: nothing
-abbrev values : ℕ → List ℕ
-values n = n ∷ []
 
 -- ---- each refusal is given exactly when the rules say, and no other
 
@@ -26,28 +22,28 @@ module _ (digits : List ℕ) (room : ℕ) where
 
   -- each outcome, with what it is given for
   abbrev pub Given : Outcome → Type 0
-  Given = string.Given values canonicalWidth digits (cleaning digits) room
+  Given = string.Given lengthValue canonicalWidth digits (cleaning digits) room
 
   -- every outcome is one of these
   pub no-other : Given outcome
-  no-other = string.no-other values canonicalWidth digits (cleaning digits) room
+  no-other = string.no-other lengthValue canonicalWidth digits (cleaning digits) room
 
   -- 5, place 0: the string is longer than the limit
   pub refuses-5 : outcome ≡ refused 5 0 ↔ stringDigits < length digits
-  refuses-5 = string.refuses-5 values canonicalWidth digits (cleaning digits) room
+  refuses-5 = string.refuses-5 lengthValue canonicalWidth digits (cleaning digits) room
 
   -- 4, place the lowest byte that is no digit
   pub refuses-4 : (p : ℕ) → outcome ≡ refused 4 p ↔ (length digits ≤ stringDigits) × LowestBad canonicalWidth digits p
-  refuses-4 = string.refuses-4 values canonicalWidth digits (cleaning digits) room
+  refuses-4 = string.refuses-4 lengthValue canonicalWidth digits (cleaning digits) room
 
   -- 6, place the bytes needed: the digits are more than the bytes lent
   pub refuses-6 : (p : ℕ) → outcome ≡ refused 6 p ↔ DigitString canonicalWidth digits × (room < length (cleaning digits)) × (p ≡ length (cleaning digits))
-  refuses-6 = string.refuses-6 values canonicalWidth digits (cleaning digits) room
+  refuses-6 = string.refuses-6 lengthValue canonicalWidth digits (cleaning digits) room
 
   -- otherwise the length is answered
   pub answers : (vs : List ℕ)
       → outcome ≡ answered vs ↔ DigitString canonicalWidth digits × (length (cleaning digits) ≤ room) × (vs ≡ length (cleaning digits) ∷ [])
-  answers = string.answers values canonicalWidth digits (cleaning digits) room
+  answers = string.answers lengthValue canonicalWidth digits (cleaning digits) room
 
 -- ---- the length
 
@@ -60,8 +56,8 @@ cleaning-length s given = rw (length-cleaning s) (canonical-length s given)
 module _ (digits out : List ℕ) where
   -- a refusal changes nothing
   pub refused-leaves : (n p : ℕ) → outcome digits (length out) ≡ refused n p → cleanBuffer digits out ≡ out
-  refused-leaves = memory.refused-leaves values (stringVerdict canonicalWidth digits) (cleaning digits) out
+  refused-leaves = memory.refused-leaves lengthValue (stringVerdict canonicalWidth digits) (cleaning digits) out
 
   -- on success only the answer's bytes change, and those above stay
   pub answered-leaves : (vs : List ℕ) → outcome digits (length out) ≡ answered vs → cleanBuffer digits out ≡ cleaning digits ++ drop (length (cleaning digits)) out
-  answered-leaves = memory.answered-leaves values (stringVerdict canonicalWidth digits) (cleaning digits) out
+  answered-leaves = memory.answered-leaves lengthValue (stringVerdict canonicalWidth digits) (cleaning digits) out

@@ -10,7 +10,7 @@ use lib.Pow.{pow-add}
 use Rattle.rules.specs.Limits.{numberBytes}
 use Rattle.rules.specs.declared.Refusal.{Refusal}
 use Rattle.rules.specs.declared.Verdict.the-variants.{Failed}
-use Rattle.rules.specs.Outcome.{Outcome, refused, answered, refusal, writtenOutcome}
+use Rattle.rules.specs.Outcome.{Outcome, refused, answered, refusal, writtenOutcome, lengthValue}
 use Rattle.rules.proofs.Memory as memory
 use Rattle.rules.proofs.Memory.{Writes, stopped, no-room, all-fits, writes-only, writes-one}
 use Rattle.integers.specs.Positional.{positional, bytesValue}
@@ -29,10 +29,6 @@ use Rattle.recoding.proofs.Outcomes.{length-recoding}
 
 -- ---- each refusal is given exactly when the rules say, and no other
 
--- the value that goes with the length: the length itself
-abbrev values : ℕ → List ℕ
-values n = n ∷ []
-
 module _ (number : List ℕ) (room : ℕ) where
   -- the outcome, in the rules' numbers
   abbrev pub outcome : Outcome
@@ -44,8 +40,8 @@ module _ (number : List ℕ) (room : ℕ) where
     six : {p : ℕ} → Admitted number → room < length (recoding number) → p ≡ length (recoding number) → Given (refused 6 p)
     fits : {vs : List ℕ} → Admitted number → length (recoding number) ≤ room → vs ≡ length (recoding number) ∷ [] → Given (answered vs)
 
-  only : {o : Outcome} → Writes values (numberVerdict number) (recoding number) room o → outcome ≡ o
-  only = writes-only values (numberVerdict number) (recoding number) room
+  only : {o : Outcome} → Writes lengthValue (numberVerdict number) (recoding number) room o → outcome ≡ o
+  only = writes-only lengthValue (numberVerdict number) (recoding number) room
 
   given-only : {o : Outcome} → Given o → outcome ≡ o
   given-only (one h) = only (stopped (number-only number (too-long h)))
@@ -57,9 +53,9 @@ module _ (number : List ℕ) (room : ℕ) where
 
   -- every outcome is one of these
   pub no-other : Given outcome
-  no-other = go (writes-one values (numberVerdict number) (recoding number) room)
+  no-other = go (writes-one lengthValue (numberVerdict number) (recoding number) room)
     where
-      go : {o : Outcome} → Writes values (numberVerdict number) (recoding number) room o → Given o
+      go : {o : Outcome} → Writes lengthValue (numberVerdict number) (recoding number) room o → Given o
       go (stopped t) = stops (rw t at (number-test number))
       go (no-room t h) = six (admitted-is number .0 t) h refl
       go (all-fits t h) = fits (admitted-is number .0 t) h refl
@@ -110,9 +106,9 @@ recoding-length number b =
 
 -- a refusal changes nothing
 pub refused-leaves : (number out : List ℕ) (n p : ℕ) → outcome number (length out) ≡ refused n p → recodeBuffer number out ≡ out
-refused-leaves number out = memory.refused-leaves values (numberVerdict number) (recoding number) out
+refused-leaves number out = memory.refused-leaves lengthValue (numberVerdict number) (recoding number) out
 
 -- on success the string stands at the start of the buffer, and the bytes above stay
 pub answered-leaves : (number out : List ℕ) (vs : List ℕ) → outcome number (length out) ≡ answered vs
     → recodeBuffer number out ≡ recoding number ++ drop (length (recoding number)) out
-answered-leaves number out = memory.answered-leaves values (numberVerdict number) (recoding number) out
+answered-leaves number out = memory.answered-leaves lengthValue (numberVerdict number) (recoding number) out

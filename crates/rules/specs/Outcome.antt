@@ -26,8 +26,11 @@ outcomeOf values (Length n) = answered (values n)
 outcomeOf values (Refused r) = refusal r
 
 -- the length alone
+abbrev pub lengthValue : ℕ → List ℕ
+lengthValue n = n ∷ []
+
 abbrev pub writtenOutcome : Written → Outcome
-writtenOutcome w = outcomeOf (λ n. n ∷ []) w
+writtenOutcome w = outcomeOf lengthValue w
 
 -- the three counts: doublings, additions, subtractions
 abbrev pub countValues : Counts → List ℕ

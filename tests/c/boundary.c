@@ -27,6 +27,13 @@ static void limits(void) {
     EXPECT(linked.value_bytes == LESMUTKA_VALUE_BYTES);
 }
 
+/* The widest windows are taken, and a bit more is refused. */
+static void widest(uint32_t method, uint32_t width) {
+    const uint8_t number[] = {43};
+    EXPECT(lesmutka_forecast(number, 1, method, width).refusal == 0);
+    EXPECT(lesmutka_forecast(number, 1, method, width + 1).refusal == LESMUTKA_METHOD_OR_WIDTH);
+}
+
 /* A pointer may be NULL where its length is 0. */
 static void empty_buffers(void) {
     const uint8_t one[] = {1};
@@ -166,6 +173,8 @@ static void words(void) {
 
 int main(void) {
     limits();
+    widest(LESMUTKA_FIXED_WINDOWS, LESMUTKA_FIXED_WINDOW_BITS);
+    widest(LESMUTKA_SLIDING_WINDOWS, LESMUTKA_SLIDING_WINDOW_BITS);
     empty_buffers();
     recoders();
     rooms();

@@ -25,7 +25,11 @@ pub fn put_words(out: &mut [u8], at: usize, refusal: Refusal) -> usize {
         Refusal::MalformedStep(_) => put_malformed_step(out, at),
         Refusal::ValueIsZero(_) => put(out, at, b"the value at this step is zero"),
         Refusal::ValueTooLarge(_) => put_value_too_large(out, at),
-        Refusal::WrongEnd(_) => put(out, at, b"the last value, at this position, is not the number"),
+        Refusal::WrongEnd(_) => put(
+            out,
+            at,
+            b"the last value, at this position, is not the number",
+        ),
     }
 }
 

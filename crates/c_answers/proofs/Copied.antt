@@ -25,11 +25,11 @@ carried-by true = refl
 carried-by false = refl
 
 -- the words copied and the last one set
-pub stored : (kept words : List ℕ) (carry : Bool) → length kept ≡ numberWords + 1 → length words ≡ numberWords →
+pub kept-stored : (kept words : List ℕ) (carry : Bool) → length kept ≡ numberWords + 1 → length words ≡ numberWords →
     take numberWords kept ≡ take numberWords words →
     keptNumber (set kept numberWords (boolByte carry)) ≡ wordsValue words + boolByte carry
 unfolding keptNumber
-stored kept words carry l m e =
+kept-stored kept words carry l m e =
     rw (
       take-set-le numberWords kept numberWords (boolByte carry) (omega arith),
       getD-set-same kept numberWords (boolByte carry) 0 (omega (arith, l)),

@@ -1,5 +1,5 @@
 -- A step and its bytes (docs/RULES.md, 3.3): an operation byte, then positions j and k, two bytes each, least significant first.
-use Prim.Native.Nat.{ℕ, zero, suc, _+_, _/_, _%_}
+use Prim.Native.Nat.{ℕ, zero, suc, _/_, _%_}
 use mathlib.Core.List.{List, [], _∷_, _++_}
 use lib.ListN.{length, getD, take, drop}
 use Rattle.rules.specs.Limits.{stepBytes}

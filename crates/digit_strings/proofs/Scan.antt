@@ -42,8 +42,8 @@ module _ (test : ℕ → Bool) (s : List ℕ) where
       omega (arith, e, rw f at l)
 
   -- this many more
-  pub joined : (n m : ℕ) → PassFor test s 0 n → PassFor test s n m → PassFor test s 0 (n + m)
-  joined n m e f =
+  pub pass-joined : (n m : ℕ) → PassFor test s 0 n → PassFor test s n m → PassFor test s 0 (n + m)
+  pass-joined n m e f =
       let g : 0 + n ≡ n = omega arith in
       let k : 0 + (n + m) ≡ n + m = omega arith in
       rw k (omega (arith, rw g at e, f))

@@ -14,7 +14,7 @@ use Rattle.numbers.specs.Admission.{Admitted}
 use Rattle.signed_digits.specs.Strings.{digitAt}
 use Rattle.signed_digits.specs.Naf.{canonical}
 use Rattle.signed_digits.specs.Bytes.{digitByte}
-use Rattle.signed_digits.proofs.Steps.{Low, even, plus as plus-one, minus as minus-one, low}
+use Rattle.signed_digits.proofs.Steps.{Low, even, plus as plus-one, minus as minus-one, low-digit}
 use Rattle.signed_digits.proofs.Left.{rests, digit-left}
 use Rattle.recoding.specs.Recode.{recoding, recodeAnswer, recodeBuffer}
 use Rattle.recoding.proofs.Outcomes.{length-recoding, length-answered}
@@ -30,7 +30,7 @@ step-more minus n = refl
 
 -- each canonical digit has its byte
 digit-byte : (e i : ℕ) → Digit (digitByte (digitAt (canonical (pos e)) i)) (digitAt (canonical (pos e)) i)
-digit-byte e i = rw (digit-left 2 (omega arith) i e) (go (low (rests 2 i e)))
+digit-byte e i = rw (digit-left 2 (omega arith) i e) (go (low-digit (rests 2 i e)))
   where
     go : {n m : ℕ} {d : ℤ} → Low n m d → Digit (digitByte d) d
     go (even q) = nought

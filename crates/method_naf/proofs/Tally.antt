@@ -12,7 +12,7 @@ use Rattle.integers.proofs.Bits.{bit-length-iff, length-from}
 use Rattle.signed_digits.specs.Strings.{digitAt}
 use Rattle.signed_digits.specs.Naf.{lowDigit, rest, canonical}
 use Rattle.signed_digits.proofs.Steps.{naf-zero, naf-step, low-digit-2, by-four, rest-less}
-use Rattle.signed_digits.proofs.Triple.{halved}
+use Rattle.signed_digits.proofs.Triple.{rest-halved}
 use Rattle.methods.specs.Forecast.{isPlus, isMinus, plusDigits, minusDigits}
 use Rattle.method_naf.specs.Tally.{onlyIn, lengthAbove, Tallied}
 use Rattle.method_naf.specs.declared.words.Tally.{Tally}
@@ -65,7 +65,7 @@ signs zero a n h l m =
 signs (suc f) a zero h l m = let z : a ≡ 0 = omega arith in rw (z, naf-zero 2) (refl, refl)
 signs (suc f) a (suc n) h l m =
     let d = low-signs a (suc n) l m in
-    let r = halved a (suc n) l m in
+    let r = rest-halved a (suc n) l m in
     let more = signs f (a / 2) (rest 2 (suc n)) (omega (arith, rest-less 2 (suc n) (omega arith) (omega arith))) (r .1) (r .2) in
     rw (naf-step 2 (suc n) (omega arith) (omega arith))
     (omega (arith, d .0, rw (r .0) at (more .0), only-in-step (suc n + a) a), omega (arith, d .1, rw (r .0) at (more .1), only-in-step a (suc n + a)))

@@ -147,9 +147,9 @@ module _ (e d : ℕ) (wide : 1 ≤ d) where
 -- ---- a loop that writes: what is written so far, and that the places below i will give the rest
 
 pub record Sliding (lent here : List ℕ) (c : Cursor) (e d i : ℕ) (all : List Step) : Type 0 where
-  pub building : PartialPlan
-  pub writing : Writing lent here c building
-  pub rest : slide e d i i building .steps ≡ all
+  pub partial : PartialPlan
+  pub writing : Writing lent here c partial
+  pub rest : slide e d i i partial .steps ≡ all
 
 module _ (lent here : List ℕ) (c : Cursor) (e d : ℕ) (all : List Step) where
   pub sliding-end : Sliding lent here c e d 0 all → here ≡ planBytesOf all ++ drop (length (planBytesOf all)) lent
@@ -157,16 +157,16 @@ module _ (lent here : List ℕ) (c : Cursor) (e d : ℕ) (all : List Step) where
   sliding-end u = u .writing .bytes ∙ rw (u .rest, length-plan all)
 
   module _ (wide : 1 ≤ d) (i : ℕ) (u : Sliding lent here c e d i all) (w : Window) (t : Turn e d i w) where
-    turn : slide e d (i - w .bits) (i - w .bits) (atSlidingWindow w (u .building)) .steps ≡ all
-    turn = rw (← t .steps (u .building)) (u .rest)
+    turn : slide e d (i - w .bits) (i - w .bits) (atSlidingWindow w (u .partial)) .steps ≡ all
+    turn = rw (← t .steps (u .partial)) (u .rest)
 
     -- the steps of the next turn are among all
     pub sliding-room : c .steps + w .bits + w .value % 2 ≤ length all
     sliding-room =
-        omega (arith, slide-grows e d wide (i - w .bits) (i - w .bits) (atSlidingWindow w (u .building)) (omega arith), ap length turn, length-at w (u .building), u .writing .steps)
+        omega (arith, slide-grows e d wide (i - w .bits) (i - w .bits) (atSlidingWindow w (u .partial)) (omega arith), ap length turn, length-at w (u .partial), u .writing .steps)
 
-    pub sliding-next : (next : List ℕ) (k : Cursor) → Writing lent next k (atSlidingWindow w (u .building)) → Sliding lent next k e d (i - w .bits) all
-    sliding-next next k v = record { building = atSlidingWindow w (u .building); writing = v; rest = turn }
+    pub sliding-next : (next : List ℕ) (k : Cursor) → Writing lent next k (atSlidingWindow w (u .partial)) → Sliding lent next k e d (i - w .bits) all
+    sliding-next next k v = record { partial = atSlidingWindow w (u .partial); writing = v; rest = turn }
 
 -- ---- where the scan starts
 

@@ -38,15 +38,15 @@ signs-le (pos (suc n) ∷ ds) = omega (arith, signs-le ds)
 signs-le (negsuc n ∷ ds) = omega (arith, signs-le ds)
 
 -- the value of the digits from place i on, where it is above zero
-abbrev pub from : List ℤ → ℕ → ℕ
-from ds i = positivePart (value (drop i ds))
+abbrev pub valueFrom : List ℤ → ℕ → ℕ
+valueFrom ds i = positivePart (value (drop i ds))
 
 -- A string whose steps can follow n steps of the table. Each value from a place on is above zero and small, and so is that from which a digit below
 -- zero is subtracted. The table has each digit that is not 0, and ends at a digit that is the whole string.
 pub record Suited (n : ℕ) (ds : List ℤ) : Type 0 where
   pub some : 0 < length ds
-  pub positive : (i : ℕ) → i < length ds → 0 < from ds i
-  pub small : (i : ℕ) → i < length ds → Small (from ds i + negativePart (digitAt ds i))
+  pub positive : (i : ℕ) → i < length ds → 0 < valueFrom ds i
+  pub small : (i : ℕ) → i < length ds → Small (valueFrom ds i + negativePart (digitAt ds i))
   pub entry : (i : ℕ) → i < length ds → digitAt ds i ≢ pos 0 → InTable n (natAbs (digitAt ds i))
   pub table : Small (tableValue n)
   pub single : length ds ≡ 1 → oddPosition (natAbs (digitAt ds 0)) ≡ n
@@ -65,26 +65,26 @@ module _ (n : ℕ) (ds : List ℤ) (suited : Suited n ds) where
   unfolding value
   from-down i h = ap value (drop-cons ds i (pos 0) h)
 
-  is-from : (i : ℕ) → i < length ds → value (drop i ds) ≡ pos (from ds i)
+  is-from : (i : ℕ) → i < length ds → value (drop i ds) ≡ pos (valueFrom ds i)
   is-from i h = is-positive (value (drop i ds)) (suited .positive i h)
 
-  down : (i : ℕ) → suc i < length ds → from ds i + negativePart (digitAt ds i) ≡ positivePart (digitAt ds i) + 2 * from ds (suc i)
+  down : (i : ℕ) → suc i < length ds → valueFrom ds i + negativePart (digitAt ds i) ≡ positivePart (digitAt ds i) + 2 * valueFrom ds (suc i)
   down i h =
-      let f : pos (from ds i) ≡ digitAt ds i +ℤ pos (2 * from ds (suc i)) = sym (is-from i (omega arith)) ∙ from-down i (omega arith) ∙ rw (is-from (suc i) h) in
-      omega (arith, sum-parts (digitAt ds i) (pos (2 * from ds (suc i))), ap positivePart f, ap negativePart f)
+      let f : pos (valueFrom ds i) ≡ digitAt ds i +ℤ pos (2 * valueFrom ds (suc i)) = sym (is-from i (omega arith)) ∙ from-down i (omega arith) ∙ rw (is-from (suc i) h) in
+      omega (arith, sum-parts (digitAt ds i) (pos (2 * valueFrom ds (suc i))), ap positivePart f, ap negativePart f)
 
   -- nothing stands above the top
   top-alone : drop top ds ≡ digitAt ds top ∷ []
   top-alone = let some = suited .some in drop-cons ds top (pos 0) (omega arith) ∙ rw (drop-of-length-le ds {i = suc top} (omega arith))
 
-  pub top-above-zero : digitAt ds top ≡ pos (from ds top)
+  pub top-above-zero : digitAt ds top ≡ pos (valueFrom ds top)
   unfolding value
   top-above-zero = let some = suited .some in sym (ap value top-alone ∙ +ℤ-idr (digitAt ds top)) ∙ is-from top (omega arith)
 
   -- Above place i: the latest holds the value of the digits from i on, and the table stands. Each digit below the top took a doubling, and one step
   -- more where it is not 0.
   record Above (i : ℕ) (b : PartialPlan) : Type 0 where
-    holds : Holds b (from ds i)
+    holds : Holds b (valueFrom ds i)
     stands : (v : ℕ) → InTable n v → Stands b (oddPosition v) v
     latest : (i ≡ top → top ≡ 0) → b .latest ≡ length (b .steps)
     some : 1 ≤ plusDigits (drop i ds)
@@ -95,7 +95,7 @@ module _ (n : ℕ) (ds : List ℤ) (suited : Suited n ds) where
   at-digit i d b l y a = go d y (rw y at (down i (omega arith))) (rw y at (drop-cons ds i (pos 0) (omega arith)))
     where
       v : ℕ
-      v = from ds (suc i)
+      v = valueFrom ds (suc i)
 
       twice : Step
       twice = add (b .latest) (b .latest)
@@ -103,7 +103,7 @@ module _ (n : ℕ) (ds : List ℤ) (suited : Suited n ds) where
       more : tableCounts n .doublings + (top - i) ≡ tableCounts n .doublings + (top - suc i) + 1
       more = omega arith
 
-      small : (w : ℕ) → w ≤ from ds i + negativePart (digitAt ds i) → Small w
+      small : (w : ℕ) → w ≤ valueFrom ds i + negativePart (digitAt ds i) → Small w
       small w h = small-below w _ h (suited .small i (omega arith))
 
       positive : 0 < v
@@ -112,9 +112,9 @@ module _ (n : ℕ) (ds : List ℤ) (suited : Suited n ds) where
       entry : (w : ℕ) → natAbs (digitAt ds i) ≡ w → 0 < w → InTable n w
       entry w e h = rw e at (suited .entry i (omega arith) (λ z. omega (arith, ap natAbs z)))
 
-      go : (d : ℤ) → digitAt ds i ≡ d → from ds i + negativePart d ≡ positivePart d + 2 * v → drop i ds ≡ d ∷ drop (suc i) ds → Above i (atDigit d b)
+      go : (d : ℤ) → digitAt ds i ≡ d → valueFrom ds i + negativePart d ≡ positivePart d + 2 * v → drop i ds ≡ d ∷ drop (suc i) ds → Above i (atDigit d b)
       go (pos zero) y q c =
-          let r : from ds i ≡ 2 * v = omega arith in
+          let r : valueFrom ds i ≡ 2 * v = omega arith in
           record {
             holds = rw r (double-holds b v (a .holds) positive (small (2 * v) (omega arith)));
             stands = λ w t. stands-followed b twice (oddPosition w) w (a .stands w t);
@@ -123,7 +123,7 @@ module _ (n : ℕ) (ds : List ℤ) (suited : Suited n ds) where
             counted = rw (more, c) (simp zero-add (counts-double b _ _ _ (a .counted)));
           }
       go (pos (suc k)) y q c =
-          let r : from ds i ≡ 2 * v + suc k = omega arith in
+          let r : valueFrom ds i ≡ 2 * v + suc k = omega arith in
           let t : InTable n (suc k) = entry (suc k) (ap natAbs y) (omega arith) in
           let p : ℕ = oddPosition (suc k) in
           let one : 1 + plusDigits (drop (suc i) ds) - 1 ≡ plusDigits (drop (suc i) ds) - 1 + 1 = omega (arith, a .some) in
@@ -137,7 +137,7 @@ module _ (n : ℕ) (ds : List ℤ) (suited : Suited n ds) where
                 (simp zero-add (counts-add (double b) _ _ _ (counts-double b _ _ _ (a .counted)) p (not-before b twice p (a .stands (suc k) t .filled))));
           }
       go (negsuc k) y q c =
-          let r : from ds i ≡ 2 * v - suc k = omega arith in
+          let r : valueFrom ds i ≡ 2 * v - suc k = omega arith in
           let t : InTable n (suc k) = entry (suc k) (ap natAbs y) (omega arith) in
           let p : ℕ = oddPosition (suc k) in
           let one : 1 + minusDigits (drop (suc i) ds) ≡ minusDigits (drop (suc i) ds) + 1 = omega arith in
@@ -151,7 +151,7 @@ module _ (n : ℕ) (ds : List ℤ) (suited : Suited n ds) where
 
   top-signs : (plusDigits (drop top ds) ≡ 1) × (minusDigits (drop top ds) ≡ 0)
   unfolding plusDigits minusDigits
-  top-signs = rw (top-alone, top-above-zero) (go (from ds top) (suited .positive top (omega (arith, suited .some))))
+  top-signs = rw (top-alone, top-above-zero) (go (valueFrom ds top) (suited .positive top (omega (arith, suited .some))))
     where
       go : (m : ℕ) → 0 < m → (plusDigits (pos m ∷ []) ≡ 1) × (minusDigits (pos m ∷ []) ≡ 0)
       go zero h = absurd (omega arith)
@@ -160,7 +160,7 @@ module _ (n : ℕ) (ds : List ℤ) (suited : Suited n ds) where
   at-top : Above top (atTop n ds)
   at-top =
       let some = suited .some in
-      let d : natAbs (digitAt ds top) ≡ from ds top = ap natAbs top-above-zero in
+      let d : natAbs (digitAt ds top) ≡ valueFrom ds top = ap natAbs top-above-zero in
       let positive = suited .positive top (omega arith) in
       let holds : (v : ℕ) → InTable n v → Holds (tabled oddSecond n (oddPosition v)) v = λ v t. entry-holds n v (suited .table) t in
       record {

@@ -30,6 +30,6 @@ unfolding binarySteps downFrom followed bit bitLength lengthUpTo planBytesOf ste
 plan-for-3 = refl
 
 -- the corners: numbers below 2 ^ d, even and odd; width 1; a number of 255 bits; digits beyond 1, with a table
-pub ends : (endOf (fixedWindowSteps 6 3) ≡ pos 6) × (endOf (slidingWindowSteps 5 3) ≡ pos 5) × (endOf (slidingWindowSteps 6 3) ≡ pos 6) × (endOf (fixedWindowSteps 77 1) ≡ pos 77) × (endOf (slidingWindowSteps 77 1) ≡ pos 77) × (endOf (fixedWindowSteps (2 ^ 255 - 19) fixedWindowBits) ≡ pos (2 ^ 255 - 19)) × (endOf (slidingWindowSteps (2 ^ 255 - 19) 5) ≡ pos (2 ^ 255 - 19)) × (endOf (digitSteps 2 (naf 3 (pos 43))) ≡ pos 43)
+pub corner-ends : (endOf (fixedWindowSteps 6 3) ≡ pos 6) × (endOf (slidingWindowSteps 5 3) ≡ pos 5) × (endOf (slidingWindowSteps 6 3) ≡ pos 6) × (endOf (fixedWindowSteps 77 1) ≡ pos 77) × (endOf (slidingWindowSteps 77 1) ≡ pos 77) × (endOf (fixedWindowSteps (2 ^ 255 - 19) fixedWindowBits) ≡ pos (2 ^ 255 - 19)) × (endOf (slidingWindowSteps (2 ^ 255 - 19) 5) ≡ pos (2 ^ 255 - 19)) × (endOf (digitSteps 2 (naf 3 (pos 43))) ≡ pos 43)
 unfolding binarySteps fixedWindowSteps slidingWindowSteps nafSteps windowSteps tableBy longest slide digitSteps followed doubled downFrom lengthUpTo bitLength bit residue lowDigit rest digitsOf naf valuesOf extend stepValue
-ends = (refl, refl, refl, refl, refl, refl, refl, refl)
+corner-ends = (refl, refl, refl, refl, refl, refl, refl, refl)

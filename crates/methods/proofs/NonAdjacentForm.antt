@@ -11,7 +11,7 @@ use lib.ListN.{length}
 use Rattle.signed_digits.specs.Strings.{digitAt}
 use Rattle.signed_digits.specs.Naf.{canonical}
 use Rattle.signed_digits.proofs.Parts.{negativePart}
-use Rattle.signed_digits.proofs.Steps.{Low, even, plus, minus, low}
+use Rattle.signed_digits.proofs.Steps.{Low, even, plus, minus, low-digit}
 use Rattle.signed_digits.proofs.Left.{rests, some-digits, rests-le, value-left, some-left, digit-left}
 use Rattle.signed_digits.proofs.Exists.{naf-value}
 use Rattle.signed_digits.proofs.Length.{length-at-most}
@@ -58,7 +58,7 @@ module _ (e : ℕ) (some : 0 < e) (small : Small (e + 1)) where
 
   step : (i : ℕ) → Low (rests 2 i e) (rests 2 (suc i) e) (digitAt ds i)
   unfolding rests
-  step i = rw (digit-left 2 (omega arith) i e) (low (rests 2 i e))
+  step i = rw (digit-left 2 (omega arith) i e) (low-digit (rests 2 i e))
 
   suited : Suited 0 ds
   unfolding tableValue

@@ -12,9 +12,9 @@ use Rattle.plan_writing.specs.declared.Cursor.{Cursor}
 use Rattle.plan_writing.specs.Writing.{Writing}
 
 pub record Underway (lent here : List ℕ) (c : Cursor) (f : ℕ → PartialPlan → PartialPlan) (i : ℕ) (all : List Step) : Type 0 where
-  pub building : PartialPlan
-  pub writing : Writing lent here c building
-  pub rest : downFrom f i building .steps ≡ all
+  pub partial : PartialPlan
+  pub writing : Writing lent here c partial
+  pub rest : downFrom f i partial .steps ≡ all
 
 -- nothing is written yet
 pub nothing-written : (lent : List ℕ) (c : Cursor) → c .steps ≡ 0 → c .latest ≡ 0 → Writing lent lent c none
@@ -22,19 +22,19 @@ unfolding planBytesOf
 nothing-written lent c s l = record { steps = s; latest = l; bytes = refl }
 
 module _ (lent here : List ℕ) (c : Cursor) (f : ℕ → PartialPlan → PartialPlan) (all : List Step) where
-  -- above place i stands i - 1
-  pub down : (i : ℕ) → 0 < i → Underway lent here c f i all → Underway lent here c f (suc (i - 1)) all
-  down i h u = let e : suc (i - 1) ≡ i = omega arith in rw e u
+  -- place i above zero is the one above i - 1
+  pub down-one : (i : ℕ) → 0 < i → Underway lent here c f i all → Underway lent here c f (suc (i - 1)) all
+  down-one i h u = let e : suc (i - 1) ≡ i = omega arith in rw e u
 
   -- one place down
-  pub underway-next : (next : List ℕ) (d : Cursor) (i : ℕ) → (u : Underway lent here c f (suc i) all) → Writing lent next d (f i (u .building)) → Underway lent next d f i all
+  pub underway-next : (next : List ℕ) (d : Cursor) (i : ℕ) → (u : Underway lent here c f (suc i) all) → Writing lent next d (f i (u .partial)) → Underway lent next d f i all
   unfolding downFrom
-  underway-next next d i u w = record { building = f i (u .building); writing = w; rest = u .rest }
+  underway-next next d i u w = record { partial = f i (u .partial); writing = w; rest = u .rest }
 
   -- the steps of the next place are among all
-  pub underway-room : (i : ℕ) → ((i : ℕ) (b : PartialPlan) → length (b .steps) ≤ length (f i b .steps)) → (u : Underway lent here c f (suc i) all) → length (f i (u .building) .steps) ≤ length all
+  pub underway-room : (i : ℕ) → ((i : ℕ) (b : PartialPlan) → length (b .steps) ≤ length (f i b .steps)) → (u : Underway lent here c f (suc i) all) → length (f i (u .partial) .steps) ≤ length all
   unfolding downFrom
-  underway-room i more u = omega (arith, down-grows f i (f i (u .building)) more, ap length (u .rest))
+  underway-room i more u = omega (arith, down-grows f i (f i (u .partial)) more, ap length (u .rest))
 
   -- all is written
   pub underway-end : Underway lent here c f 0 all → here ≡ planBytesOf all ++ drop (length (planBytesOf all)) lent

@@ -50,6 +50,6 @@ module _ (number : List ℕ) (method width : ℕ) (out : List ℕ) {m : Method} 
       → (Refused (RoomTooSmall (stepBytes * total c)) ≡ planAnswer number method width (length out)) × (out ≡ planBuffer number method width out)
   no-room l = rw granted (returns-refused (withCounts (countsOf steps)) (planBytesOf steps) out refl (needed steps c counted) l)
 
-  pub done : stepBytes * total c ≤ length out → {after : List ℕ} → after ≡ planBytesOf steps ++ drop (length (planBytesOf steps)) out
+  pub plan-written : stepBytes * total c ≤ length out → {after : List ℕ} → after ≡ planBytesOf steps ++ drop (length (planBytesOf steps)) out
       → (Steps c ≡ planAnswer number method width (length out)) × (after ≡ planBuffer number method width out)
-  done l e = rw (granted, ← counted) (returns-written (withCounts c) (planBytesOf steps) out refl (needed steps c counted) l (rw (needed steps c counted) e))
+  plan-written l e = rw (granted, ← counted) (returns-written (withCounts c) (planBytesOf steps) out refl (needed steps c counted) l (rw (needed steps c counted) e))

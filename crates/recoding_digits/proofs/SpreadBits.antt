@@ -142,5 +142,5 @@ module _ (more less : ℕ) where
   small j = omega arith
 
   -- what is stored at j
-  pub stored : (j : ℕ) → j < 8 → bytesValue (tabulate (difference more less) 8) / 2 ^ (8 * j) % 256 ≡ difference more less j
-  stored j l = rw (← power-of-bytes j, ← positional-at 256 (tabulate (difference more less) 8) j (bytes-below (difference more less) 8 small)) (getD-tabulate (difference more less) 8 j l)
+  pub difference-stored : (j : ℕ) → j < 8 → bytesValue (tabulate (difference more less) 8) / 2 ^ (8 * j) % 256 ≡ difference more less j
+  difference-stored j l = rw (← power-of-bytes j, ← positional-at 256 (tabulate (difference more less) 8) j (bytes-below (difference more less) 8 small)) (getD-tabulate (difference more less) 8 j l)

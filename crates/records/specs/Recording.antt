@@ -1,7 +1,7 @@
 -- A work space in use (docs/RULES.md, "Memory").
 use mathlib.Core.Path.{_≡_}
 use mathlib.Core.List.{List, _++_}
-use Prim.Native.Nat.{ℕ, _+_, _*_, _<_}
+use Prim.Native.Nat.{ℕ, _*_, _<_}
 use lib.IntN.{ℤ, natAbs}
 use lib.ListN.{length, drop}
 use Rattle.rules.specs.Limits.{valueBound, recordBytes}

@@ -103,8 +103,8 @@ pub data Low (n m : ℕ) : ℤ → Type 0 where
   plus : n ≡ 2 * m + 1 → Low n m (pos 1)
   minus : n + 1 ≡ 2 * m → Low n m (negsuc 0)
 
-pub low : (n : ℕ) → Low n (rest 2 n) (lowDigit 2 n)
-low = by-four _ (λ q.
+pub low-digit : (n : ℕ) → Low n (rest 2 n) (lowDigit 2 n)
+low-digit = by-four _ (λ q.
     let d = low-digit-2 q in
     let r = rest-2 q in
     (rw (d .0, r .0) (even (omega arith)), rw (d .1, r .1) (plus (omega arith)), rw (d .2, r .2) (even (omega arith)), rw (d .3, r .3) (minus (omega arith))))

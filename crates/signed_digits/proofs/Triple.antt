@@ -23,8 +23,8 @@ low-difference a = by-four _ (λ q.
       λ l m. let sum : (4 * q + 3 + a) % 2 ≡ 0 = omega arith in let odd : a % 2 ≡ 1 = omega arith in rw (d .3, sum, odd),
     ))
 
-pub halved : (a n : ℕ) → 2 * a ≤ n → n ≤ 2 * a + 2 → (rest 2 n + a / 2 ≡ (n + a) / 2) × (2 * (a / 2) ≤ rest 2 n) × (rest 2 n ≤ 2 * (a / 2) + 2)
-halved a = by-four _ (λ q. omega (arith, rest-2 q))
+pub rest-halved : (a n : ℕ) → 2 * a ≤ n → n ≤ 2 * a + 2 → (rest 2 n + a / 2 ≡ (n + a) / 2) × (2 * (a / 2) ≤ rest 2 n) × (rest 2 n ≤ 2 * (a / 2) + 2)
+rest-halved a = by-four _ (λ q. omega (arith, rest-2 q))
 
 -- the bits of n, from the second on, are those of n / 2
 shift : (n i : ℕ) → n / 2 ^ suc i ≡ n / 2 / 2 ^ i
@@ -33,7 +33,7 @@ shift n i = ap (λ (k : ℕ). n / 2 ^ k) (omega arith) ∙ sym (shr-shr n 1 i)
 digit-difference : (i a n : ℕ) → 2 * a ≤ n → n ≤ 2 * a + 2 → digitAt (canonical (pos n)) i ≡ pos ((n + a) / 2 ^ i % 2) -ℤ pos (a / 2 ^ i % 2)
 digit-difference zero a n l m = rw (div-one (n + a), div-one a) (lowest 2 (omega arith) n ∙ low-difference a n l m)
 digit-difference (suc i) a n l m =
-    let h = halved a n l m in
+    let h = rest-halved a n l m in
     rw (shift (n + a) i, shift a i, ← h .0) (higher 2 (omega arith) n i ∙ digit-difference i (a / 2) (rest 2 n) (h .1) (h .2))
 
 -- at first a = e / 2 and n = e

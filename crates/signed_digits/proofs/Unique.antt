@@ -16,11 +16,11 @@ use Rattle.signed_digits.proofs.Spaced.{Spaced, empty, blank, digit, sp
 use Rattle.signed_digits.proofs.Exists.{naf-value, naf-form}
 
 -- only the empty string is worth 0
-worth-zero : {w g : ℕ} {ds : List ℤ} → Spaced w g ds → SameSums ds [] → ds ≡ []
+value-zero : {w g : ℕ} {ds : List ℤ} → Spaced w g ds → SameSums ds [] → ds ≡ []
 unfolding positiveSum negativeSum
-worth-zero empty h = refl
-worth-zero (blank e l s) h = absurd (omega (arith, ap length (worth-zero s (omega (arith, zero-parts)))))
-worth-zero (digit {d = d} e o s) h = absurd (omega (arith, size-parts d))
+value-zero empty h = refl
+value-zero (blank e l s) h = absurd (omega (arith, ap length (value-zero s (omega (arith, zero-parts)))))
+value-zero (digit {d = d} e o s) h = absurd (omega (arith, size-parts d))
 
 -- after g zeros both sums are multiples of 2 ^ g
 multiples : (w g : ℕ) (ds : List ℤ) → Spaced w g ds → Multiple g (positiveSum ds) × Multiple g (negativeSum ds)
@@ -54,10 +54,10 @@ same-digit w a b xs ys oa ob sa sb h =
 same-string : {w g : ℕ} {xs ys : List ℤ} → Spaced w g xs → Spaced w g ys → SameSums xs ys → xs ≡ ys
 unfolding positiveSum negativeSum
 same-string empty empty h = refl
-same-string empty (blank e l s) h = sym (worth-zero (blank e l s) (omega arith))
-same-string empty (digit e o s) h = sym (worth-zero (digit e o s) (omega arith))
-same-string (blank e l s) empty h = worth-zero (blank e l s) h
-same-string (digit e o s) empty h = worth-zero (digit e o s) h
+same-string empty (blank e l s) h = sym (value-zero (blank e l s) (omega arith))
+same-string empty (digit e o s) h = sym (value-zero (digit e o s) (omega arith))
+same-string (blank e l s) empty h = value-zero (blank e l s) h
+same-string (digit e o s) empty h = value-zero (digit e o s) h
 same-string (blank e l s) (blank e′ l′ s′) h = cc (same-string s s′ (omega (arith, zero-parts)))
 same-string (blank e l s) (digit {d = b} e′ o s′) h = absurd (omega (arith, zero-parts, size-parts b))
 same-string (digit {d = a} e o s) (blank e′ l s′) h = absurd (omega (arith, zero-parts, size-parts a))

@@ -34,10 +34,10 @@ pub record Gives (s : Step) (n : ℕ) (here : List ℕ) (z : ℤ) : Type 0 where
   pub value : (lent : List ℕ) (values : List ℤ) → length values ≡ n + 1 → Recording lent here values → z ≡ stepValue values s
 
 -- the two values that it names, combined
-pub gives : (s : Step) (n : ℕ) (here : List ℕ) (x y z : ℤ) → WellFormed (n + 1) s → Loaded here (s .first) x → Loaded here (s .second) y
+pub combined-gives : (s : Step) (n : ℕ) (here : List ℕ) (x y z : ℤ) → WellFormed (n + 1) s → Loaded here (s .first) x → Loaded here (s .second) y
     → z ≡ cond (not (eqb (s .operation) adding)) (x -ℤ y) (x +ℤ y) → Gives s n here z
 unfolding stepValue
-gives s n here x y z formed first second e = record {
+combined-gives s n here x y z formed first second e = record {
   formed = formed;
   value = λ lent values long w.
       let j : s .first < length values = rw long (formed .first) in

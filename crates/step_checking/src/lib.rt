@@ -11,7 +11,7 @@ use step_reading::Step;
 ghost use Prim.Native.Nat.{_+_, _*_, _≤_};
 ghost use lib.ListN.{length};
 ghost use Rattle.rules.specs.Limits.{recordBytes};
-ghost use Rattle.step_reading.specs.Held.{asStep};
+ghost use Rattle.step_reading.specs.Fields.{asStep};
 ghost use Rattle.step_checking.specs.Verdicts.{StepChecked};
 
 // Tests the step after n others, and records its value if it passes.

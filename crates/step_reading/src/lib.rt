@@ -8,7 +8,7 @@ ghost use Rattle.rules.specs.Limits.{stepBytes};
 ghost use Rattle.integers.specs.Positional.{bytesValue};
 ghost use Rattle.chains.specs.Steps.{readStep};
 ghost use Rattle.chains.specs.Counts.{stepCounts, plus, total};
-ghost use Rattle.step_reading.specs.Held.{asStep};
+ghost use Rattle.step_reading.specs.Fields.{asStep};
 
 // A step: a(first) + a(second), or a(first) - a(second).
 pub struct Step {

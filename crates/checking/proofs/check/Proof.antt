@@ -13,7 +13,7 @@ use Rattle.chains.specs.Steps.{stepsOf}
 use Rattle.chains.specs.Values.{start}
 use Rattle.chains.specs.Counts.{countsOf, total}
 use Rattle.chains.proofs.Bytes.{length-steps}
-use Rattle.step_reading.specs.Held.{asStep}
+use Rattle.step_reading.specs.Fields.{asStep}
 use Rattle.records.specs.Recording.{Recording}
 use Rattle.checking.specs.Check.{roomFor, admission}
 use Rattle.checking.proofs.Admission.{Checkable, checkable-is}

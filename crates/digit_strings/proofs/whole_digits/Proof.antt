@@ -3,7 +3,7 @@ use Prim.Native.Nat.{_-_, _≤_}
 use lib.ListN.{length}
 use Rattle.digit_strings.specs.Admission.{digitUpTo}
 use Rattle.digit_strings.specs.Internal.{PassFor}
-use Rattle.digit_strings.proofs.Scan.{none-yet, joined}
+use Rattle.digit_strings.proofs.Scan.{none-yet, pass-joined}
 use borrow.Author.Needs.{needs}
 use Rattle.digit_strings.proofs.whole_digits.Statement.{statement}
 use Rattle.digit_strings.proofs.whole_digits.Tie as tie
@@ -33,7 +33,7 @@ loop-again : tie.Need-loop-again Inv-loop μ-loop
 loop-again c =
     let loop = c .before .before .before .loop in
     let args = c .before .before .before .before .before .args in
-    (joined (digitUpTo (args .largest)) (args .digits .now) (loop .i) 8 (loop .inv .0) (c .before .are-digits .ensures (c .if1 .taken)), search needs)
+    (pass-joined (digitUpTo (args .largest)) (args .digits .now) (loop .i) 8 (loop .inv .0) (c .before .are-digits .ensures (c .if1 .taken)), search needs)
 
 returns : tie.Need-returns Inv-loop μ-loop
 returns c = c .before .before .before .loop .inv

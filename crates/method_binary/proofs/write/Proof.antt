@@ -9,7 +9,7 @@ use Rattle.integers.proofs.Bits.{some-bits, bit-small}
 use Rattle.methods.specs.PartialPlan.{PartialPlan, none}
 use Rattle.methods.specs.Binary.{atBit, binarySteps}
 use Rattle.methods.proofs.Binary.{length-at-bit}
-use Rattle.plan_writing.proofs.Underway.{Underway, down, nothing-written, underway-next, underway-room, underway-end}
+use Rattle.plan_writing.proofs.Underway.{Underway, down-one, nothing-written, underway-next, underway-room, underway-end}
 use borrow.Author.Needs.{needs}
 use Rattle.method_binary.proofs.write.Statement.{statement}
 use Rattle.method_binary.proofs.write.Tie as tie
@@ -35,7 +35,7 @@ loop-holds c =
     let args = c .before .before .before .before .args in
     let e : ℕ = bytesValue (args .number .now) in
     let n = c .bit-length .ensures in
-    (omega (arith, n, some-bits e (search needs)), refl, record { building = none; writing = nothing-written (args .out .now) (c .before .first .result) (c .before .first .ensures .0) (c .before .first .ensures .1); rest = rw n })
+    (omega (arith, n, some-bits e (search needs)), refl, record { partial = none; writing = nothing-written (args .out .now) (c .before .first .result) (c .before .first .ensures .0) (c .before .first .ensures .1); rest = rw n })
 
 sub-i-2 : tie.Need-sub-i-2 Inv-loop μ-loop
 sub-i-2 c = search needs
@@ -49,10 +49,10 @@ at-bit-requires c κs =
     let args = c .before .before .before .before .before .before .before .before .args in
     let e : ℕ = bytesValue (args .number .now) in
     let f : ℕ → PartialPlan → PartialPlan = λ i b. atBit (bit e i) b in
-    let u : Underway (args .out .now) (loop .out) (loop .c) f (suc (loop .i - 1)) (binarySteps e) = down (args .out .now) (loop .out) (loop .c) f (binarySteps e) (loop .i) (search needs) (loop .inv .2) in
+    let u : Underway (args .out .now) (loop .out) (loop .c) f (suc (loop .i - 1)) (binarySteps e) = down-one (args .out .now) (loop .out) (loop .c) f (binarySteps e) (loop .i) (search needs) (loop .inv .2) in
     let x : c .bit-at .result < 2 = omega (arith, c .bit-at .ensures, bit-small e (loop .i - 1)) in
     let room = underway-room (args .out .now) (loop .out) (loop .c) f (binarySteps e) (loop .i - 1) (λ i b. omega (arith, length-at-bit (bit e i) b (bit-small e i))) u in
-    (x, omega (arith, room, length-at-bit (bit e (loop .i - 1)) (u .building) (bit-small e (loop .i - 1)), u .writing .steps, c .bit-at .ensures))
+    (x, omega (arith, room, length-at-bit (bit e (loop .i - 1)) (u .partial) (bit-small e (loop .i - 1)), u .writing .steps, c .bit-at .ensures))
 
 loop-less : tie.Need-loop-less Inv-loop μ-loop
 loop-less c = search needs
@@ -63,9 +63,9 @@ loop-again c =
     let args = c .before .before .before .before .before .before .before .before .before .before .before .args in
     let e : ℕ = bytesValue (args .number .now) in
     let f : ℕ → PartialPlan → PartialPlan = λ i b. atBit (bit e i) b in
-    let u : Underway (args .out .now) (loop .out) (loop .c) f (suc (loop .i - 1)) (binarySteps e) = down (args .out .now) (loop .out) (loop .c) f (binarySteps e) (loop .i) (search needs) (loop .inv .2) in
+    let u : Underway (args .out .now) (loop .out) (loop .c) f (suc (loop .i - 1)) (binarySteps e) = down-one (args .out .now) (loop .out) (loop .c) f (binarySteps e) (loop .i) (search needs) (loop .inv .2) in
     let step = c .before .before .at-bit in
-    (omega arith, search needs, underway-next (args .out .now) (loop .out) (loop .c) f (binarySteps e) (step .last .1 .0) (step .result) (loop .i - 1) u (rw (c .before .before .before .bit-at .ensures) at (step .ensures .1 (args .out .now) (u .building) (u .writing))))
+    (omega arith, search needs, underway-next (args .out .now) (loop .out) (loop .c) f (binarySteps e) (step .last .1 .0) (step .result) (loop .i - 1) u (rw (c .before .before .before .bit-at .ensures) at (step .ensures .1 (args .out .now) (u .partial) (u .writing))))
 
 same-length : tie.Need-same-length Inv-loop μ-loop
 same-length c = search needs

@@ -11,7 +11,7 @@ use Rattle.methods.specs.FixedWindows.{window, topWindow, atFixedWindow, window
 use Rattle.methods.proofs.Laws.{down-grows}
 use Rattle.methods.proofs.FixedWindows.{multiplied, length-multiples, length-at-window, top-window-some}
 use Rattle.plan_writing.specs.Writing.{Writing}
-use Rattle.plan_writing.proofs.Underway.{Underway, down, underway-next, underway-room, underway-end}
+use Rattle.plan_writing.proofs.Underway.{Underway, down-one, underway-next, underway-room, underway-end}
 use Rattle.plan_writing.proofs.Multiples.{all-multiples}
 use borrow.Author.Needs.{needs}
 use Rattle.method_fixed_windows.proofs.write_windows.Statement.{statement}
@@ -69,7 +69,7 @@ loop-holds : tie.Need-loop-holds Inv-loop μ-loop
 unfolding windowSteps
 loop-holds c =
     let start = c .before .before .before .before .before .before .before .before in
-    (search needs, refl, λ lent w. record { building = tabled (start .args .number .now) (start .args .width) (start .args .top); writing = w; rest = rw (start .pre .0) })
+    (search needs, refl, λ lent w. record { partial = tabled (start .args .number .now) (start .args .width) (start .args .top); writing = w; rest = rw (start .pre .0) })
 
 sub-i : tie.Need-sub-i Inv-loop μ-loop
 sub-i c = search needs
@@ -87,9 +87,9 @@ at-window-requires c κs =
     let i : ℕ = loop .i - 1 in
     let f : ℕ → PartialPlan → PartialPlan = windowAt (args .number .now) (args .width) in
     let all = windowSteps (bytesValue (args .number .now)) (args .width) in
-    let u : Underway (args .out .now) (loop .out) (loop .c) f (suc i) all = down (args .out .now) (loop .out) (loop .c) f all (loop .i) (search needs) (under (c .before .before .before)) in
+    let u : Underway (args .out .now) (loop .out) (loop .c) f (suc i) all = down-one (args .out .now) (loop .out) (loop .c) f all (loop .i) (search needs) (under (c .before .before .before)) in
     let room = underway-room (args .out .now) (loop .out) (loop .c) f all i (grows (args .number .now) (args .width)) u in
-    rw (c .window-at2 .ensures) (omega (arith, room, length-at-window (args .width) (window (bytesValue (args .number .now)) (args .width) i) (u .building), u .writing .steps))
+    rw (c .window-at2 .ensures) (omega (arith, room, length-at-window (args .width) (window (bytesValue (args .number .now)) (args .width) i) (u .partial), u .writing .steps))
 
 loop-less : tie.Need-loop-less Inv-loop μ-loop
 loop-less c = search needs
@@ -104,8 +104,8 @@ loop-again c =
       search needs,
       search needs,
       λ lent w.
-          let u : Underway lent (loop .out) (loop .c) f (suc (loop .i - 1)) all = down lent (loop .out) (loop .c) f all (loop .i) (search needs) (loop .inv .2 lent w) in
-          underway-next lent (loop .out) (loop .c) f all (step .last .1 .0) (step .result) (loop .i - 1) u (rw (c .before .before .before .window-at2 .ensures) at (step .ensures .1 lent (u .building) (u .writing))),
+          let u : Underway lent (loop .out) (loop .c) f (suc (loop .i - 1)) all = down-one lent (loop .out) (loop .c) f all (loop .i) (search needs) (loop .inv .2 lent w) in
+          underway-next lent (loop .out) (loop .c) f all (step .last .1 .0) (step .result) (loop .i - 1) u (rw (c .before .before .before .window-at2 .ensures) at (step .ensures .1 lent (u .partial) (u .writing))),
     )
 
 same-length : tie.Need-same-length Inv-loop μ-loop

@@ -14,7 +14,7 @@ use Rattle.methods.specs.NonAdjacentForm.{nafSteps}
 use Rattle.methods.proofs.Laws.{Small, plannable, plannable-small}
 use Rattle.methods.proofs.DigitSteps.{length-at-digit}
 use Rattle.methods.proofs.NonAdjacentForm.{naf-down}
-use Rattle.plan_writing.proofs.Underway.{Underway, down, nothing-written, underway-next, underway-room, underway-end}
+use Rattle.plan_writing.proofs.Underway.{Underway, down-one, nothing-written, underway-next, underway-room, underway-end}
 use Rattle.method_naf.proofs.Digits.{step-more}
 use borrow.Author.Needs.{needs}
 use Rattle.method_naf.proofs.write.Statement.{statement}
@@ -47,7 +47,7 @@ loop-holds c =
     let n = c .recoded .ensures .count in
     let first = c .before .before .first in
     let small : Small (e + 1) = plannable-small (plannable (args .number .now) (λ i. c .before .before .before .before .shared-slice-known .given i .fits) (c .before .before .before .before .before .pre .0)) in
-    (record { building = none; writing = nothing-written (args .out .now) (first .result) (first .ensures .0) (first .ensures .1); rest = rw (n, naf-down e (search needs) small) }, omega (arith, n, some-digits 2 (omega arith) e (search needs)), refl)
+    (record { partial = none; writing = nothing-written (args .out .now) (first .result) (first .ensures .0) (first .ensures .1); rest = rw (n, naf-down e (search needs) small) }, omega (arith, n, some-digits 2 (omega arith) e (search needs)), refl)
 
 sub-i-2 : tie.Need-sub-i-2 Inv-loop μ-loop
 sub-i-2 c = search needs
@@ -61,9 +61,9 @@ at-digit-requires c κs =
     let args = c .before .before .before .before .before .before .before .before .args in
     let e : ℕ = bytesValue (args .number .now) in
     let digit = c .before .before .before .recoded .ensures .digit (loop .i - 1) (search needs) in
-    let u : Underway (args .out .now) (loop .out) (loop .c) (atPlace e) (suc (loop .i - 1)) (nafSteps e) = down (args .out .now) (loop .out) (loop .c) (atPlace e) (nafSteps e) (loop .i) (search needs) (loop .inv .0) in
+    let u : Underway (args .out .now) (loop .out) (loop .c) (atPlace e) (suc (loop .i - 1)) (nafSteps e) = down-one (args .out .now) (loop .out) (loop .c) (atPlace e) (nafSteps e) (loop .i) (search needs) (loop .inv .0) in
     let room = underway-room (args .out .now) (loop .out) (loop .c) (atPlace e) (nafSteps e) (loop .i - 1) (λ i b. omega (arith, length-at-digit (digitAt (canonical (pos e)) i) b)) u in
-    let more = length-at-digit (digitAt (canonical (pos e)) (loop .i - 1)) (u .building) in
+    let more = length-at-digit (digitAt (canonical (pos e)) (loop .i - 1)) (u .partial) in
     (omega (arith, u .writing .steps), λ n. omega (arith, u .writing .steps, step-more digit n))
 
 loop-less : tie.Need-loop-less Inv-loop μ-loop
@@ -75,9 +75,9 @@ loop-again c =
     let args = c .before .before .before .before .before .before .before .before .before .before .before .args in
     let e : ℕ = bytesValue (args .number .now) in
     let digit = c .before .before .before .before .before .before .recoded .ensures .digit (loop .i - 1) (search needs) in
-    let u : Underway (args .out .now) (loop .out) (loop .c) (atPlace e) (suc (loop .i - 1)) (nafSteps e) = down (args .out .now) (loop .out) (loop .c) (atPlace e) (nafSteps e) (loop .i) (search needs) (loop .inv .0) in
+    let u : Underway (args .out .now) (loop .out) (loop .c) (atPlace e) (suc (loop .i - 1)) (nafSteps e) = down-one (args .out .now) (loop .out) (loop .c) (atPlace e) (nafSteps e) (loop .i) (search needs) (loop .inv .0) in
     let step = c .before .before .at-digit in
-    (underway-next (args .out .now) (loop .out) (loop .c) (atPlace e) (nafSteps e) (step .last .1 .0) (step .result) (loop .i - 1) u (step .ensures (args .out .now) (u .building) (digitAt (canonical (pos e)) (loop .i - 1)) digit (u .writing)), omega arith, search needs)
+    (underway-next (args .out .now) (loop .out) (loop .c) (atPlace e) (nafSteps e) (step .last .1 .0) (step .result) (loop .i - 1) u (step .ensures (args .out .now) (u .partial) (digitAt (canonical (pos e)) (loop .i - 1)) digit (u .writing)), omega arith, search needs)
 
 same-length : tie.Need-same-length Inv-loop μ-loop
 same-length c = search needs

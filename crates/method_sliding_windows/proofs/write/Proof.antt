@@ -81,7 +81,7 @@ write-table-requires c κs =
     omega (arith, room at, table-room (wordsValue (words at)) (width at) (number at .some) (wide at) (start .result) (start .ensures))
 
 loop-holds : tie.Need-loop-holds Inv-loop μ-loop
-loop-holds c = (refl, λ lent b w. record { building = b; writing = w; rest = refl })
+loop-holds c = (refl, λ lent b w. record { partial = b; writing = w; rest = refl })
 
 slice-aggregate-next-window : tie.Need-slice-aggregate-next-window Inv-loop μ-loop
 slice-aggregate-next-window c = search needs
@@ -112,7 +112,7 @@ loop-again c =
       search needs,
       λ l b w.
           let u = loop .loop .inv .1 l b w in
-          sliding-next l (loop .loop .out) (loop .loop .c) (wordsValue (words at)) (width at) _ (wide at) (loop .loop .i) u (window .result) (window .ensures) (step .last .1 .0) (step .result) (step .ensures .1 l (u .building) (u .writing)),
+          sliding-next l (loop .loop .out) (loop .loop .c) (wordsValue (words at)) (width at) _ (wide at) (loop .loop .i) u (window .result) (window .ensures) (step .last .1 .0) (step .result) (step .ensures .1 l (u .partial) (u .writing)),
     )
 
 same-length : tie.Need-same-length Inv-loop μ-loop

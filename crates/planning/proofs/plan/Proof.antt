@@ -5,7 +5,7 @@ use native.Mathlib.Omega.{arith}
 use Rattle.rules.specs.Limits.{planSteps}
 use Rattle.chains.specs.Counts.{total}
 use Rattle.requests.proofs.Requests.{granted-allowed}
-use Rattle.planning.proofs.Outcomes.{counted-few, room-for, no-room, done}
+use Rattle.planning.proofs.Outcomes.{counted-few, room-for, no-room, plan-written}
 use borrow.Author.Needs.{needs}
 use Rattle.planning.proofs.plan.Statement.{statement}
 use Rattle.planning.proofs.plan.Tie as tie
@@ -30,7 +30,7 @@ returns-3 c =
     let n = c .before .before .before .before .before .before .before in
     let e = sym (n .before .before .before .before .requested .ensures) ∙ n .before .before .chosen .given .1 in
     let room = c .before .before .before .before .if1 .left in
-    done _ _ _ (n .before .before .before .before .before .before .before .args .out .now) e (n .counts .result) (n .counts .ensures) room (c .before .before .write .ensures)
+    plan-written _ _ _ (n .before .before .before .before .before .before .before .args .out .now) e (n .counts .result) (n .counts .ensures) room (c .before .before .write .ensures)
 
 requested-requires : tie.Need-requested-requires
 requested-requires c κs = search needs

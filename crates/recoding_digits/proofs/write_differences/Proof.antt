@@ -8,7 +8,7 @@ use lib.ListN.{length, take, drop, take-append-drop}
 use Rattle.integers.specs.Tabulate.{tabulate}
 use Rattle.integers.proofs.Tabulate.{block-more}
 use Rattle.recoding_digits.specs.Internal.{difference}
-use Rattle.recoding_digits.proofs.SpreadBits.{stored}
+use Rattle.recoding_digits.proofs.SpreadBits.{difference-stored}
 use borrow.Author.Needs.{needs}
 use Rattle.recoding_digits.proofs.write_differences.Statement.{statement}
 use Rattle.recoding_digits.proofs.write_differences.Tie as tie
@@ -54,7 +54,7 @@ loop-again c =
     let loop = c .before .loop in
     let args = c .before .before .before .before .args in
     let bytes = c .before .before .differences in
-    let e : bytes .result / 2 ^ (8 * loop .j) % 256 ≡ difference (args .more) (args .less) (loop .j) = rw (bytes .ensures) (stored (args .more) (args .less) (loop .j) (omega arith)) in
+    let e : bytes .result / 2 ^ (8 * loop .j) % 256 ≡ difference (args .more) (args .less) (loop .j) = rw (bytes .ensures) (difference-stored (args .more) (args .less) (loop .j) (omega arith)) in
     (search needs, search needs, rw (loop .inv .2, e) (block-more (difference (args .more) (args .less)) (args .out .now) (args .at) (loop .j) (search needs)))
 
 same-length : tie.Need-same-length Inv-loop μ-loop

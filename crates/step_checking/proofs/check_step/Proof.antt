@@ -9,10 +9,10 @@ use lib.IntN.{natAbs}
 use Rattle.chain_values.specs.Value.{integerOf}
 use Rattle.chains.specs.Steps.{subtracting}
 use Rattle.chains.specs.Sound.{WellFormed}
-use Rattle.step_reading.specs.Held.{asStep}
+use Rattle.step_reading.specs.Fields.{asStep}
 use Rattle.step_checking.specs.Verdicts.{isWellFormed}
 use Rattle.step_checking.proofs.Tested.{well-formed-is}
-use Rattle.step_checking.proofs.Outcomes.{Gives, gives, malformed-checked, zero-checked, large-checked, stored-checked}
+use Rattle.step_checking.proofs.Outcomes.{Gives, combined-gives, malformed-checked, zero-checked, large-checked, stored-checked}
 use borrow.Author.Needs.{needs}
 use Rattle.step_checking.proofs.check_step.Statement.{statement}
 use Rattle.step_checking.proofs.check_step.Tie as tie
@@ -56,7 +56,7 @@ combines c =
     let first = second .before .before in
     let tests = first .before .before in
     let args = tests .before .before .before .args in
-    gives (asStep (args .step)) (args .n) (args .space .now) (integerOf (first .load .result)) (integerOf (second .load2 .result)) (integerOf (c .combined .result)) (formed tests)
+    combined-gives (asStep (args .step)) (args .n) (args .space .now) (integerOf (first .load .result)) (integerOf (second .load2 .result)) (integerOf (c .combined .result)) (formed tests)
     (first .load .ensures .1) (second .load2 .ensures .1) (c .combined .ensures)
 
 is-zero-requires : tie.Need-is-zero-requires

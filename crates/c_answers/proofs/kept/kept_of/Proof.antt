@@ -5,7 +5,7 @@ use native.Mathlib.Omega.{arith}
 use lib.ListN.{length, take}
 use Rattle.rules.specs.Limits.{numberWords}
 use Rattle.taking.specs.Take.{standsFor}
-use Rattle.c_answers.proofs.Copied.{copied-more, stored}
+use Rattle.c_answers.proofs.Copied.{copied-more, kept-stored}
 use borrow.Author.Needs.{needs}
 use Rattle.c_answers.proofs.kept.kept_of.Statement.{statement}
 use Rattle.c_answers.proofs.kept.kept_of.Tie as tie
@@ -54,7 +54,7 @@ returns c =
     let loop = c .before .loop in
     let r = c .before .before .before .args .recoder in
     let e : loop .k ≡ numberWords = omega arith in
-    stored (loop .kept) (r .words) (r .carry) (loop .inv .1) (search needs) (rw e at (loop .inv .2))
+    kept-stored (loop .kept) (r .words) (r .carry) (loop .inv .1) (search needs) (rw e at (loop .inv .2))
 
 pub kept-of-spec : {M : Type 1} → statement M
 kept-of-spec =

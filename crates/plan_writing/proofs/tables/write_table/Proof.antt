@@ -4,10 +4,9 @@ use Prim.Native.Nat.{_-_, _≤_}
 use native.Mathlib.Numerals.{add-one}
 use native.Mathlib.Omega.{arith}
 use lib.ListN.{length}
-use Rattle.methods.specs.Tables.{tableBy}
+use Rattle.methods.specs.Tables.{tableBy, secondOf}
 use Rattle.methods.proofs.Tables.{tabled, table-next}
 use Rattle.plan_writing.specs.Writing.{Writing}
-use Rattle.methods.specs.Tables.{secondOf}
 use Rattle.plan_writing.proofs.Underway.{nothing-written}
 use borrow.Author.Needs.{needs}
 use Rattle.plan_writing.proofs.tables.write_table.Statement.{statement}

@@ -42,9 +42,9 @@ count-requires c κs = admitted-is _ .0 (passed c)
 
 returns-2 : tie.Need-returns-2
 returns-2 c =
-    let found = c .before in
+    let found : tie.After-count = search in
     let args = found .before .before .before .before .before .before .args in
-    returns-refused (λ w. w) (recoding (args .number .now)) (args .out .now) (passed (found .before)) (needed found) (c .if1 .taken)
+    returns-refused (λ w. w) (recoding (args .number .now)) (args .out .now) (passed (found .before)) (needed found) (search needs)
 
 write-requires : tie.Need-write-requires
 write-requires c κs = search needs

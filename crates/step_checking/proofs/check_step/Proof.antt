@@ -67,19 +67,20 @@ same-length c = search needs
 
 returns-2 : tie.Need-returns-2
 returns-2 c =
-    let tested = c .before in
+    let zero : tie.Then2 = search in
+    let tested = zero .before in
     let combined = tested .before in
     let args = combined .before .before .before .before .before .before .before .before .before .args in
-    zero-checked (asStep (args .step)) (args .n) (args .space .now) _ (combines combined) (sym (tested .is-zero .ensures) ∙ c .if2 .taken)
+    zero-checked (asStep (args .step)) (args .n) (args .space .now) _ (combines combined) (sym (tested .is-zero .ensures) ∙ zero .if2 .taken)
 
 is-small-requires : tie.Need-is-small-requires
 is-small-requires c κs = search needs
 
 mul-store : tie.Need-mul-store
-mul-store c = omega (arith, formed (c .before .before .before .before .before .before .before .before .before .before .before) .first)
+mul-store c = let tests : tie.Else1 = search in omega (arith, formed tests .first)
 
 store-requires : tie.Need-store-requires
-store-requires c κs = omega (arith, formed (c .before .before .before .before .before .before .before .before .before .before .before) .first)
+store-requires c κs = let tests : tie.Else1 = search in omega (arith, formed tests .first)
 
 same-length-2 : tie.Need-same-length-2
 same-length-2 c = search needs

@@ -19,7 +19,6 @@ use Rattle.rules.specs.declared.Counts.{Counts}
 use Rattle.numbers.specs.Admission.{Positive}
 use Rattle.chains.specs.Steps.{Step, planBytesOf}
 use Rattle.chains.specs.Counts.{counts, countsOf, total}
-use Rattle.chains.proofs.Bytes.{length-plan}
 use Rattle.methods.specs.PartialPlan.{PartialPlan, none, double, doubled, addAt}
 use Rattle.methods.specs.Widths.{slidingWindowBits}
 use Rattle.methods.specs.Tables.{tableCounts}
@@ -31,6 +30,7 @@ use Rattle.methods.proofs.Laws.{length-followed, length-doubled}
 use Rattle.methods.proofs.Tables.{no-subtractions}
 use Rattle.methods.proofs.OddMultiples.{odd-length, Entry}
 use Rattle.methods.proofs.SlidingWindows.{scan-fuel, slide-grows, belowWindow, top, longest-window, window-entry, first-window, first-value, whole-entry, entry-whole, entry-or-scan, sliding-short, sliding-counts}
+use Rattle.plan_writing.proofs.Underway.{Unfinished, finished}
 use Rattle.plan_writing.specs.declared.Cursor.{Cursor}
 use Rattle.plan_writing.specs.Writing.{Writing}
 use Rattle.method_sliding_windows.specs.declared.Window.{Window}
@@ -144,17 +144,15 @@ module _ (e d : ℕ) (wide : 1 ≤ d) where
         let t = turn-window n (f .one) z (λ j h l. f .zeros j h (omega arith)) in
         rw (bits, f .window) (subst (λ (k : ℕ). Turn e d k (record { bits = z + longest e n d; value = windowValue e n (longest e n d) })) (sym s) t)
 
--- ---- a loop that writes: what is written so far, and that the places below i will give the rest
+-- ---- a loop that writes: the places below i are to come
 
-pub record Sliding (lent here : List ℕ) (c : Cursor) (e d i : ℕ) (all : List Step) : Type 0 where
-  pub partial : PartialPlan
-  pub writing : Writing lent here c partial
-  pub rest : slide e d i i partial .steps ≡ all
+abbrev pub Sliding : List ℕ → List ℕ → Cursor → ℕ → ℕ → ℕ → List Step → Type 0
+Sliding lent here c e d i all = Unfinished lent here c (slide e d i i) all
 
 module _ (lent here : List ℕ) (c : Cursor) (e d : ℕ) (all : List Step) where
   pub sliding-end : Sliding lent here c e d 0 all → here ≡ planBytesOf all ++ drop (length (planBytesOf all)) lent
   unfolding slide
-  sliding-end u = u .writing .bytes ∙ rw (u .rest, length-plan all)
+  sliding-end u = finished u
 
   module _ (wide : 1 ≤ d) (i : ℕ) (u : Sliding lent here c e d i all) (w : Window) (t : Turn e d i w) where
     turn : slide e d (i - w .bits) (i - w .bits) (atSlidingWindow w (u .partial)) .steps ≡ all

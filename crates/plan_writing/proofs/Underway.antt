@@ -1,4 +1,4 @@
--- A plan that a loop writes from a place down: what is written so far, and that the places below will give the rest. Assumes nothing.
+-- A plan that a loop writes: what is written so far, and that what is to come will give the rest. Assumes nothing.
 use mathlib.Core.Path.{_≡_, refl, ap, _∙_}
 use mathlib.Core.List.{List, _++_}
 use Prim.Native.Nat.{ℕ, suc, _-_, _<_, _≤_}
@@ -11,10 +11,20 @@ use Rattle.methods.proofs.Laws.{down-grows}
 use Rattle.plan_writing.specs.declared.Cursor.{Cursor}
 use Rattle.plan_writing.specs.Writing.{Writing}
 
-pub record Underway (lent here : List ℕ) (c : Cursor) (f : ℕ → PartialPlan → PartialPlan) (i : ℕ) (all : List Step) : Type 0 where
+pub record Unfinished (lent here : List ℕ) (c : Cursor) (to-come : PartialPlan → PartialPlan) (all : List Step) : Type 0 where
   pub partial : PartialPlan
   pub writing : Writing lent here c partial
-  pub rest : downFrom f i partial .steps ≡ all
+  pub rest : to-come partial .steps ≡ all
+
+-- nothing is to come
+pub finished : {lent here : List ℕ} {c : Cursor} {all : List Step} → Unfinished lent here c (λ b. b) all → here ≡ planBytesOf all ++ drop (length (planBytesOf all)) lent
+finished {all = all} u = u .writing .bytes ∙ rw (u .rest, length-plan all)
+
+-- ---- from a place down
+
+-- the places below i are to come
+abbrev pub Underway : List ℕ → List ℕ → Cursor → (ℕ → PartialPlan → PartialPlan) → ℕ → List Step → Type 0
+Underway lent here c f i all = Unfinished lent here c (downFrom f i) all
 
 -- nothing is written yet
 pub nothing-written : (lent : List ℕ) (c : Cursor) → c .steps ≡ 0 → c .latest ≡ 0 → Writing lent lent c none
@@ -39,4 +49,4 @@ module _ (lent here : List ℕ) (c : Cursor) (f : ℕ → PartialPlan → Partia
   -- all is written
   pub underway-end : Underway lent here c f 0 all → here ≡ planBytesOf all ++ drop (length (planBytesOf all)) lent
   unfolding downFrom
-  underway-end u = u .writing .bytes ∙ rw (u .rest, length-plan all)
+  underway-end u = finished u

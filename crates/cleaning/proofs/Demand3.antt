@@ -13,12 +13,12 @@ use Rattle.rules.specs.declared.Written.the-variants.{Length}
 use Rattle.rules.proofs.Fitted.{fits}
 use Rattle.signed_digits.specs.Strings.{value}
 use Rattle.signed_digits.specs.Form.{SignedBits, Canonical}
-use Rattle.signed_digits.specs.Naf.{canonical}
+use Rattle.signed_digits.specs.Naf.{canonical, canonicalWidth}
 use Rattle.signed_digits.specs.Weight.{nonzeros}
 use Rattle.signed_digits.specs.Bytes.{digitBytes, stringOf}
 use Rattle.signed_digits.proofs.Canonical.{canonical-form, canonical-value}
 use Rattle.signed_digits.proofs.Fewest.{fewest}
-use Rattle.digit_strings.specs.Admission.{canonicalWidth, stringValue, DigitString}
+use Rattle.digit_strings.specs.Admission.{stringValue, DigitString}
 use Rattle.digit_strings.proofs.Tests.{digits, string-only}
 use Rattle.digit_strings.proofs.Bytes.{naf-digits, naf-back}
 use Rattle.cleaning.specs.Clean.{cleaning, cleanAnswer, RoomEnough, bytesWritten}

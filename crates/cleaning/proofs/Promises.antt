@@ -7,7 +7,8 @@ use lib.ListN.{length, drop}
 use Rattle.rules.specs.Limits.{stringDigits}
 use Rattle.rules.specs.Outcome.{Outcome, refused, answered, writtenOutcome, lengthValue}
 use Rattle.rules.proofs.Memory as memory
-use Rattle.digit_strings.specs.Admission.{canonicalWidth, stringVerdict, DigitString, LowestBad}
+use Rattle.signed_digits.specs.Naf.{canonicalWidth}
+use Rattle.digit_strings.specs.Admission.{stringVerdict, DigitString, LowestBad}
 use Rattle.digit_strings.proofs.Given as string
 use Rattle.cleaning_digits.proofs.Length.{canonical-length}
 use Rattle.cleaning.specs.Clean.{cleaning, cleanAnswer, cleanBuffer}

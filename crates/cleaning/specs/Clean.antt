@@ -4,9 +4,9 @@ use mathlib.Core.List.{List}
 use lib.ListN.{length, take}
 use Rattle.rules.specs.Memory.{written, leaves, lengthWritten}
 use Rattle.rules.specs.declared.Written.{Written}
-use Rattle.signed_digits.specs.Naf.{canonical}
+use Rattle.signed_digits.specs.Naf.{canonical, canonicalWidth}
 use Rattle.signed_digits.specs.Bytes.{digitBytes}
-use Rattle.digit_strings.specs.Admission.{canonicalWidth, stringVerdict, stringValue}
+use Rattle.digit_strings.specs.Admission.{stringVerdict, stringValue}
 
 -- the canonical string of the value, one byte a digit
 unfoldable pub cleaning : List ℕ → List ℕ

@@ -11,10 +11,10 @@ use lib.ListN.{length, getD, drop, List·getD-eq-default}
 use lib.Seq.{getD-drop}
 use Rattle.integers.specs.Positional.{Significant}
 use Rattle.integers.proofs.Positional.{positional-nonzero}
-use Rattle.signed_digits.specs.Naf.{canonical}
+use Rattle.signed_digits.specs.Naf.{canonical, canonicalWidth}
 use Rattle.signed_digits.proofs.Canonical.{canonical-form}
 use Rattle.signed_digits.proofs.Cons.{length-by-top}
-use Rattle.digit_strings.specs.Admission.{canonicalWidth, DigitString, stringValue}
+use Rattle.digit_strings.specs.Admission.{DigitString, stringValue}
 use Rattle.cleaning_digits.specs.Sums.{sumAt, Highest}
 use Rattle.cleaning_digits.proofs.Places.{zero-place, nonzero-place, stopped}
 

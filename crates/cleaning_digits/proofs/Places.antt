@@ -9,13 +9,13 @@ use borrow.Author.Tests.{eq-eqb}
 use lib.IntN.{ℤ, pos, negsuc, natAbs, _+ℤ_, _*ℤ_}
 use lib.ListN.{getD, drop, List·getD-map}
 use Rattle.signed_digits.specs.Strings.{value, digitAt}
-use Rattle.signed_digits.specs.Naf.{lowDigit, rest, canonical}
+use Rattle.signed_digits.specs.Naf.{lowDigit, rest, canonical, canonicalWidth}
 use Rattle.signed_digits.specs.Bytes.{digitByte, byteDigit, stringOf}
 use Rattle.signed_digits.proofs.Parts.{positivePart, negativePart, from-parts, zero-parts, size-parts, sum-parts, product-parts, positiveSum, negativeSum, value-parts}
 use Rattle.signed_digits.proofs.Exists.{Shape, even, odd, step}
 use Rattle.signed_digits.proofs.Steps.{low-digit-2, rest-2, by-four}
 use Rattle.signed_digits.proofs.Cons.{digits-taken}
-use Rattle.digit_strings.specs.Admission.{canonicalWidth, DigitString, stringValue}
+use Rattle.digit_strings.specs.Admission.{DigitString, stringValue}
 use Rattle.digit_strings.specs.Places.{placeByte}
 use Rattle.digit_strings.proofs.Scan.{digit-at}
 use Rattle.digit_strings.proofs.Raised.{raised-is}

@@ -4,8 +4,7 @@ use mathlib.Core.Path.{_≡_}
 use mathlib.Core.Logic.{_≢_}
 use mathlib.Core.List.{List}
 use lib.ListN.{getD}
-use Rattle.signed_digits.specs.Naf.{rest}
-use Rattle.digit_strings.specs.Admission.{canonicalWidth}
+use Rattle.signed_digits.specs.Naf.{rest, canonicalWidth}
 use Rattle.digit_strings.specs.Raised.{raised}
 
 -- the digit at a place plus 1: 0, 1 or 2; above the string the digit is 0
@@ -15,7 +14,7 @@ raisedAt digits i = raised canonicalWidth (getD digits i 0)
 -- the digit at a place and the carry into it, plus 2: from 0 to 4; the carry is what the canonical digits below leave
 unfoldable pub sumAt : List ℕ → ℕ → ℕ
 sumAt digits zero = raisedAt digits 0 + 1
-sumAt digits (suc i) = rest 2 (sumAt digits i + 2 * raisedAt digits (suc i))
+sumAt digits (suc i) = rest canonicalWidth (sumAt digits i + 2 * raisedAt digits (suc i))
 
 -- that and the digit above: enough to tell the canonical digit and the next carry
 abbrev pub pairAt : List ℕ → ℕ → ℕ

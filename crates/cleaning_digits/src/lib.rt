@@ -11,8 +11,8 @@ ghost use lib.Dec.{eqb};
 ghost use lib.ListN.{length, drop};
 ghost use Rattle.integers.specs.Positional.{Significant};
 ghost use Rattle.integers.specs.Tabulate.{tabulate};
-ghost use Rattle.signed_digits.specs.Naf.{rest, canonical};
-ghost use Rattle.digit_strings.specs.Admission.{canonicalWidth, DigitString, stringValue};
+ghost use Rattle.signed_digits.specs.Naf.{rest, canonical, canonicalWidth};
+ghost use Rattle.digit_strings.specs.Admission.{DigitString, stringValue};
 ghost use Rattle.digit_strings.specs.Places.{placeByte};
 ghost use Rattle.cleaning_digits.specs.Sums.{raisedAt, sumAt, Highest};
 
@@ -31,7 +31,7 @@ fn raised_at(digits: &[u8], i: usize) -> u64
 // What is left of n once its lowest canonical digit is taken off.
 fn rest_of(n: u64) -> u64
     requires { ⌜ n ≤ 8 ⌝ }
-    ensures { λ r. ⌜ (r ≡ rest 2 n) × (r ≤ 4) ⌝ }
+    ensures { λ r. ⌜ (r ≡ rest canonicalWidth n) × (r ≤ 4) ⌝ }
 {
     (n + n / 2 % 2) / 2
 }

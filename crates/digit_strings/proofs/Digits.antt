@@ -11,7 +11,8 @@ use lib.IntN.{natAbs}
 use lib.Pow.{pow-pos, pow-mono}
 use Rattle.signed_digits.specs.Form.{OddDigit}
 use Rattle.signed_digits.specs.Bytes.{byteDigit}
-use Rattle.digit_strings.specs.Admission.{canonicalWidth, widthLimit, largestDigit, digitUpTo, isDigit}
+use Rattle.signed_digits.specs.Naf.{canonicalWidth}
+use Rattle.digit_strings.specs.Admission.{widthLimit, largestDigit, digitUpTo, isDigit}
 
 -- an odd digit of at most this size
 abbrev pub OddUpTo : ℕ → ℕ → Type 0

@@ -14,10 +14,6 @@ use Rattle.rules.specs.declared.Verdict.the-variants.{Passed, Failed}
 use Rattle.signed_digits.specs.Strings.{value}
 use Rattle.signed_digits.specs.Bytes.{byteDigit, stringOf}
 
--- the width of the canonical string, whose digits are 0, 1 and -1
-abbrev pub canonicalWidth : ℕ
-canonicalWidth = 2
-
 -- the largest width whose digits all have a byte: their sizes are below 2 ^ 7
 abbrev pub widthLimit : ℕ
 widthLimit = 8

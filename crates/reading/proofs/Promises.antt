@@ -17,7 +17,8 @@ use Rattle.integers.specs.Signed.{signOf}
 use Rattle.integers.proofs.Positional.{Below, positional-zeros}
 use Rattle.integers.proofs.Shortest.{TopByte, bytes-zero, bytes-value, bytes-below, bytes-top, bytes-only}
 use Rattle.numbers.specs.Admission.{Admitted}
-use Rattle.digit_strings.specs.Admission.{canonicalWidth, stringVerdict, stringValue, DigitString, LowestBad}
+use Rattle.signed_digits.specs.Naf.{canonicalWidth}
+use Rattle.digit_strings.specs.Admission.{stringVerdict, stringValue, DigitString, LowestBad}
 use Rattle.digit_strings.proofs.Bytes.{naf-digits, naf-bytes-value}
 use Rattle.digit_strings.proofs.Given as string
 use Rattle.recoding.specs.Recode.{recoding}

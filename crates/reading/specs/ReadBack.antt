@@ -9,7 +9,8 @@ use Rattle.rules.specs.declared.Written.{Written}
 use Rattle.rules.specs.declared.Written.the-variants.{Length, Refused as NotWritten}
 use Rattle.integers.specs.Positional.{bytesOf}
 use Rattle.integers.specs.Signed.{signOf}
-use Rattle.digit_strings.specs.Admission.{canonicalWidth, stringVerdict, stringValue}
+use Rattle.signed_digits.specs.Naf.{canonicalWidth}
+use Rattle.digit_strings.specs.Admission.{stringVerdict, stringValue}
 use Rattle.reading.specs.declared.ReadBack.{ReadBack}
 use Rattle.reading.specs.declared.ReadBack.the-variants.{Value, Refused}
 

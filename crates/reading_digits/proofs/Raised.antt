@@ -16,7 +16,8 @@ use Rattle.integers.specs.Signed.{signOf}
 use Rattle.integers.proofs.Positional.{Below, below-take, below-drop, positional-append}
 use Rattle.signed_digits.specs.Bytes.{stringOf}
 use Rattle.signed_digits.proofs.Parts.{positivePart, negativePart, positiveSum, negativeSum, value-parts}
-use Rattle.digit_strings.specs.Admission.{canonicalWidth, isDigit, stringValue, DigitString}
+use Rattle.signed_digits.specs.Naf.{canonicalWidth}
+use Rattle.digit_strings.specs.Admission.{isDigit, stringValue, DigitString}
 use Rattle.digit_strings.specs.Raised.{raised}
 use Rattle.digit_strings.proofs.Digits.{digit-2}
 use Rattle.digit_strings.proofs.Raised.{raised-is}

@@ -14,7 +14,8 @@ use lib.Seq.{take-set-le, drop-set-lt, getD-set-same}
 use Rattle.integers.specs.Positional.{positional, bytesValue, Significant}
 use Rattle.integers.proofs.Positional.{Below, below-take, positional-drop, positional-split, positional-lt, positional-zeros}
 use Rattle.signed_digits.proofs.Parts.{positivePart, negativePart}
-use Rattle.digit_strings.specs.Admission.{canonicalWidth, stringValue, DigitString}
+use Rattle.signed_digits.specs.Naf.{canonicalWidth}
+use Rattle.digit_strings.specs.Admission.{stringValue, DigitString}
 use Rattle.integers.proofs.Bits.{power-of-bytes}
 use Rattle.integers.specs.Signed.{signOf}
 use Rattle.reading_digits.specs.Sums.{raisedSum, raisedZeros, bySign}

@@ -5,7 +5,7 @@ use mathlib.Core.List.{List, map}
 use lib.Dec.{eqb}
 use lib.ListN.{take, drop}
 use Rattle.integers.specs.Positional.{positional}
-use Rattle.digit_strings.specs.Admission.{canonicalWidth}
+use Rattle.signed_digits.specs.Naf.{canonicalWidth}
 use Rattle.digit_strings.specs.Raised.{raised}
 
 -- each digit raised by one: minus 1 is 0, 0 is 1, and 1 is 2

@@ -11,7 +11,8 @@ ghost use lib.IntN.{natAbs};
 ghost use lib.ListN.{length, take, drop};
 ghost use Rattle.integers.specs.Positional.{bytesValue, Significant};
 ghost use Rattle.integers.specs.Signed.{signOf};
-ghost use Rattle.digit_strings.specs.Admission.{canonicalWidth, stringValue, DigitString};
+ghost use Rattle.signed_digits.specs.Naf.{canonicalWidth};
+ghost use Rattle.digit_strings.specs.Admission.{stringValue, DigitString};
 ghost use Rattle.reading_digits.specs.Sums.{raisedSum, raisedZeros, bySign};
 
 // Enough bytes for the size of every digit string within the limit.

@@ -29,6 +29,9 @@ unfoldable pub naf : ℕ → ℤ → List ℤ
 naf w (pos n) = digitsOf w n n
 naf w (negsuc n) = map negℤ (digitsOf w (suc n) (suc n))
 
--- the canonical string of an integer
+-- the canonical string of an integer: that of width 2, whose digits are 0, 1 and -1
+abbrev pub canonicalWidth : ℕ
+canonicalWidth = 2
+
 abbrev pub canonical : ℤ → List ℤ
-canonical z = naf 2 z
+canonical z = naf canonicalWidth z

@@ -7,7 +7,7 @@ use mir.Val.{boolByte}
 use Rattle.rules.specs.Outcome.{Outcome, answered, done, refusal, unlessFailed}
 use Rattle.integers.specs.Positional.{bytesValue, wordsValue}
 use Rattle.numbers.specs.Admission.{numberVerdict}
-use Rattle.signed_digits.specs.Naf.{lowDigit, rest, canonical}
+use Rattle.signed_digits.specs.Naf.{lowDigit, rest, canonical, canonicalWidth}
 use Rattle.signed_digits.specs.Bytes.{digitByte, digitBytes}
 use Rattle.taking.specs.declared.Recoder.{Recoder}
 use Rattle.taking.specs.declared.Start.{Start}
@@ -32,12 +32,12 @@ startNumber number = unlessFailed (λ _. 0) (numberVerdict number) (bytesValue n
 -- what a take answers where the recoder stands for n: the lowest digit, or done where nothing is left
 abbrev pub takeAnswer : ℕ → Take
 takeAnswer zero = Done
-takeAnswer (suc n) = Digit (digitByte (lowDigit 2 (suc n)))
+takeAnswer (suc n) = Digit (digitByte (lowDigit canonicalWidth (suc n)))
 
 -- what the recoder handed back stands for
 abbrev pub takeLeaves : ℕ → ℕ
 takeLeaves zero = 0
-takeLeaves (suc n) = rest 2 (suc n)
+takeLeaves (suc n) = rest canonicalWidth (suc n)
 
 -- What a recoder holds inside may differ from one correct program to another. What is fixed is the number that it stands for, and with it every take to
 -- come (proofs/Takes.antt); and that done leaves the recoder itself unchanged.

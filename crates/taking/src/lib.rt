@@ -7,7 +7,7 @@ use rules::Verdict;
 use words::halved;
 use words::is_zero;
 ghost use mathlib.Core.Path.{_≡_};
-ghost use Rattle.signed_digits.specs.Naf.{lowDigit};
+ghost use Rattle.signed_digits.specs.Naf.{lowDigit, canonicalWidth};
 ghost use Rattle.signed_digits.specs.Bytes.{digitByte};
 ghost use Rattle.taking.specs.Take.{IsStart, IsTake};
 
@@ -90,7 +90,7 @@ impl Recoder {
 
 // The byte of the lowest digit of a number: 0, 1, 0, minus 1 by the remainder modulo 4.
 fn digit_byte(number: u64) -> u8
-    ensures { λ r. ⌜ r ≡ digitByte (lowDigit 2 number) ⌝ }
+    ensures { λ r. ⌜ r ≡ digitByte (lowDigit canonicalWidth number) ⌝ }
 {
     let bytes = [0, 1, 0, 255];
     bytes[(number % 4) as usize]

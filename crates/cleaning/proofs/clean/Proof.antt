@@ -5,8 +5,8 @@ use lib.ListN.{length, drop}
 use Rattle.rules.specs.declared.Verdict.the-variants.{Passed}
 use Rattle.rules.proofs.Returns.{returns-refused, returns-written}
 use Rattle.integers.specs.Tabulate.{tabulate}
-use Rattle.signed_digits.specs.Naf.{canonical}
-use Rattle.digit_strings.specs.Admission.{canonicalWidth, stringVerdict, stringValue}
+use Rattle.signed_digits.specs.Naf.{canonical, canonicalWidth}
+use Rattle.digit_strings.specs.Admission.{stringVerdict, stringValue}
 use Rattle.digit_strings.specs.Places.{placeByte}
 use Rattle.digit_strings.proofs.Tests.{digit-string-is}
 use Rattle.cleaning.specs.Clean.{cleaning}

@@ -7,7 +7,8 @@ use mir.Val.{Fits}
 use Rattle.rules.specs.declared.Verdict.the-variants.{Passed}
 use Rattle.rules.proofs.Returns.{returns-refused, returns-written}
 use Rattle.integers.specs.Signed.{signOf}
-use Rattle.digit_strings.specs.Admission.{canonicalWidth, stringVerdict, stringValue, DigitString}
+use Rattle.signed_digits.specs.Naf.{canonicalWidth}
+use Rattle.digit_strings.specs.Admission.{stringVerdict, stringValue, DigitString}
 use Rattle.digit_strings.proofs.Tests.{digit-string-is}
 use Rattle.reading.specs.ReadBack.{sizeBytes, withSign}
 use Rattle.reading.proofs.Outcomes.{size-is}

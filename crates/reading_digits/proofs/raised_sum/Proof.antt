@@ -4,7 +4,7 @@ use Prim.Native.Nat.{ℕ, _≤_, _-_, _+_, _*_}
 use native.Mathlib.Nat.{add-zero, sub-zero}
 use native.Mathlib.Omega.{arith}
 use lib.ListN.{getD}
-use Rattle.digit_strings.specs.Admission.{canonicalWidth}
+use Rattle.signed_digits.specs.Naf.{canonicalWidth}
 use Rattle.digit_strings.specs.Raised.{raised}
 use Rattle.reading_digits.specs.Sums.{raisedSum}
 use Rattle.reading_digits.proofs.Raised.{raised-none, raised-down, raised-byte}

@@ -26,8 +26,8 @@ pub fn check_step(step: Step, space: &mut [u8], n: usize) -> Verdict
     if !well_formed {
         return Verdict::Failed(Refusal::MalformedStep(i));
     }
-    let first = load(space, RECORD_BYTES * j);
     let second = load(space, RECORD_BYTES * k);
+    let first = load(space, RECORD_BYTES * j);
     let value = combined(first, second, step.operation != 0);
     if is_zero(value) {
         return Verdict::Failed(Refusal::ValueIsZero(i));

@@ -34,16 +34,16 @@ unfolding isWellFormed
 formed c = well-formed-is _ _ .0 (not-false _ (c .if1 .left))
 
 mul-load : tie.Need-mul-load
-mul-load c = omega (arith, formed (c .before) .first)
+mul-load c = omega (arith, formed (c .before) .second)
 
 load-requires : tie.Need-load-requires
-load-requires c κs = omega (arith, formed (c .before) .first)
+load-requires c κs = omega (arith, formed (c .before) .second)
 
 mul-load-2 : tie.Need-mul-load-2
-mul-load-2 c = omega (arith, formed (c .before .before .before) .second)
+mul-load-2 c = omega (arith, formed (c .before .before .before) .first)
 
 load-requires-2 : tie.Need-load-requires-2
-load-requires-2 c κs = omega (arith, formed (c .before .before .before) .second)
+load-requires-2 c κs = omega (arith, formed (c .before .before .before) .first)
 
 combined-requires : tie.Need-combined-requires
 combined-requires c κs = search needs
@@ -52,12 +52,12 @@ combined-requires c κs = search needs
 combines : (c : tie.After-combined)
     → let args = c .before .before .before .before .before .before .before .before .before .args in Gives (asStep (args .step)) (args .n) (args .space .now) (integerOf (c .combined .result))
 combines c =
-    let second = c .before .before in
-    let first = second .before .before in
-    let tests = first .before .before in
+    let first = c .before .before in
+    let second = first .before .before in
+    let tests = second .before .before in
     let args = tests .before .before .before .args in
-    combined-gives (asStep (args .step)) (args .n) (args .space .now) (integerOf (first .load .result)) (integerOf (second .load2 .result)) (integerOf (c .combined .result)) (formed tests)
-    (first .load .ensures .1) (second .load2 .ensures .1) (c .combined .ensures)
+    combined-gives (asStep (args .step)) (args .n) (args .space .now) (integerOf (first .load2 .result)) (integerOf (second .load .result)) (integerOf (c .combined .result)) (formed tests)
+    (first .load2 .ensures .1) (second .load .ensures .1) (c .combined .ensures)
 
 is-zero-requires : tie.Need-is-zero-requires
 is-zero-requires c κs = search needs

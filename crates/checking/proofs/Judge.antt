@@ -21,10 +21,10 @@ use Rattle.checking.specs.Check.{Judged, judge}
 -- ---- the step after n others, with the values of the positions below its own
 
 module _ (steps : List Step) (n : ℕ) (h : n < length steps) where
-  pub step-tested : Tested (suc n) (stepAt steps n) (at (valuesOf steps) (suc n)) (stepVerdict (valuesAfter steps n) (stepAt steps n))
+  step-tested : Tested (suc n) (stepAt steps n) (at (valuesOf steps) (suc n)) (stepVerdict (valuesAfter steps n) (stepAt steps n))
   step-tested = rw (length-after steps n (omega arith), ← value-at steps n h) at (tested (valuesAfter steps n) (stepAt steps n))
 
-  pub step-tested-only : {v : Verdict} → Tested (suc n) (stepAt steps n) (at (valuesOf steps) (suc n)) v → stepVerdict (valuesAfter steps n) (stepAt steps n) ≡ v
+  step-tested-only : {v : Verdict} → Tested (suc n) (stepAt steps n) (at (valuesOf steps) (suc n)) v → stepVerdict (valuesAfter steps n) (stepAt steps n) ≡ v
   step-tested-only t = tested-only (valuesAfter steps n) (stepAt steps n) (rw (length-after steps n (omega arith), ← value-at steps n h) t)
 
   -- it passes: on to the next
@@ -64,7 +64,7 @@ module _ (steps : List Step) where
   judge-end = rw (drop-length steps, after-all steps)
 
   -- what is sound can be left behind
-  pub judge-from : (n : ℕ) → n ≤ length steps → SoundTo steps n → judge start steps ≡ judge (valuesAfter steps n) (drop n steps)
+  judge-from : (n : ℕ) → n ≤ length steps → SoundTo steps n → judge start steps ≡ judge (valuesAfter steps n) (drop n steps)
   judge-from zero h b = rw (after-none steps)
   judge-from (suc n) h b =
       let here : SoundAt steps n = b n (omega arith) in

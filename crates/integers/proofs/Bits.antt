@@ -108,7 +108,7 @@ pub power-positive : (k : ℕ) → 0 < 256 ^ k
 power-positive k = rw (power-of-bytes k) (pow-pos (8 * k))
 
 -- a bound on the bytes from k on
-pub quotient-bound : (v k n : ℕ) → v / 256 ^ k < 2 ^ n ↔ v < 2 ^ (8 * k + n)
+quotient-bound : (v k n : ℕ) → v / 256 ^ k < 2 ^ n ↔ v < 2 ^ (8 * k + n)
 quotient-bound v k n =
     let s : 2 ^ n * 256 ^ k ≡ 2 ^ (8 * k + n) = rw (power-of-bytes k, ← pow-add) (ap (λ (i : ℕ). 2 ^ i) (omega arith)) in
     rw (← s) (div-lt-iff-lt-mul (power-positive k))
@@ -125,7 +125,7 @@ length-from v k (suc m) h l p =
 -- ---- elements of a power of two
 
 -- a bit stands in its element, at any base 2 ^ b
-pub bit-of-element : (b : ℕ) (l : List ℕ) (q r : ℕ) → r < b → Below (2 ^ b) l → getD l q 0 / 2 ^ r % 2 ≡ bit (positional (2 ^ b) l) (b * q + r)
+bit-of-element : (b : ℕ) (l : List ℕ) (q r : ℕ) → r < b → Below (2 ^ b) l → getD l q 0 / 2 ^ r % 2 ≡ bit (positional (2 ^ b) l) (b * q + r)
 unfolding bit
 bit-of-element b l q r h below =
     let v : ℕ = positional (2 ^ b) l in

@@ -86,7 +86,7 @@ pub positional-low : (base : ℕ) (l : List ℕ) → Below base l → positional
 positional-low base l b h = positional-at base l 0 b ∙ rw (pow-zero, div-one, mod-eq-of-lt h)
 
 -- zero is all zeros
-pub positional-zero : (base : ℕ) (l : List ℕ) → ((i : ℕ) → i < length l → getD l i 0 ≡ 0) → positional base l ≡ 0
+positional-zero : (base : ℕ) (l : List ℕ) → ((i : ℕ) → i < length l → getD l i 0 ≡ 0) → positional base l ≡ 0
 unfolding positional
 positional-zero base [] h = refl
 positional-zero base (x ∷ l) h = rw (h 0 (omega arith), positional-zero base l (λ i p. h (suc i) (omega arith)), mul-zero) refl

@@ -19,7 +19,7 @@ abbrev pub part : ℕ → ℕ → List ℕ → List ℕ
 part from count l = take count (drop from l)
 
 module _ (l : List ℕ) (from count : ℕ) (few : count ≤ 8) (fits : from + count ≤ length l) where
-  pub word-length : length (part from count l) ≡ count
+  word-length : length (part from count l) ≡ count
   word-length = length-take-le count (drop from l) (rw length-drop (omega arith))
 
   -- one byte more below what was read

@@ -197,11 +197,11 @@ fn agree(number: &[u8], string: &[u8], canonical: &[u8], longest: &[u8]) {
     assert_eq!(a, b);
 }
 
-fn counts(steps: sys::Steps) -> reference::Counts {
+fn counts(counts: sys::Counts) -> reference::Counts {
     reference::Counts {
-        doublings: steps.doublings,
-        additions: steps.additions,
-        subtractions: steps.subtractions,
+        doublings: counts.doublings,
+        additions: counts.additions,
+        subtractions: counts.subtractions,
     }
 }
 

@@ -18,13 +18,13 @@ fn refused(refusal: usize, place: usize, rest: &[usize]) -> Result<(), Refusal> 
     })
 }
 
-fn counts(steps: sys::Steps) -> Result<Counts, Refusal> {
-    let rest = [steps.doublings, steps.additions, steps.subtractions];
-    refused(steps.refusal, steps.place, &rest)?;
+fn counts(counts: sys::Counts) -> Result<Counts, Refusal> {
+    let rest = [counts.doublings, counts.additions, counts.subtractions];
+    refused(counts.refusal, counts.place, &rest)?;
     Ok(Counts {
-        doublings: steps.doublings,
-        additions: steps.additions,
-        subtractions: steps.subtractions,
+        doublings: counts.doublings,
+        additions: counts.additions,
+        subtractions: counts.subtractions,
     })
 }
 

@@ -19,10 +19,9 @@
 //! # Ok::<(), lesmutka::Refusal>(())
 //! ```
 #![cfg_attr(not(feature = "std"), no_std)]
-#![warn(missing_docs)]
+#![deny(missing_docs)]
 
 mod refusal;
-#[allow(missing_docs)]
 pub mod sys;
 
 pub use refusal::Refusal;
@@ -110,7 +109,7 @@ impl Counts {
         self.doublings + self.additions + self.subtractions
     }
 
-    fn of(steps: sys::Steps) -> Result<Counts, Refusal> {
+    fn of(steps: sys::Counts) -> Result<Counts, Refusal> {
         Refusal::of(steps.refusal, steps.place)?;
         Ok(Counts {
             doublings: steps.doublings,

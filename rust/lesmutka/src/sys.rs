@@ -2,12 +2,19 @@
 //! which keep the header's rule for pointers.
 //!
 //! [`crate`] has calls over all of them with idiomatic Rust answers.
+//!
+//! The rule for pointers: a pointer to bytes stands for as many bytes as the length after it says,
+//! and may be null if that is 0; a pointer to a recoder is not null and is aligned; what is written
+//! overlaps no other argument. The functions that begin with `lesmutka_` are unsafe because of it
+//! alone.
 
 /// What the start of taking answers.
 #[repr(C)]
 #[derive(Clone, Copy, Debug, PartialEq, Eq)]
 pub struct Started {
+    /// The number of the refusal, or 0.
     pub refusal: usize,
+    /// Its place, or 0.
     pub place: usize,
 }
 
@@ -15,41 +22,71 @@ pub struct Started {
 #[repr(C)]
 #[derive(Clone, Copy, Debug, PartialEq, Eq)]
 pub struct Length {
+    /// The number of the refusal, or 0.
     pub refusal: usize,
+    /// Its place, or 0.
     pub place: usize,
+    /// The bytes written.
     pub length: usize,
 }
 
-/// The sign, 1 below zero, and how many bytes of size were written.
+/// The sign, and how many bytes of size were written.
 #[repr(C)]
 #[derive(Clone, Copy, Debug, PartialEq, Eq)]
 pub struct Value {
+    /// The number of the refusal, or 0.
     pub refusal: usize,
+    /// Its place, or 0.
     pub place: usize,
+    /// 1 below zero, else 0.
     pub sign: usize,
+    /// The bytes of size written.
     pub length: usize,
 }
 
 /// How many steps of each kind.
 #[repr(C)]
 #[derive(Clone, Copy, Debug, PartialEq, Eq)]
-pub struct Steps {
+pub struct Counts {
+    /// The number of the refusal, or 0.
     pub refusal: usize,
+    /// Its place, or 0.
     pub place: usize,
+    /// Steps that add a position to itself.
     pub doublings: usize,
+    /// Other steps that add.
     pub additions: usize,
+    /// Steps that subtract.
     pub subtractions: usize,
+}
+
+/// What a reader of text answers.
+#[repr(C)]
+#[derive(Clone, Copy, Debug, PartialEq, Eq)]
+pub struct Parsed {
+    /// 1 if the text is a number and there was room for it, else 0.
+    pub is_number: usize,
+    /// How many digits come first, where [`lesmutka_decimal`] reads no number; else 0.
+    pub place: usize,
+    /// The bytes of the number.
+    pub length: usize,
 }
 
 /// The limits that the linked library keeps.
 #[repr(C)]
 #[derive(Clone, Copy, Debug, PartialEq, Eq)]
 pub struct Limits {
+    /// [`crate::NUMBER_BYTES`].
     pub number_bytes: usize,
+    /// [`crate::STRING_DIGITS`].
     pub string_digits: usize,
+    /// [`crate::STEP_BYTES`].
     pub step_bytes: usize,
+    /// [`crate::PLAN_STEPS`].
     pub plan_steps: usize,
+    /// [`crate::VALUE_BYTES`].
     pub value_bytes: usize,
+    /// [`crate::RECORD_BYTES`].
     pub record_bytes: usize,
 }
 
@@ -58,6 +95,7 @@ pub struct Limits {
 #[repr(C)]
 #[derive(Clone, Copy, Debug, PartialEq, Eq)]
 pub struct Recoder {
+    /// The words of the number, then the carry.
     pub words: [u64; crate::NUMBER_BYTES / 8 + 1],
 }
 
@@ -65,11 +103,17 @@ pub struct Recoder {
 pub const DONE: u32 = 0x100;
 
 extern "C" {
+    /// Writes the canonical string of a number. Refused: 1, 6.
     pub fn lesmutka_recode(number: *const u8, number_length: usize, out: *mut u8, out_length: usize) -> Length;
+    /// Starts taking the canonical digits of a number. Refused: 1; the recoder is then that of zero.
     pub fn lesmutka_start(number: *const u8, number_length: usize, recoder: *mut Recoder) -> Started;
+    /// Takes the lowest digit that is left: its byte, or [`DONE`].
     pub fn lesmutka_take(recoder: *mut Recoder) -> u32;
+    /// Writes the canonical string of a digit string's value. Refused: 5, 4, 6.
     pub fn lesmutka_clean(digits: *const u8, digits_length: usize, out: *mut u8, out_length: usize) -> Length;
+    /// Writes the size of a digit string's value, and answers the sign. Refused: 5, 4, 6.
     pub fn lesmutka_read_back(digits: *const u8, digits_length: usize, out: *mut u8, out_length: usize) -> Value;
+    /// Writes the plan for a number by a method. Refused: 1, 2, 3, 6.
     pub fn lesmutka_plan(
         number: *const u8,
         number_length: usize,
@@ -77,8 +121,10 @@ extern "C" {
         width: u32,
         out: *mut u8,
         out_length: usize,
-    ) -> Steps;
-    pub fn lesmutka_forecast(number: *const u8, number_length: usize, method: u32, width: u32) -> Steps;
+    ) -> Counts;
+    /// The counts of that plan, without it. Refused: 1, 2, 3.
+    pub fn lesmutka_forecast(number: *const u8, number_length: usize, method: u32, width: u32) -> Counts;
+    /// Checks a plan for a number. Refused: 1, 2, 7, 8, then 9, 10 or 11, then 12.
     pub fn lesmutka_check(
         number: *const u8,
         number_length: usize,
@@ -86,8 +132,17 @@ extern "C" {
         plan_length: usize,
         space: *mut u8,
         space_length: usize,
-    ) -> Steps;
+    ) -> Counts;
+    /// Reads a hexadecimal number. Nothing is written where the text is none.
+    pub fn lesmutka_hexadecimal(text: *const u8, text_length: usize, out: *mut u8, out_length: usize) -> Parsed;
+    /// Reads a decimal number. Nothing is written where the text is none.
+    pub fn lesmutka_decimal(text: *const u8, text_length: usize, out: *mut u8, out_length: usize) -> Parsed;
+    /// Writes a refusal in plain words. Refused: 6.
+    pub fn lesmutka_write_words(refusal: usize, out: *mut u8, out_length: usize) -> Length;
+    /// The limits that the library keeps.
     pub fn lesmutka_limits() -> Limits;
+    /// The library's version: 10000 times the major, 100 times the minor, and the patch.
+    pub fn lesmutka_version() -> u32;
 }
 
 // SAFETY of each call below: a slice's pointer stands for as many bytes as its length says, a `&mut`
@@ -128,26 +183,50 @@ pub fn read_back(digits: &[u8], out: &mut [u8]) -> Value {
 
 /// [`lesmutka_plan`] over slices.
 #[inline]
-pub fn plan(number: &[u8], method: u32, width: u32, out: &mut [u8]) -> Steps {
+pub fn plan(number: &[u8], method: u32, width: u32, out: &mut [u8]) -> Counts {
     let (bytes, room) = (number.len(), out.len());
     unsafe { lesmutka_plan(number.as_ptr(), bytes, method, width, out.as_mut_ptr(), room) }
 }
 
 /// [`lesmutka_forecast`] over a slice.
 #[inline]
-pub fn forecast(number: &[u8], method: u32, width: u32) -> Steps {
+pub fn forecast(number: &[u8], method: u32, width: u32) -> Counts {
     unsafe { lesmutka_forecast(number.as_ptr(), number.len(), method, width) }
 }
 
 /// [`lesmutka_check`] over slices.
 #[inline]
-pub fn check(number: &[u8], plan: &[u8], space: &mut [u8]) -> Steps {
+pub fn check(number: &[u8], plan: &[u8], space: &mut [u8]) -> Counts {
     let (bytes, steps, room) = (number.len(), plan.len(), space.len());
     unsafe { lesmutka_check(number.as_ptr(), bytes, plan.as_ptr(), steps, space.as_mut_ptr(), room) }
+}
+
+/// [`lesmutka_hexadecimal`] over slices.
+#[inline]
+pub fn hexadecimal(text: &[u8], out: &mut [u8]) -> Parsed {
+    unsafe { lesmutka_hexadecimal(text.as_ptr(), text.len(), out.as_mut_ptr(), out.len()) }
+}
+
+/// [`lesmutka_decimal`] over slices.
+#[inline]
+pub fn decimal(text: &[u8], out: &mut [u8]) -> Parsed {
+    unsafe { lesmutka_decimal(text.as_ptr(), text.len(), out.as_mut_ptr(), out.len()) }
+}
+
+/// [`lesmutka_write_words`] over a slice.
+#[inline]
+pub fn write_words(refusal: usize, out: &mut [u8]) -> Length {
+    unsafe { lesmutka_write_words(refusal, out.as_mut_ptr(), out.len()) }
 }
 
 /// [`lesmutka_limits`].
 #[inline]
 pub fn limits() -> Limits {
     unsafe { lesmutka_limits() }
+}
+
+/// [`lesmutka_version`].
+#[inline]
+pub fn version() -> u32 {
+    unsafe { lesmutka_version() }
 }

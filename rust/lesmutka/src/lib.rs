@@ -18,16 +18,33 @@
 //! assert_eq!(check(&number, plan.bytes, &mut space), Ok(plan.counts));
 //! # Ok::<(), lesmutka::Refusal>(())
 //! ```
+//!
+//! To link, set `LESMUTKA_LIB_DIR` to the folder that holds liblesmutka.a, which is for x86-64 Linux.
+//! In the library's own repository it is found where `rt staticlib lesmutka` writes it.
 #![cfg_attr(not(feature = "std"), no_std)]
 #![deny(missing_docs)]
 
+mod digits;
+// Before Rust 1.81 only std has the trait `Error`.
+#[cfg(any(lesmutka_core_error, feature = "std"))]
+mod error;
+mod method;
+mod plans;
 mod refusal;
 pub mod sys;
+mod values;
 
+pub use digits::{digits, Digits};
+pub use method::{Method, ParseMethodError};
+pub use plans::{Counts, ParseStepError, Plan, Step, Steps};
 pub use refusal::Refusal;
+pub use values::{records, Records, Value};
 
-use core::iter::FusedIterator;
 use core::slice;
+
+/// The version of the library that this crate is written for: 10000 times the major, 100 times the
+/// minor, and the patch.
+pub const VERSION: u32 = 200;
 
 /// The most bytes of a number.
 pub const NUMBER_BYTES: usize = 32;
@@ -55,86 +72,16 @@ pub const READ_BACK_ROOM: usize = STRING_DIGITS / 8;
 /// Room for every plan.
 pub const PLAN_ROOM: usize = STEP_BYTES * PLAN_STEPS;
 
-/// The work space that [`check`] takes for a plan of this many steps.
+/// The work space that [`check`] takes for a plan of this many steps. Where that is more than a
+/// `usize` holds, `usize::MAX`, which is longer than any slice.
 pub const fn work_space(steps: usize) -> usize {
-    RECORD_BYTES * (steps + 1)
+    RECORD_BYTES.saturating_mul(steps.saturating_add(1))
 }
 
-/// How to plan.
-#[derive(Clone, Copy, Debug, PartialEq, Eq, Hash)]
-#[non_exhaustive]
-pub enum Method {
-    /// 1: double for each bit below the top, add for each 1.
-    Binary,
-    /// 2: windows of this many bits, 1 to [`FIXED_WINDOW_BITS`], cut from the low end.
-    FixedWindows(u32),
-    /// 3: windows of at most this many bits, 1 to [`SLIDING_WINDOW_BITS`], that begin and end in 1.
-    SlidingWindows(u32),
-    /// 4: the non-adjacent form's digits, from the top.
-    Naf,
-}
-
-impl Method {
-    fn number(self) -> u32 {
-        match self {
-            Method::Binary => 1,
-            Method::FixedWindows(_) => 2,
-            Method::SlidingWindows(_) => 3,
-            Method::Naf => 4,
-        }
-    }
-
-    fn width(self) -> u32 {
-        match self {
-            Method::FixedWindows(width) | Method::SlidingWindows(width) => width,
-            Method::Binary | Method::Naf => 0,
-        }
-    }
-}
-
-/// How many steps a plan has of each kind.
-#[derive(Clone, Copy, Debug, PartialEq, Eq, Hash)]
-pub struct Counts {
-    /// Steps that add a position to itself.
-    pub doublings: usize,
-    /// Other steps that add.
-    pub additions: usize,
-    /// Steps that subtract.
-    pub subtractions: usize,
-}
-
-impl Counts {
-    /// All steps.
-    pub fn total(self) -> usize {
-        self.doublings + self.additions + self.subtractions
-    }
-
-    fn of(steps: sys::Counts) -> Result<Counts, Refusal> {
-        Refusal::of(steps.refusal, steps.place)?;
-        Ok(Counts {
-            doublings: steps.doublings,
-            additions: steps.additions,
-            subtractions: steps.subtractions,
-        })
-    }
-}
-
-/// A plan that was written, and the counts of its steps.
-#[derive(Clone, Copy, Debug, PartialEq, Eq)]
-pub struct Plan<'a> {
-    /// The steps.
-    pub bytes: &'a [u8],
-    /// How many of each kind.
-    pub counts: Counts,
-}
-
-/// The value of a digit string: its sign and its size.
-#[derive(Clone, Copy, Debug, PartialEq, Eq)]
-pub struct Value<'a> {
-    /// Whether it is below zero.
-    pub is_negative: bool,
-    /// The size, with no high zero byte.
-    pub size: &'a [u8],
+/// Room for every answer of [`hexadecimal`] and [`decimal`] to a text of this length: half of it,
+/// rounded up.
+pub const fn text_room(length: usize) -> usize {
+    length / 2 + length % 2
 }
 
 /// Digits as the library reads them: a digit's byte is that of the same i8.
@@ -156,7 +103,15 @@ fn written(answer: sys::Length) -> Result<usize, Refusal> {
 
 /// Writes the canonical string of a number, its non-adjacent form, and hands it back.
 ///
-/// Refusals: 1, 6. [`RECODE_ROOM`] is always enough.
+/// # Errors
+///
+/// Refusals 1, 6. [`RECODE_ROOM`] is always enough.
+///
+/// ```
+/// let mut room = [0; lesmutka::RECODE_ROOM];
+/// assert_eq!(lesmutka::recode(&[3], &mut room)?, [-1, 0, 1]);
+/// # Ok::<(), lesmutka::Refusal>(())
+/// ```
 pub fn recode<'a>(number: &[u8], out: &'a mut [i8]) -> Result<&'a [i8], Refusal> {
     let length = written(sys::recode(number, bytes_of_mut(out)))?;
     Ok(&out[..length])
@@ -164,7 +119,15 @@ pub fn recode<'a>(number: &[u8], out: &'a mut [i8]) -> Result<&'a [i8], Refusal>
 
 /// Writes the canonical string of a digit string's value and hands it back.
 ///
-/// Refusals: 5, 4, 6. [`CLEAN_ROOM`] is always enough.
+/// # Errors
+///
+/// Refusals 5, 4, 6. [`CLEAN_ROOM`] is always enough.
+///
+/// ```
+/// let mut room = [0; lesmutka::CLEAN_ROOM];
+/// assert_eq!(lesmutka::clean(&[1, 1, 1], &mut room)?, [-1, 0, 0, 1]);
+/// # Ok::<(), lesmutka::Refusal>(())
+/// ```
 pub fn clean<'a>(digits: &[i8], out: &'a mut [i8]) -> Result<&'a [i8], Refusal> {
     let length = written(sys::clean(bytes_of(digits), bytes_of_mut(out)))?;
     Ok(&out[..length])
@@ -172,7 +135,16 @@ pub fn clean<'a>(digits: &[i8], out: &'a mut [i8]) -> Result<&'a [i8], Refusal> 
 
 /// Reads a digit string back: writes the size of its value, and hands it back with the sign.
 ///
-/// Refusals: 5, 4, 6. [`READ_BACK_ROOM`] is always enough.
+/// # Errors
+///
+/// Refusals 5, 4, 6. [`READ_BACK_ROOM`] is always enough.
+///
+/// ```
+/// let mut room = [0; lesmutka::READ_BACK_ROOM];
+/// let value = lesmutka::read_back(&[1, 0, 1, 0, 1, 0, -1], &mut room)?;
+/// assert_eq!(value.to_string(), "-0x2b");
+/// # Ok::<(), lesmutka::Refusal>(())
+/// ```
 pub fn read_back<'a>(digits: &[i8], out: &'a mut [u8]) -> Result<Value<'a>, Refusal> {
     let answer = sys::read_back(bytes_of(digits), out);
     Refusal::of(answer.refusal, answer.place)?;
@@ -184,7 +156,9 @@ pub fn read_back<'a>(digits: &[i8], out: &'a mut [u8]) -> Result<Value<'a>, Refu
 
 /// Writes the plan for a number by a method, and hands it back with the counts of its steps.
 ///
-/// Refusals: 1, 2, 3, 6. [`PLAN_ROOM`] is always enough.
+/// # Errors
+///
+/// Refusals 1, 2, 3, 6. [`PLAN_ROOM`] is always enough.
 pub fn plan<'a>(number: &[u8], method: Method, out: &'a mut [u8]) -> Result<Plan<'a>, Refusal> {
     let counts = Counts::of(sys::plan(number, method.number(), method.width(), out))?;
     Ok(Plan {
@@ -195,60 +169,91 @@ pub fn plan<'a>(number: &[u8], method: Method, out: &'a mut [u8]) -> Result<Plan
 
 /// The counts of the plan that [`plan`] gives for the same number and method, without the plan.
 ///
-/// Refusals: 1, 2, 3.
+/// # Errors
+///
+/// Refusals 1, 2, 3.
+///
+/// ```
+/// use lesmutka::{forecast, Method};
+///
+/// // The method that takes the fewest steps.
+/// let steps = |method: &Method| forecast(&[0xff; 32], *method).map_or(usize::MAX, |counts| counts.total());
+/// assert_eq!(Method::ALL.iter().copied().min_by_key(steps), Some(Method::Naf));
+/// ```
 pub fn forecast(number: &[u8], method: Method) -> Result<Counts, Refusal> {
     Counts::of(sys::forecast(number, method.number(), method.width()))
 }
 
 /// Checks a plan for a number: each step is sound, and the last value is the number. Answers the
-/// counts of its steps. The work space then holds a record of [`RECORD_BYTES`] for each position.
+/// counts of its steps. The work space then holds a record of [`RECORD_BYTES`] for each position,
+/// which [`records`] reads.
 ///
-/// Refusals: 1, 2, 7, 8, then 9, 10 or 11 at the first step that is not sound, then 12. At 9 to 11
+/// # Errors
+///
+/// Refusals 1, 2, 7, 8, then 9, 10 or 11 at the first step that is not sound, then 12. At 9 to 11
 /// the records below that step are filled, at 12 all.
 pub fn check(number: &[u8], plan: &[u8], space: &mut [u8]) -> Result<Counts, Refusal> {
     Counts::of(sys::check(number, plan, space))
 }
 
-/// The canonical digits of a number one by one, lowest first.
-///
-/// Refusal: 1.
+/// Reads a hexadecimal number, with `0x` or `0X` in front or without: writes its bytes and hands
+/// them back, one for two digits, so zeros in front count. None if there is no digit, if there is
+/// anything else, or if the room is too small. [`text_room`] of the text's length is always enough.
 ///
 /// ```
-/// let digits: Vec<i8> = lesmutka::digits(&[43])?.collect();
-/// assert_eq!(digits, [-1, 0, -1, 0, -1, 0, 1]);
-/// # Ok::<(), lesmutka::Refusal>(())
+/// use lesmutka::hexadecimal;
+///
+/// let mut room = [0; 2];
+/// assert_eq!(hexadecimal(b"0x12b", &mut room), Some(&[0x2b, 0x01][..]));
+/// assert_eq!(hexadecimal(b"002b", &mut room), Some(&[0x2b, 0x00][..]));
+/// assert_eq!(hexadecimal(b"2g", &mut room), None);
 /// ```
-pub fn digits(number: &[u8]) -> Result<Digits, Refusal> {
-    let mut recoder = sys::Recoder {
-        words: [0; NUMBER_BYTES / 8 + 1],
-    };
-    let answer = sys::start(number, &mut recoder);
-    Refusal::of(answer.refusal, answer.place)?;
-    Ok(Digits { recoder })
-}
-
-/// The canonical digits of a number that are left, lowest first. It keeps what it needs, so the
-/// number may be gone; a clone goes on alone.
-#[derive(Clone, Debug)]
-pub struct Digits {
-    recoder: sys::Recoder,
-}
-
-impl Iterator for Digits {
-    type Item = i8;
-
-    fn next(&mut self) -> Option<i8> {
-        sys::take(&mut self.recoder).map(|byte| byte as i8)
-    }
-
-    fn size_hint(&self) -> (usize, Option<usize>) {
-        (0, Some(RECODE_ROOM))
+pub fn hexadecimal<'a>(text: &[u8], out: &'a mut [u8]) -> Option<&'a [u8]> {
+    let answer = sys::hexadecimal(text, out);
+    match answer.is_number {
+        0 => None,
+        _ => Some(&out[..answer.length]),
     }
 }
 
-impl FusedIterator for Digits {}
+/// Reads a decimal number: writes its bytes and hands them back without high zero bytes. The room
+/// has to be [`text_room`] of the text's length, and all of that is written.
+///
+/// # Errors
+///
+/// How many digits come before the first byte that is none: the text's length, where the text is
+/// empty or the room is too small.
+///
+/// ```
+/// use lesmutka::{decimal, text_room};
+///
+/// let mut room = [0; text_room(3)];
+/// assert_eq!(decimal(b"299", &mut room), Ok(&[0x2b, 0x01][..]));
+/// assert_eq!(decimal(b"29x", &mut room), Err(2));
+/// ```
+pub fn decimal<'a>(text: &[u8], out: &'a mut [u8]) -> Result<&'a [u8], usize> {
+    let answer = sys::decimal(text, out);
+    match answer.is_number {
+        0 => Err(answer.place),
+        _ => Ok(&out[..answer.length]),
+    }
+}
+
+/// A decimal number of at most 10 digits, if it fits.
+fn small(text: &str) -> Option<u32> {
+    let mut room = [0; text_room(10)];
+    let bytes = decimal(text.as_bytes(), &mut room).ok()?;
+    let mut number = [0; 4];
+    number.get_mut(..bytes.len())?.copy_from_slice(bytes);
+    Some(u32::from_le_bytes(number))
+}
 
 /// The limits that the linked library keeps; they equal the constants of this crate.
 pub fn limits() -> sys::Limits {
     sys::limits()
+}
+
+/// The version of the linked library, written as [`VERSION`] is.
+pub fn version() -> u32 {
+    sys::version()
 }

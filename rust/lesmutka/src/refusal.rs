@@ -1,12 +1,11 @@
 //! Why a call refuses.
-use crate::{NUMBER_BYTES, PLAN_STEPS, STEP_BYTES, STRING_DIGITS, VALUE_BYTES};
 use core::fmt;
 
 /// Why a call refuses. A case holds its place if that can be other than 0.
 #[derive(Clone, Copy, Debug, PartialEq, Eq, Hash)]
 #[non_exhaustive]
 pub enum Refusal {
-    /// 1: the number is longer than [`NUMBER_BYTES`].
+    /// 1: the number is longer than [`crate::NUMBER_BYTES`].
     NumberTooLong,
     /// 2: the number is zero.
     NumberIsZero,
@@ -17,14 +16,14 @@ pub enum Refusal {
         /// The lowest such place.
         place: usize,
     },
-    /// 5: the digit string is longer than [`STRING_DIGITS`].
+    /// 5: the digit string is longer than [`crate::STRING_DIGITS`].
     StringTooLong,
     /// 6: the output needs more bytes than lent.
     RoomTooSmall {
         /// The bytes needed.
         needed: usize,
     },
-    /// 7: the plan is no whole number of steps, or has more than [`PLAN_STEPS`].
+    /// 7: the plan is no whole number of steps, or has more than [`crate::PLAN_STEPS`].
     PlanLength,
     /// 8: the work space is shorter than [`crate::work_space`] of the plan's steps.
     WorkSpaceTooShort,
@@ -38,7 +37,7 @@ pub enum Refusal {
         /// The step, counted from 1.
         step: usize,
     },
-    /// 11: the value at the step has a size of more than [`VALUE_BYTES`] bytes.
+    /// 11: the value at the step has a size of more than [`crate::VALUE_BYTES`] bytes.
     ValueTooLarge {
         /// The step, counted from 1.
         step: usize,
@@ -46,13 +45,13 @@ pub enum Refusal {
     /// 12: all steps are sound, and the last value is not the number.
     WrongEnd {
         /// How many steps there are.
-        step: usize,
+        steps: usize,
     },
 }
 
 impl Refusal {
     /// The number of the refusal (docs/RULES.md, 6.1).
-    pub fn number(self) -> u8 {
+    pub const fn number(self) -> u8 {
         match self {
             Refusal::NumberTooLong => 1,
             Refusal::NumberIsZero => 2,
@@ -69,16 +68,35 @@ impl Refusal {
         }
     }
 
-    /// The place of the refusal: a digit's place, the bytes needed, a step; else 0.
-    pub fn place(self) -> usize {
+    /// The place of the refusal: a digit's place, the bytes needed, a step, how many steps; else 0.
+    pub const fn place(self) -> usize {
         match self {
             Refusal::NotADigit { place } => place,
             Refusal::RoomTooSmall { needed } => needed,
-            Refusal::MalformedStep { step }
-            | Refusal::ValueIsZero { step }
-            | Refusal::ValueTooLarge { step }
-            | Refusal::WrongEnd { step } => step,
+            Refusal::MalformedStep { step } | Refusal::ValueIsZero { step } | Refusal::ValueTooLarge { step } => step,
+            Refusal::WrongEnd { steps } => steps,
             _ => 0,
+        }
+    }
+
+    /// The refusal in plain words, without its number and place. They are those of
+    /// [`crate::sys::write_words`].
+    pub const fn message(self) -> &'static str {
+        match self {
+            Refusal::NumberTooLong => "the number is too long",
+            Refusal::NumberIsZero => "the number is zero",
+            Refusal::MethodOrWidth => "no such method, or a width that it does not allow",
+            Refusal::NotADigit { .. } => "the digit at this place is none of 0, 1, -1",
+            Refusal::StringTooLong => "the digit string is too long",
+            Refusal::RoomTooSmall { .. } => "the output needs this many bytes",
+            Refusal::PlanLength => "the plan is no whole number of steps, or has too many",
+            Refusal::WorkSpaceTooShort => "the work space is too short for the plan",
+            Refusal::MalformedStep { .. } => {
+                "this step has an unknown operation, or a position that is not below its own"
+            }
+            Refusal::ValueIsZero { .. } => "the value at this step is zero",
+            Refusal::ValueTooLarge { .. } => "the value at this step is too large",
+            Refusal::WrongEnd { .. } => "the last value, at this position, is not the number",
         }
     }
 
@@ -97,45 +115,9 @@ impl Refusal {
             9 => Refusal::MalformedStep { step: place },
             10 => Refusal::ValueIsZero { step: place },
             11 => Refusal::ValueTooLarge { step: place },
-            12 => Refusal::WrongEnd { step: place },
+            12 => Refusal::WrongEnd { steps: place },
             _ => unreachable!("the library gives no other refusal"),
         })
-    }
-
-    /// The refusal in plain words, without its number and place.
-    pub fn message(self) -> impl fmt::Display {
-        Message(self)
-    }
-}
-
-struct Message(Refusal);
-
-impl fmt::Display for Message {
-    fn fmt(&self, f: &mut fmt::Formatter<'_>) -> fmt::Result {
-        match self.0 {
-            Refusal::NumberTooLong => write!(f, "the number is longer than {} bytes", NUMBER_BYTES),
-            Refusal::NumberIsZero => f.write_str("the number is zero"),
-            Refusal::MethodOrWidth => f.write_str("no such method, or a width that it does not allow"),
-            Refusal::NotADigit { .. } => f.write_str("the digit at this place is none of 0, 1, -1"),
-            Refusal::StringTooLong => write!(f, "the digit string is longer than {} digits", STRING_DIGITS),
-            Refusal::RoomTooSmall { .. } => f.write_str("the output needs this many bytes"),
-            Refusal::PlanLength => {
-                write!(
-                    f,
-                    "the plan is no whole number of steps of {} bytes, or has more than {} steps",
-                    STEP_BYTES, PLAN_STEPS
-                )
-            }
-            Refusal::WorkSpaceTooShort => f.write_str("the work space is too short for the plan"),
-            Refusal::MalformedStep { .. } => {
-                f.write_str("this step has an unknown operation, or a position that is not below its own")
-            }
-            Refusal::ValueIsZero { .. } => f.write_str("the value at this step is zero"),
-            Refusal::ValueTooLarge { .. } => {
-                write!(f, "the value at this step has a size of 2^{} or more", 8 * VALUE_BYTES)
-            }
-            Refusal::WrongEnd { .. } => f.write_str("the last value, at this position, is not the number"),
-        }
     }
 }
 
@@ -150,6 +132,3 @@ impl fmt::Display for Refusal {
         )
     }
 }
-
-#[cfg(feature = "std")]
-impl std::error::Error for Refusal {}

@@ -59,7 +59,69 @@ fn a_clone_goes_on_alone() {
     let mut first = digits(&[43]).unwrap();
     assert_eq!(first.next(), Some(-1));
     let second = first.clone();
-    assert_eq!(first.collect::<Vec<_>>(), second.collect::<Vec<_>>());
+    assert_eq!(first.by_ref().count(), 6);
+    assert_eq!((first.len(), second.len()), (0, 6));
+    assert_eq!(second.collect::<Vec<_>>(), [0, -1, 0, -1, 0, 1]);
+}
+
+/// As many digits are left as recode writes, less those taken.
+fn digits_left(number: &[u8]) {
+    let mut room = [7; RECODE_ROOM];
+    let length = recode(number, &mut room).unwrap().len();
+    let mut taken = digits(number).unwrap();
+    for left in (0..=length).rev() {
+        assert_eq!(taken.size_hint(), (left, Some(left)), "{:x?}", number);
+        assert_eq!(taken.next().is_some(), left > 0, "{:x?}", number);
+    }
+    assert_eq!(taken.len(), 0);
+}
+
+#[test]
+fn how_many_digits_are_left() {
+    for number in 0..5000u16 {
+        digits_left(&number.to_le_bytes());
+    }
+    // Each power of two, one less, one more, and a third of it: where the length changes.
+    for bit in 0..8 * NUMBER_BYTES {
+        let mut power = [0; NUMBER_BYTES];
+        power[bit / 8] = 1 << (bit % 8);
+        digits_left(&power);
+        let mut less = [0; NUMBER_BYTES];
+        less[..bit / 8].fill(0xff);
+        less[bit / 8] = power[bit / 8] - 1;
+        digits_left(&less);
+        let third = less.map(|byte| byte & 0x55);
+        digits_left(&third);
+        digits_left(&less.map(|byte| byte & 0xaa));
+        let mut more = third;
+        more[0] += 1;
+        digits_left(&more);
+        power[0] |= 1;
+        digits_left(&power);
+    }
+    let mut noise = Noise(1);
+    for _ in 0..3000 {
+        let length = noise.next() as usize % (NUMBER_BYTES + 1);
+        let number: Vec<u8> = (0..length).map(|_| noise.byte()).collect();
+        digits_left(&number);
+    }
+}
+
+/// Bytes without a pattern (xorshift), some of them runs of 0 or 1.
+struct Noise(u64);
+
+impl Noise {
+    fn next(&mut self) -> u64 {
+        self.0 ^= self.0 << 13;
+        self.0 ^= self.0 >> 7;
+        self.0 ^= self.0 << 17;
+        self.0 >> 8
+    }
+
+    fn byte(&mut self) -> u8 {
+        let byte = self.next() as u8;
+        [0x00, 0xff, 0x55, byte, byte, byte][self.next() as usize % 6]
+    }
 }
 
 #[test]
@@ -163,7 +225,7 @@ fn checking() {
     assert_eq!(check(&[1], &[], &mut space[..record]).unwrap().total(), 0);
     assert_eq!(
         check(&[2], &[], &mut space[..record]),
-        Err(Refusal::WrongEnd { step: 0 })
+        Err(Refusal::WrongEnd { steps: 0 })
     );
     assert_eq!(check(&[1], &[], &mut space[..less]), Err(Refusal::WorkSpaceTooShort));
     assert_eq!(check(&[1], &[0; STEP_BYTES - 1], &mut space), Err(Refusal::PlanLength));
@@ -182,7 +244,7 @@ fn checking() {
     let bits = 8 * VALUE_BYTES;
     assert_eq!(
         check(&[1], &doublings(bits - 1), &mut space),
-        Err(Refusal::WrongEnd { step: bits - 1 })
+        Err(Refusal::WrongEnd { steps: bits - 1 })
     );
     assert_eq!(
         check(&[1], &doublings(bits), &mut space),
@@ -193,12 +255,12 @@ fn checking() {
     let counts = check(&[3], &through_minus_one, &mut space).unwrap();
     assert_eq!((counts.doublings, counts.additions, counts.subtractions), (1, 0, 2));
     // a plan that ends at -1 is no plan for 1
-    let end = Err(Refusal::WrongEnd { step: 2 });
+    let end = Err(Refusal::WrongEnd { steps: 2 });
     assert_eq!(check(&[1], &through_minus_one[..10], &mut space), end);
 }
 
 #[test]
-fn records() {
+fn the_bytes_of_records() {
     let mut space = [7; 4 * RECORD_BYTES + 1];
     check(&[3], &[0, 0, 0, 0, 0, 1, 0, 0, 1, 0, 1, 1, 0, 2, 0], &mut space).unwrap();
     let mut expected = Vec::new();
@@ -217,6 +279,416 @@ fn a_refusal_prints_number_place_and_words() {
         refusal.to_string(),
         "refused 6, place 3: the output needs this many bytes"
     );
-    let error: Box<dyn std::error::Error> = Box::new(refusal);
-    assert_eq!(error.to_string(), refusal.to_string());
+}
+
+// As in the crate: without std, only from Rust 1.81 on.
+#[cfg(any(lesmutka_core_error, feature = "std"))]
+#[test]
+fn refusals_and_parse_errors_are_errors() {
+    fn words(error: &dyn std::error::Error) -> String {
+        error.to_string()
+    }
+    assert_eq!(words(&Refusal::NumberIsZero), "refused 2, place 0: the number is zero");
+    assert_eq!(
+        words(&"five".parse::<Method>().unwrap_err()),
+        "a method is binary, fixed and a width of 1 to 6, sliding and a width of 1 to 6, or naf; \
+         1 to 4 may stand for the names"
+    );
+    assert_eq!(
+        words(&"add".parse::<Step>().unwrap_err()),
+        "a step is add(j,k) or subtract(j,k), j and k from 0 to 65535"
+    );
+}
+
+#[test]
+fn where_a_plan_ends() {
+    let refusal = check(&[2], &[], &mut [7; RECORD_BYTES]).unwrap_err();
+    assert_eq!((refusal.number(), refusal.place()), (12, 0));
+    assert_eq!(Refusal::WrongEnd { steps: 9 }.place(), 9);
+}
+
+#[test]
+fn a_step_as_bytes() {
+    for (step, bytes) in [
+        (Step::Add(0, 0), [0, 0, 0, 0, 0]),
+        (Step::Add(1, 0x0203), [0, 1, 0, 3, 2]),
+        (Step::Subtract(0xfffe, 7), [1, 0xfe, 0xff, 7, 0]),
+    ] {
+        assert_eq!(step.to_bytes(), bytes);
+        assert_eq!(Step::from_bytes(bytes), Some(step));
+    }
+    for operation in 2..=255 {
+        assert_eq!(Step::from_bytes([operation, 0, 0, 0, 0]), None);
+    }
+}
+
+#[test]
+fn a_step_as_text() {
+    for (step, text) in [
+        (Step::Add(0, 0), "add(0,0)"),
+        (Step::Subtract(2, 0), "subtract(2,0)"),
+        (Step::Add(65535, 1000), "add(65535,1000)"),
+    ] {
+        assert_eq!(step.to_string(), text);
+        assert_eq!(text.parse(), Ok(step));
+    }
+    for text in [
+        "",
+        "add",
+        "add()",
+        "add(0)",
+        "add(,)",
+        "add(0,)",
+        "add(,0)",
+        "add(0,0",
+        "add0,0)",
+        "add(0,0))",
+        "add((0,0)",
+        "add(0,0,0)",
+        "add(0,0) ",
+        " add(0,0)",
+        "add (0,0)",
+        "add(0, 0)",
+        "add(00,0)",
+        "add(01,0)",
+        "add(+1,0)",
+        "add(-1,0)",
+        "add(0x1,0)",
+        "add(a,0)",
+        "add(65536,0)",
+        "add(0,65536)",
+        "add(4294967296,0)",
+        "add(18446744073709551616,0)",
+        "Add(0,0)",
+        "sub(0,0)",
+        "double(0,0)",
+        "(0,0)",
+    ] {
+        assert!(text.parse::<Step>().is_err(), "{:?}", text);
+    }
+}
+
+#[test]
+fn which_steps_double() {
+    assert!(Step::Add(0, 0).is_doubling());
+    assert!(Step::Add(300, 300).is_doubling());
+    assert!(!Step::Add(1, 0).is_doubling());
+    assert!(!Step::Add(256, 0).is_doubling());
+    assert!(!Step::Subtract(1, 1).is_doubling());
+}
+
+/// The counts, counted step by step.
+fn counted(steps: Steps<'_>) -> Counts {
+    let mut counts = Counts::default();
+    for step in steps {
+        match step {
+            Step::Add(..) if step.is_doubling() => counts.doublings += 1,
+            Step::Add(..) => counts.additions += 1,
+            Step::Subtract(..) => counts.subtractions += 1,
+        }
+    }
+    counts
+}
+
+#[test]
+fn the_steps_of_a_plan() {
+    let mut room = [7; PLAN_ROOM];
+    let steps = plan(&[43], Method::Naf, &mut room).unwrap().steps();
+    let texts: Vec<String> = steps.map(|step| step.to_string()).collect();
+    let expected = "add(0,0) add(1,1) subtract(2,0) add(3,3) add(4,4) subtract(5,0) add(6,6) add(7,7) subtract(8,0)";
+    assert_eq!(texts.join(" "), expected);
+    for &method in Method::ALL {
+        let plan = plan(&[0xb7; NUMBER_BYTES], method, &mut room).unwrap();
+        assert_eq!(plan.steps().len(), plan.counts.total());
+        assert_eq!(counted(plan.steps()), plan.counts);
+        let bytes: Vec<u8> = plan.steps().flat_map(Step::to_bytes).collect();
+        assert_eq!(bytes, plan.bytes);
+    }
+}
+
+#[test]
+fn steps_from_both_ends() {
+    let mut room = [7; PLAN_ROOM];
+    let mut steps = plan(&[3], Method::Naf, &mut room).unwrap().steps();
+    assert_eq!(steps.next_back(), Some(Step::Subtract(2, 0)));
+    assert_eq!(steps.next(), Some(Step::Add(0, 0)));
+    assert_eq!(steps.len(), 1);
+    assert_eq!(steps.next_back(), Some(Step::Add(1, 1)));
+    assert_eq!((steps.next(), steps.next_back(), steps.len()), (None, None, 0));
+}
+
+#[test]
+fn steps_of_a_plan_put_together_by_hand() {
+    let by_hand = |bytes| Plan {
+        bytes,
+        counts: Counts::default(),
+    };
+    // An unknown operation, and a step cut short.
+    let bytes = [0, 0, 0, 0, 0, 2, 0, 0, 0, 0, 1, 1, 0, 0, 0];
+    assert_eq!(by_hand(&bytes).steps().len(), 1);
+    assert!(by_hand(&bytes).steps().rev().eq([Step::Add(0, 0)]));
+    assert!(by_hand(&bytes[10..]).steps().eq([Step::Subtract(1, 0)]));
+    assert_eq!(by_hand(&bytes[..4]).steps().len(), 0);
+    assert_eq!(by_hand(&[]).steps().next(), None);
+}
+
+#[test]
+fn the_values_of_a_work_space() {
+    // 1, 2, -1, 3
+    let plan = [0, 0, 0, 0, 0, 1, 0, 0, 1, 0, 1, 1, 0, 2, 0];
+    let mut space = [7; work_space(4)];
+    check(&[3], &plan, &mut space).unwrap();
+    let texts = |values: Records<'_>| values.map(|value| value.to_string()).collect::<Vec<_>>();
+    assert_eq!(texts(records(&space, 3)), ["0x01", "0x02", "-0x01", "0x03"]);
+    assert_eq!(records(&space, 3).len(), 4);
+    assert_eq!(texts(records(&space, 0)), ["0x01"]);
+    // The record above was not filled.
+    let above = records(&space, 4).next_back().unwrap();
+    assert_eq!((above.is_negative, above.size), (true, &[7; VALUE_BYTES][..]));
+    // A space that is shorter ends them early.
+    assert_eq!(records(&space, usize::MAX).len(), 5);
+    assert_eq!(records(&space[..work_space(2)], 3).len(), 3);
+    assert_eq!(texts(records(&space[..work_space(2) - 1], 3)), ["0x01", "0x02"]);
+    assert_eq!(records(&[], 3).next(), None);
+    // A record of zeros, which no check leaves.
+    assert_eq!(texts(records(&[0; RECORD_BYTES], 0)), ["0x0"]);
+}
+
+#[test]
+fn the_largest_values_of_a_work_space() {
+    let steps = 8 * VALUE_BYTES - 1;
+    let mut space = vec![7; work_space(steps)];
+    let end = Err(Refusal::WrongEnd { steps });
+    assert_eq!(check(&[1], &doublings(steps), &mut space), end);
+    let mut values = records(&space, steps);
+    assert_eq!(values.len(), 8 * VALUE_BYTES);
+    assert_eq!(values.nth(8).unwrap().size, [0, 1]);
+    let last = values.next_back().unwrap();
+    assert_eq!((last.size.len(), last.size[VALUE_BYTES - 1]), (VALUE_BYTES, 0x80));
+}
+
+#[test]
+fn a_value_as_text() {
+    for (is_negative, size, text) in [
+        (true, &[0x2b][..], "-0x2b"),
+        (false, &[0x2b], "0x2b"),
+        (false, &[5], "0x05"),
+        (false, &[0xcd, 0xab, 1], "0x01abcd"),
+        (true, &[0, 1], "-0x0100"),
+        (false, &[], "0x0"),
+    ] {
+        assert_eq!(Value { is_negative, size }.to_string(), text);
+    }
+}
+
+/// All choices are those that the linked library does not refuse with 3, in the same order.
+#[test]
+fn all_methods() {
+    let mut taken = Vec::new();
+    for number in (0..=20).chain([257, u32::MAX]) {
+        for width in (0..=40).chain([257, u32::MAX]) {
+            let refusal = sys::forecast(&[43], number, width).refusal;
+            let method = Method::try_from((number, width));
+            if refusal == 0 {
+                let method = method.unwrap();
+                assert_eq!((method.number(), method.width()), (number, width));
+                taken.push(method);
+            } else {
+                assert_eq!((refusal, method), (3, Err(Refusal::MethodOrWidth)));
+            }
+        }
+    }
+    assert_eq!(taken, Method::ALL);
+    assert_eq!(taken.len(), 14);
+}
+
+#[test]
+fn a_method_as_text() {
+    for &method in Method::ALL {
+        let number = [method.number(), method.width()].map(|number| number.to_string());
+        assert_eq!(method.to_string().parse(), Ok(method));
+        assert_eq!(number.join(" ").parse(), Ok(method));
+    }
+    for (text, method) in [
+        ("binary", Method::Binary),
+        ("1", Method::Binary),
+        ("fixed 6", Method::FixedWindows(6)),
+        ("2 6", Method::FixedWindows(6)),
+        ("sliding 4", Method::SlidingWindows(4)),
+        ("3 4", Method::SlidingWindows(4)),
+        ("  sliding \t 4 ", Method::SlidingWindows(4)),
+        ("naf", Method::Naf),
+        ("naf 0", Method::Naf),
+        ("4", Method::Naf),
+    ] {
+        assert_eq!(text.parse(), Ok(method), "{:?}", text);
+    }
+    assert_eq!(Method::Naf.to_string(), "naf");
+    assert_eq!(Method::SlidingWindows(4).to_string(), "sliding 4");
+    assert_eq!(
+        (Method::FixedWindows(3).name(), Method::Binary.name()),
+        ("fixed", "binary")
+    );
+    for text in [
+        "",
+        " ",
+        "0",
+        "5",
+        "257",
+        "4294967297",
+        "NAF",
+        "nafs",
+        "naf 1",
+        "binary 1",
+        "fixed",
+        "fixed 0",
+        "fixed 7",
+        "sliding",
+        "sliding 7",
+        "sliding4",
+        "sliding,4",
+        "sliding x",
+        "sliding -4",
+        "sliding +4",
+        "sliding 4294967300",
+        "sliding 4 4",
+        "3",
+        "+3 4",
+        "4 sliding",
+    ] {
+        assert!(text.parse::<Method>().is_err(), "{:?}", text);
+    }
+}
+
+#[test]
+fn counts_add_up() {
+    let counts = |doublings, additions, subtractions| Counts {
+        doublings,
+        additions,
+        subtractions,
+    };
+    let (a, b) = (counts(6, 0, 3), counts(10, 200, 3000));
+    assert_eq!(a + b, counts(16, 200, 3003));
+    let mut sum = a;
+    sum += b;
+    assert_eq!(sum, a + b);
+    assert_eq!([a, b, a].iter().sum::<Counts>(), counts(22, 200, 3006));
+    assert_eq!([a, b].into_iter().sum::<Counts>(), a + b);
+    assert_eq!([a; 0].iter().sum::<Counts>(), Counts::default());
+    assert_eq!((a.total(), b.total(), Counts::default().total()), (9, 3210, 0));
+    assert_eq!(a.to_string(), "6 doublings, 0 additions, 3 subtractions");
+}
+
+#[test]
+fn a_work_space_never_overflows() {
+    assert_eq!(work_space(0), RECORD_BYTES);
+    assert_eq!(work_space(PLAN_STEPS), RECORD_BYTES * (PLAN_STEPS + 1));
+    let most = usize::MAX / RECORD_BYTES - 1;
+    assert_eq!(work_space(most), RECORD_BYTES * (most + 1));
+    assert_eq!(work_space(most + 1), usize::MAX);
+    assert_eq!(work_space(usize::MAX), usize::MAX);
+}
+
+#[test]
+fn reading_hexadecimal() {
+    for (text, bytes) in [
+        ("0", &[0][..]),
+        ("2b", &[0x2b]),
+        ("2B", &[0x2b]),
+        ("0x2b", &[0x2b]),
+        ("0X2b", &[0x2b]),
+        ("12b", &[0x2b, 1]),
+        ("0x12b", &[0x2b, 1]),
+        ("002b", &[0x2b, 0]),
+        ("00x", &[]),
+        ("0x", &[]),
+        ("", &[]),
+        ("x2b", &[]),
+        ("0x0x2b", &[]),
+        ("2g", &[]),
+        ("2b ", &[]),
+        ("-2b", &[]),
+    ] {
+        let mut room = [7; 4];
+        let expected = if bytes.is_empty() { None } else { Some(bytes) };
+        assert_eq!(hexadecimal(text.as_bytes(), &mut room), expected, "{:?}", text);
+        // Only the answer is written.
+        let mut left = [7; 4];
+        left[..bytes.len()].copy_from_slice(bytes);
+        assert_eq!(room, left, "{:?}", text);
+    }
+    // Room for the digits is enough, and a byte less is not.
+    assert_eq!(hexadecimal(b"0x123", &mut [7; 2]), Some(&[0x23, 1][..]));
+    let mut room = [7; 1];
+    assert_eq!(hexadecimal(b"0x123", &mut room), None);
+    assert_eq!(hexadecimal(b"001", &mut room), None);
+    assert_eq!(room, [7]);
+}
+
+#[test]
+fn reading_decimal() {
+    for (text, answer) in [
+        ("0", Ok(&[][..])),
+        ("000", Ok(&[])),
+        ("43", Ok(&[43])),
+        ("0043", Ok(&[43])),
+        ("299", Ok(&[0x2b, 1])),
+        ("65536", Ok(&[0, 0, 1])),
+        ("", Err(0)),
+        ("x", Err(0)),
+        ("4x3", Err(1)),
+        ("43 ", Err(2)),
+        ("-43", Err(0)),
+        ("+43", Err(0)),
+        ("0x2b", Err(1)),
+        ("2b", Err(1)),
+    ] {
+        let mut room = [7; 4];
+        assert_eq!(decimal(text.as_bytes(), &mut room), answer, "{:?}", text);
+        // The room that the text needs is written, the rest stays.
+        let mut left = [7; 4];
+        if let Ok(bytes) = answer {
+            left[..text_room(text.len())].fill(0);
+            left[..bytes.len()].copy_from_slice(bytes);
+        }
+        assert_eq!(room, left, "{:?}", text);
+    }
+    let mut room = [7; 2];
+    assert_eq!(decimal(b"1234", &mut room), Ok(&[0xd2, 4][..]));
+    let mut room = [7; 1];
+    assert_eq!(decimal(b"123", &mut room), Err(3));
+    assert_eq!(decimal(b"00000", &mut room), Err(5));
+    assert_eq!(decimal(b"12345x", &mut room), Err(5));
+    assert_eq!(room, [7]);
+    assert_eq!(decimal(b"", &mut []), Err(0));
+}
+
+#[test]
+fn room_for_text() {
+    assert_eq!([0, 1, 2, 3, 77, 78].map(text_room), [0, 1, 1, 2, 39, 39]);
+    assert_eq!(text_room(usize::MAX), usize::MAX / 2 + 1);
+    // The largest number, written in decimal: its bytes do not fill the room that the text needs.
+    let text = (0..8 * NUMBER_BYTES).fold(vec![0], |digits: Vec<u8>, _| twice_and_one(&digits));
+    let text: Vec<u8> = text.iter().rev().map(|digit| digit + b'0').collect();
+    let mut room = vec![7; text_room(text.len())];
+    assert_eq!(decimal(&text, &mut room), Ok(&[0xff; NUMBER_BYTES][..]));
+    assert_eq!(
+        hexadecimal(&[b'f'; 2 * NUMBER_BYTES], &mut room),
+        Some(&[0xff; NUMBER_BYTES][..])
+    );
+}
+
+/// Twice a decimal number and one, lowest digit first.
+fn twice_and_one(digits: &[u8]) -> Vec<u8> {
+    let mut carry = 1;
+    let mut sum: Vec<u8> = Vec::new();
+    for digit in digits {
+        carry += 2 * digit;
+        sum.push(carry % 10);
+        carry /= 10;
+    }
+    if carry > 0 {
+        sum.push(carry);
+    }
+    sum
 }

@@ -1,5 +1,5 @@
-//! The C header, this crate and the linked library say the same: limits, refusals, words.
-use lesmutka::{forecast, limits, Method, Refusal};
+//! The C header, this crate and the linked library say the same: limits, methods, refusals, words, version.
+use lesmutka::{forecast, limits, sys, Method, Refusal};
 
 const HEADER: &str = include_str!("../../../include/lesmutka.h");
 
@@ -8,6 +8,13 @@ fn constant(name: &str) -> usize {
     let define = format!("#define {} ", name);
     let line = HEADER.lines().find(|line| line.starts_with(&define)).expect(name);
     line[define.len()..].parse().expect(name)
+}
+
+/// The value of a name in an enumeration of the header.
+fn enumerator(name: &str) -> u32 {
+    let entry = format!("    {} = ", name);
+    let line = HEADER.lines().find(|line| line.starts_with(&entry)).expect(name);
+    line[entry.len()..].trim_end_matches(',').parse().expect(name)
 }
 
 #[test]
@@ -55,14 +62,86 @@ fn refusals() -> [Refusal; 12] {
         Refusal::MalformedStep { step: 7 },
         Refusal::ValueIsZero { step: 7 },
         Refusal::ValueTooLarge { step: 7 },
-        Refusal::WrongEnd { step: 7 },
+        Refusal::WrongEnd { steps: 7 },
     ]
 }
 
+/// The header's name for a name of this crate: LESMUTKA_WRONG_END for WrongEnd.
+fn header_name(name: &str) -> String {
+    let mut long = String::from("LESMUTKA");
+    for letter in name.chars().take_while(|letter| letter.is_alphabetic()) {
+        if letter.is_uppercase() {
+            long.push('_');
+        }
+        long.push(letter.to_ascii_uppercase());
+    }
+    long
+}
+
 #[test]
-fn numbers_run_from_1_to_12() {
+fn refusals_agree() {
     for (i, refusal) in refusals().iter().enumerate() {
         assert_eq!(refusal.number() as usize, i + 1);
+        assert_eq!(enumerator(&header_name(&format!("{:?}", refusal))), i as u32 + 1);
+    }
+}
+
+#[test]
+fn places_are_kept() {
+    let places: Vec<usize> = refusals().iter().map(|refusal| refusal.place()).collect();
+    assert_eq!(places, [0, 0, 0, 7, 0, 7, 0, 0, 7, 7, 7, 7]);
+}
+
+#[test]
+fn methods_agree() {
+    for method in Method::ALL {
+        assert_eq!(enumerator(&header_name(&format!("{:?}", method))), method.number());
+    }
+}
+
+#[test]
+fn versions_agree() {
+    assert_eq!(lesmutka::version(), lesmutka::VERSION);
+    let numbers = env!("CARGO_PKG_VERSION")
+        .split('.')
+        .map(|number| number.parse::<u32>().unwrap());
+    assert_eq!(
+        numbers.fold(0, |version, number| 100 * version + number),
+        lesmutka::VERSION
+    );
+}
+
+/// The linked library's words for a number.
+fn linked_words(refusal: usize) -> String {
+    let mut room = [7; 100];
+    let answer = sys::write_words(refusal, &mut room);
+    assert_eq!((answer.refusal, answer.place), (0, 0));
+    let (words, rest) = room.split_at(answer.length);
+    assert!(rest.iter().all(|&byte| byte == 7));
+    String::from_utf8(words.to_vec()).unwrap()
+}
+
+#[test]
+fn linked_words_agree() {
+    assert_eq!(linked_words(0), "not refused");
+    for refusal in refusals() {
+        assert_eq!(linked_words(refusal.number().into()), refusal.message());
+    }
+    for number in [13, 14, 256, 257, usize::MAX] {
+        assert_eq!(linked_words(number), "no such refusal");
+    }
+}
+
+#[test]
+fn words_take_room() {
+    for number in 0..=13 {
+        let words = linked_words(number);
+        let mut room = vec![7; words.len()];
+        let answer = sys::write_words(number, &mut room[1..]);
+        assert_eq!((answer.refusal, answer.place, answer.length), (6, words.len(), 0));
+        assert!(room.iter().all(|&byte| byte == 7));
+        assert_eq!(sys::write_words(number, &mut room).length, words.len());
+        assert_eq!(room, words.as_bytes());
     }
 }
 
@@ -81,9 +160,11 @@ fn header_words() -> Vec<&'static str> {
 }
 
 #[test]
-fn words_agree() {
+fn header_words_agree() {
+    let words = header_words();
+    assert_eq!(words[0], "not refused");
     for refusal in refusals() {
-        assert_eq!(header_words()[refusal.number() as usize], refusal.message().to_string());
+        assert_eq!(words[refusal.number() as usize], refusal.message());
     }
 }
 

@@ -13,19 +13,12 @@ fn main() -> Result<(), Refusal> {
     let mut space = [0; work_space(PLAN_STEPS)];
 
     let plan = plan(&number, Method::Naf, &mut room)?;
-    println!("plan: {} steps", plan.counts.total());
-    for step in plan.bytes.chunks_exact(STEP_BYTES) {
-        let name = if step[0] == 0 { "add" } else { "subtract" };
-        let j = u16::from_le_bytes([step[1], step[2]]);
-        let k = u16::from_le_bytes([step[3], step[4]]);
-        println!("  {}({},{})", name, j, k);
+    println!("plan: {} steps", plan.steps().len());
+    for step in plan.steps() {
+        println!("  {}", step);
     }
 
-    let counts = check(&number, plan.bytes, &mut space)?;
-    println!(
-        "accepted: {} doublings, {} additions, {} subtractions",
-        counts.doublings, counts.additions, counts.subtractions
-    );
+    println!("accepted: {}", check(&number, plan.bytes, &mut space)?);
 
     print!("digits, lowest first:");
     for digit in digits(&number)? {

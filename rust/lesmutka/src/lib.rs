@@ -160,7 +160,7 @@ pub fn read_back<'a>(digits: &[i8], out: &'a mut [u8]) -> Result<Value<'a>, Refu
 ///
 /// Refusals 1, 2, 3, 6. [`PLAN_ROOM`] is always enough.
 pub fn plan<'a>(number: &[u8], method: Method, out: &'a mut [u8]) -> Result<Plan<'a>, Refusal> {
-    let counts = Counts::of(sys::plan(number, method.number(), method.width(), out))?;
+    let counts = Counts::try_from(sys::plan(number, method.number(), method.width(), out))?;
     Ok(Plan {
         bytes: &out[..STEP_BYTES * counts.total()],
         counts,
@@ -181,7 +181,7 @@ pub fn plan<'a>(number: &[u8], method: Method, out: &'a mut [u8]) -> Result<Plan
 /// assert_eq!(Method::ALL.iter().copied().min_by_key(steps), Some(Method::Naf));
 /// ```
 pub fn forecast(number: &[u8], method: Method) -> Result<Counts, Refusal> {
-    Counts::of(sys::forecast(number, method.number(), method.width()))
+    Counts::try_from(sys::forecast(number, method.number(), method.width()))
 }
 
 /// Checks a plan for a number: each step is sound, and the last value is the number. Answers the
@@ -193,7 +193,7 @@ pub fn forecast(number: &[u8], method: Method) -> Result<Counts, Refusal> {
 /// Refusals 1, 2, 7, 8, then 9, 10 or 11 at the first step that is not sound, then 12. At 9 to 11
 /// the records below that step are filled, at 12 all.
 pub fn check(number: &[u8], plan: &[u8], space: &mut [u8]) -> Result<Counts, Refusal> {
-    Counts::of(sys::check(number, plan, space))
+    Counts::try_from(sys::check(number, plan, space))
 }
 
 /// Reads a hexadecimal number, with `0x` or `0X` in front or without: writes its bytes and hands

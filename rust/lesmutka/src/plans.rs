@@ -30,13 +30,18 @@ impl Counts {
     pub const fn total(self) -> usize {
         self.doublings + self.additions + self.subtractions
     }
+}
 
-    pub(crate) fn of(counts: sys::Counts) -> Result<Counts, Refusal> {
-        Refusal::of(counts.refusal, counts.place)?;
+/// The counts of an answer, unless it is a refusal.
+impl TryFrom<sys::Counts> for Counts {
+    type Error = Refusal;
+
+    fn try_from(answer: sys::Counts) -> Result<Counts, Refusal> {
+        Refusal::of(answer.refusal, answer.place)?;
         Ok(Counts {
-            doublings: counts.doublings,
-            additions: counts.additions,
-            subtractions: counts.subtractions,
+            doublings: answer.doublings,
+            additions: answer.additions,
+            subtractions: answer.subtractions,
         })
     }
 }

@@ -167,19 +167,3 @@ fn header_words_agree() {
         assert_eq!(words[refusal.number() as usize], refusal.message());
     }
 }
-
-/// The command line's words, in the answers that its tests store.
-#[test]
-fn words_of_the_command_line_agree() {
-    let answers = include_str!("../../../tests/command_line/answers.txt");
-    let mut seen = [false; 13];
-    for line in answers.lines() {
-        if let Some(refused) = line.strip_prefix("refused ") {
-            let number: usize = refused.split(',').next().unwrap().parse().unwrap();
-            assert_eq!(refused.split_once(": ").unwrap().1, header_words()[number]);
-            seen[number] = true;
-        }
-    }
-    // 6 and 8 cannot come up there: the program lends room and work space for every answer.
-    assert_eq!(seen.iter().filter(|&&seen| seen).count(), 10);
-}

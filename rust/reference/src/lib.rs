@@ -12,6 +12,7 @@ mod naf;
 mod number;
 mod plan;
 pub mod refusal;
+pub mod text;
 mod words;
 
 pub use check::check;

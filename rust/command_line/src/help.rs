@@ -1,0 +1,90 @@
+//! What the program says about itself.
+use crate::answer::Fault;
+use crate::request::FORMS;
+use std::io::Write;
+
+/// What each request is about, in the order of `FORMS`.
+const ABOUT: [&str; 9] = [
+    "the canonical digits of a number, its non-adjacent form (NAF)",
+    "the canonical digits of the value of a digit string",
+    "the value of a digit string",
+    "how many steps of each kind the plan for a number has",
+    "the plan for a number by a method, printed or written to a file",
+    "whether a plan is sound and ends at the number",
+    "the steps of a plan with their values",
+    "the methods and the widths that they take",
+    "requests from standard input, one a line; so does `lesmutka -`",
+];
+
+const WORDS: &str = "\
+NUMBER: decimal, or hexadecimal with 0x. What is written with 0x goes to the
+        call byte for byte, so leading zeros count.
+DIGITS: 0, 1 or -1 each, most significant first; the last has place 0.
+METHOD: a name or a number; `lesmutka methods` lists them.
+WIDTH:  the bits of a window.
+FILE:   a plan's bytes, or its steps as text, as `plan` prints them.
+        - is standard input, or for `plan ... to -` standard output.
+";
+
+const OPTIONS: &str = "\
+--json     one object a line, the same fields everywhere
+--force    plan ... to FILE replaces a file that is there
+--dot      show: the chain as a graph for Graphviz
+--help -h  this text, or that of a request
+--version  the version of the library that is linked
+--         no word behind it is an option
+";
+
+const STATUS: &str = "\
+Exit status: 0 answered, 1 refused, 2 malformed request, 3 a file or the
+program failed; of a batch, the highest.
+";
+
+const BATCH: &str = "\
+Each answer begins with the number of its line. # begins a comment; a line
+without words has no answer. --json, --force and -- may stand on the command
+line, --force also on a line of its own request. A closing line on standard
+error says how many requests there were.
+";
+
+/// The forms of all requests.
+pub fn summary(out: &mut Vec<u8>) {
+    let _ = writeln!(out, "usage: lesmutka REQUEST [OPTIONS]\n");
+    for ((name, form), about) in FORMS.iter().zip(ABOUT) {
+        let _ = writeln!(out, "  {}\n      {}", format!("{} {}", name, form).trim_end(), about);
+    }
+    let _ = writeln!(out, "  help [REQUEST]\n      this text, or that of a request\n");
+    let _ = writeln!(out, "{}\n{}\n{}", WORDS, OPTIONS, STATUS.trim_end());
+}
+
+/// What is asked about: a request, or all of them.
+pub fn about(words: &[&[u8]], out: &mut Vec<u8>) -> Result<(), Fault> {
+    let verb = match words {
+        [] | [b"help"] => {
+            summary(out);
+            return Ok(());
+        }
+        [b"-"] => b"batch",
+        [verb, ..] => *verb,
+    };
+    match FORMS.iter().zip(ABOUT).find(|((name, _), _)| name.as_bytes() == verb) {
+        Some(((name, form), about)) => {
+            let _ = writeln!(out, "usage: lesmutka {}\n", format!("{} {}", name, form).trim_end());
+            let _ = writeln!(out, "{}{}.", about[..1].to_uppercase(), &about[1..]);
+            if *name == "batch" {
+                let _ = write!(out, "\n{}", BATCH);
+            }
+            if !form.is_empty() {
+                let _ = write!(out, "\n{}", WORDS);
+            }
+            Ok(())
+        }
+        None => Err(Fault::malformed("no such request", verb)),
+    }
+}
+
+pub fn version(out: &mut Vec<u8>) {
+    let version = lesmutka::version();
+    let (major, minor, patch) = (version / 10000, version / 100 % 100, version % 100);
+    let _ = writeln!(out, "lesmutka {}.{}.{}", major, minor, patch);
+}

@@ -1,0 +1,117 @@
+//! The program `lesmutka`: the calls of the proved library, asked for by words and answered by lines.
+//!
+//! A request is taken apart by [`request`], answered by [`answer`] and printed by [`print`]. What a
+//! person types reaches a call only through the library's proved readers of numbers; all other words
+//! stand in lists and are compared whole.
+mod answer;
+mod batch;
+mod files;
+mod help;
+mod plans;
+mod print;
+mod request;
+mod show;
+mod steps;
+
+use answer::{Desk, Fault};
+use print::{Form, Status};
+use request::{Request, Words};
+use std::env;
+use std::io::{self, Write};
+use std::os::unix::ffi::OsStringExt;
+use std::process;
+
+fn main() {
+    let arguments: Vec<Vec<u8>> = env::args_os().skip(1).map(|word| word.into_vec()).collect();
+    let words: Vec<&[u8]> = arguments.iter().map(|word| word.as_slice()).collect();
+    let status = run(&words);
+    process::exit(status as i32);
+}
+
+/// Answers the words of the command line; the answer goes to standard output.
+fn run(words: &[&[u8]]) -> Status {
+    let words = match Words::new(words) {
+        Ok(words) => words,
+        Err(fault) => return complain(&fault),
+    };
+    let mut out = Vec::new();
+    let status = if words.help {
+        match help::about(&words.plain, &mut out) {
+            Ok(()) => Status::Answered,
+            Err(fault) => return complain(&fault),
+        }
+    } else if words.version {
+        help::version(&mut out);
+        Status::Answered
+    } else if words.plain.is_empty() {
+        help::summary(&mut out);
+        let _ = io::stderr().write_all(&out);
+        return Status::Malformed;
+    } else {
+        match words.plain[0] {
+            b"help" => match help::about(&words.plain[1..], &mut out) {
+                Ok(()) => Status::Answered,
+                Err(fault) => return complain(&fault),
+            },
+            b"batch" | b"-" if words.plain.len() == 1 => return batch::run(&words),
+            b"methods" if words.plain.len() == 1 => {
+                print::methods(words.json, &mut out);
+                Status::Answered
+            }
+            _ => one(&words, &mut out),
+        }
+    };
+    match put_all(&out) {
+        Ok(_) => status,
+        Err(fault) => status.max(complain(&fault)),
+    }
+}
+
+/// Answers one request. Faults are also told on standard error.
+fn one(words: &Words, out: &mut Vec<u8>) -> Status {
+    let form = Form::new(words.json, None);
+    let mut desk = Desk::new();
+    let status = match Request::new(words) {
+        Err(fault) => {
+            form.fault(&fault, out);
+            complain(&fault)
+        }
+        Ok(Request::Show { file, dot }) => show::show(file, dot, words.json, &mut desk, out),
+        Ok(request) => match desk.answer(&request) {
+            Ok(answer) => {
+                let status = form.answer(&request, &answer, out);
+                if status == Status::Refused && request.is_to_standard_output() {
+                    let _ = io::stderr().write_all(out);
+                    out.clear();
+                }
+                status
+            }
+            Err(fault) => {
+                form.fault(&fault, out);
+                complain(&fault)
+            }
+        },
+    };
+    if !words.json && status >= Status::Malformed {
+        // In words a fault is told once, on standard error.
+        out.clear();
+    }
+    status
+}
+
+/// Tells a fault in one line on standard error.
+fn complain(fault: &Fault) -> Status {
+    let _ = writeln!(io::stderr(), "lesmutka: {}", fault);
+    fault.status()
+}
+
+/// Writes to standard output; false if its reader has gone away, who wants no more, and no word about
+/// it.
+fn put_all(out: &[u8]) -> Result<bool, Fault> {
+    let mut stdout = io::stdout().lock();
+    match stdout.write_all(out).and_then(|()| stdout.flush()) {
+        Ok(()) => Ok(true),
+        Err(error) if error.kind() == io::ErrorKind::BrokenPipe => Ok(false),
+        Err(error) => Err(Fault::Failed(format!("cannot write to standard output: {}", error))),
+    }
+}

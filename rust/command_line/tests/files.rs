@@ -1,0 +1,313 @@
+//! Plans in files and on standard input and output: written whole or not at all, read as bytes or text.
+mod common;
+
+use common::{run, step_words, steps, Folder, Json};
+use std::fs;
+use std::os::unix::fs::{symlink, FileTypeExt, PermissionsExt};
+use std::process::Command;
+
+/// The plan for 3 by binary.
+fn three() -> Vec<u8> {
+    steps(&[[0, 0, 0], [0, 1, 0]])
+}
+
+const WRITTEN: &str = "0x03 by binary: 1 doublings, 1 additions, 0 subtractions; written to ";
+const ACCEPTED: &str = "0x03: accepted: 1 doublings, 1 additions, 0 subtractions\n";
+
+#[test]
+fn written_and_checked() {
+    let folder = Folder::new();
+    for name in ["three.plan", "a b.plan", "refused 6", "to", "./here", "-x", &"n".repeat(255)] {
+        let ended = run(&folder, &["plan", "3", "1", "to", name], b"");
+        let shown = match name.len() > 80 {
+            true => format!("{}...", "n".repeat(80)),
+            false => name.to_string(),
+        };
+        assert_eq!(ended.text(), format!("{}{}\n", WRITTEN, shown));
+        assert_eq!(ended.status, 0);
+        assert_eq!(folder.read(name), three());
+        assert_eq!(run(&folder, &["check", "3", name], b"").text(), ACCEPTED);
+    }
+    assert_eq!(folder.names().len(), 7);
+}
+
+/// No byte of a name reaches a terminal as a control character, and an answer stays one line.
+#[test]
+fn names_with_control_characters() {
+    let folder = Folder::new();
+    let ended = run(&folder, &["plan", "3", "1", "to", "x\n2: refused\x1b[2J"], b"");
+    assert_eq!(ended.text(), format!("{}x\\n2: refused\\u{{1b}}[2J\n", WRITTEN));
+    assert_eq!(folder.names(), ["x\n2: refused\x1b[2J"]);
+}
+
+#[test]
+fn an_existing_file_is_replaced_with_force_alone() {
+    let folder = Folder::new();
+    folder.write("old", b"old");
+    let ended = run(&folder, &["plan", "3", "1", "to", "old"], b"");
+    assert_eq!((ended.status, ended.text().as_str()), (3, ""));
+    assert_eq!(ended.err, "lesmutka: cannot write old: it is there already; --force replaces it\n");
+    assert_eq!(folder.read("old"), b"old");
+    let ended = run(&folder, &["plan", "3", "1", "to", "old", "--force"], b"");
+    assert_eq!(ended.status, 0);
+    assert_eq!(folder.read("old"), three());
+    // In a batch, for one line or for all.
+    folder.write("old", b"old");
+    let lines = b"plan 3 1 to old --force\nplan 1 1 to old\nrecode 1\n";
+    assert_eq!(run(&folder, &["-"], lines).status, 3);
+    assert_eq!(folder.read("old"), three());
+    assert_eq!(run(&folder, &["-", "--force"], lines).status, 0);
+    assert_eq!(folder.read("old"), b"");
+    assert_eq!(folder.names(), ["old"]);
+}
+
+/// The mode follows the umask, also where a file with another mode is replaced.
+#[test]
+fn modes() {
+    let folder = Folder::new();
+    for (umask, mode) in [("022", 0o644), ("077", 0o600), ("002", 0o664)] {
+        for force in [false, true] {
+            let name = format!("{}-{}", umask, force);
+            if force {
+                folder.write(&name, b"old");
+                fs::set_permissions(folder.file(&name), fs::Permissions::from_mode(0o700)).expect("a mode");
+            }
+            let ended = common::ended(
+                Command::new("sh")
+                    .args(["-c", "umask \"$1\"; exec \"$2\" plan 3 1 to \"$3\" $4", "sh", umask])
+                    .args([env!("CARGO_BIN_EXE_lesmutka"), &name, if force { "--force" } else { "" }])
+                    .current_dir(folder.path()),
+                b"",
+            );
+            assert_eq!(ended.status, 0, "{}", ended.err);
+            let written = fs::metadata(folder.file(&name)).expect("the file").permissions().mode();
+            assert_eq!(written & 0o777, mode, "umask {}", umask);
+        }
+    }
+}
+
+/// Of what is refused or fails nothing is written, and no other file is left.
+#[test]
+fn nothing_is_left_of_a_failure() {
+    let folder = Folder::new();
+    fs::create_dir(folder.file("folder")).expect("a folder");
+    folder.write("file", b"old");
+    assert!(Command::new("mkfifo").arg(folder.file("pipe")).status().expect("mkfifo").success());
+    symlink("missing/x", folder.file("nowhere")).expect("a link");
+    let before = folder.names();
+    for (name, status) in [
+        ("folder", 3),
+        ("missing/x", 3),
+        ("file/x", 3),
+        ("pipe", 3),
+        ("nowhere", 3),
+        ("/dev/null", 3),
+        (&"n".repeat(256), 3),
+    ] {
+        for force in [&[][..], &["--force"]] {
+            let words = [&["plan", "3", "1", "to", name], force].concat();
+            let ended = run(&folder, &words, b"");
+            assert_eq!((ended.status, ended.text().as_str()), (status, ""), "{}", name);
+            assert!(ended.err.starts_with("lesmutka: cannot write "), "{}", ended.err);
+            assert_eq!(ended.err.lines().count(), 1);
+        }
+    }
+    for words in [&["plan", "0", "1", "to", "file", "--force"][..], &["plan", "0", "1", "to", "new"]] {
+        let ended = run(&folder, words, b"");
+        assert_eq!(
+            (ended.status, ended.text().as_str()),
+            (1, "0x0 by binary: refused 2, place 0: the number is zero\n")
+        );
+    }
+    assert_eq!(folder.names(), before);
+    assert_eq!(folder.read("file"), b"old");
+    assert_eq!(fs::read_dir(folder.file("folder")).expect("the folder").count(), 0);
+    assert!(fs::metadata(folder.file("pipe")).expect("the pipe").file_type().is_fifo());
+}
+
+/// A file system that is full: `/dev/shm` or another is not at hand, so a limit on the size of files
+/// stands for it.
+#[test]
+fn a_file_that_cannot_be_written_whole() {
+    let folder = Folder::new();
+    folder.write("old", b"old");
+    for (name, force) in [("new", ""), ("old", "--force")] {
+        let ended = common::ended(
+            Command::new("sh")
+                .args(["-c", "trap '' XFSZ; ulimit -f 0; exec \"$1\" plan 3 1 to \"$2\" $3", "sh"])
+                .args([env!("CARGO_BIN_EXE_lesmutka"), name, force])
+                .current_dir(folder.path()),
+            b"",
+        );
+        assert_eq!((ended.status, ended.text().as_str()), (3, ""));
+        assert!(ended.err.starts_with(&format!("lesmutka: cannot write {}: ", name)), "{}", ended.err);
+    }
+    assert_eq!(folder.names(), ["old"]);
+    assert_eq!(folder.read("old"), b"old");
+}
+
+/// A link stays, and what it points to is written.
+#[test]
+fn links() {
+    let folder = Folder::new();
+    folder.write("file", b"old");
+    symlink("file", folder.file("link")).expect("a link");
+    assert_eq!(run(&folder, &["plan", "3", "1", "to", "link"], b"").status, 3);
+    assert_eq!(run(&folder, &["plan", "3", "1", "to", "link", "--force"], b"").status, 0);
+    assert_eq!(folder.read("file"), three());
+    assert!(fs::symlink_metadata(folder.file("link")).expect("the link").file_type().is_symlink());
+}
+
+#[test]
+fn standard_input_and_output() {
+    let folder = Folder::new();
+    let ended = run(&folder, &["plan", "3", "1", "to", "-"], b"");
+    assert_eq!((ended.status, ended.out, ended.err.as_str()), (0, three(), ""));
+    assert_eq!(run(&folder, &["check", "3", "-"], &three()).text(), ACCEPTED);
+    let ended = run(&folder, &["plan", "0", "1", "to", "-"], b"");
+    assert_eq!((ended.status, ended.text().as_str()), (1, ""));
+    assert_eq!(ended.err, "0x0 by binary: refused 2, place 0: the number is zero\n");
+    assert_eq!(folder.names(), Vec::<String>::new());
+}
+
+/// What `plan` prints is taken back by `check` and `show`, in words and as JSON, alone and in a batch.
+#[test]
+fn what_plan_prints_is_taken_back() {
+    let folder = Folder::new();
+    for number in ["1", "3", "43", "0xffffffffffffffffffffffffffffffffffffffffffffffffffffffffffffffff"] {
+        for method in ["binary", "fixed 4", "sliding 4", "naf"] {
+            let line = format!("plan {} {}", number, method);
+            let words: Vec<&str> = line.split(' ').collect();
+            let printed = [
+                run(&folder, &words, b""),
+                run(&folder, &[&words[..], &["--json"]].concat(), b""),
+                run(&folder, &["-"], line.as_bytes()),
+                run(&folder, &["-", "--json"], line.as_bytes()),
+            ];
+            for printed in printed {
+                let ended = run(&folder, &["check", number, "-"], &printed.out);
+                assert_eq!(ended.status, 0, "{}: {}{}", line, ended.text(), ended.err);
+                assert!(ended.text().contains(": accepted: "));
+                let shown = run(&folder, &["show", "-"], &printed.out);
+                assert_eq!(shown.status, 0);
+                assert!(shown.text().contains("ends at 0x"));
+            }
+        }
+    }
+}
+
+#[test]
+fn plans_as_text() {
+    let folder = Folder::new();
+    for text in [
+        "add(0,0) add(1,0)",
+        "add(0,0)\r\nadd(1,0)\r\n",
+        "\u{feff}# the plan for 3\nadd(0,0) # two\n\n  add(1,0)\n",
+        "steps: add(0,0) add(1,0)",
+    ] {
+        assert_eq!(run(&folder, &["check", "3", "-"], text.as_bytes()).text(), ACCEPTED, "{}", text);
+    }
+    for (text, word) in [
+        ("add(0,0) ad(1,0)", "ad(1,0)"),
+        ("add(0,0", "add(0,0"),
+        ("add(0,65536)", "add(0,65536)"),
+        ("add(0,-1)", "add(0,-1)"),
+        ("add(0,0x1)", "add(0,0x1)"),
+        ("add(0,)", "add(0,)"),
+        ("none none", "none"),
+        ("a plan", "a"),
+    ] {
+        let ended = run(&folder, &["check", "3", "-"], text.as_bytes());
+        assert_eq!((ended.status, ended.text().as_str()), (2, ""), "{}", text);
+        assert!(ended.err.ends_with(&format!(": `{}`\n", word)), "{}", ended.err);
+    }
+    // Bytes that are no text are bytes, and the call refuses them.
+    for (bytes, refusal) in [
+        (&b"add(0,0)\0"[..], "refused 7, place 0: "),
+        (b"a\0\0\0\0", "refused 9, place 1: "),
+        (b"\xff\xff\xff\xff\xff", "refused 9, place 1: "),
+        (b"\x02\x00\x00\x00\x00", "refused 9, place 1: "),
+    ] {
+        let ended = run(&folder, &["check", "3", "-"], bytes);
+        assert_eq!(ended.status, 1);
+        assert!(ended.text().starts_with(&format!("0x03: {}", refusal)), "{}", ended.text());
+    }
+    // A position that the plan does not have, and more steps than a plan has.
+    let ended = run(&folder, &["check", "3", "-"], b"add(0,0) add(2,0)");
+    assert!(ended.text().starts_with("0x03: refused 9, place 2: "), "{}", ended.text());
+    let ended = run(&folder, &["check", "3", "-"], "add(0,0) ".repeat(641).as_bytes());
+    assert!(ended.text().starts_with("0x03: refused 7, place 0: "), "{}", ended.text());
+}
+
+#[test]
+fn huge_plans() {
+    let folder = Folder::new();
+    for byte in [0, b'a', 0xff] {
+        let ended = run(&folder, &["check", "3", "-"], &vec![byte; 5 << 20]);
+        assert!(ended.status == 1 || ended.status == 2);
+    }
+    let ended = run(&folder, &["check", "3", "/dev/zero"], b"");
+    assert!(ended.text().starts_with("0x03: refused 7, place 0: "), "{}", ended.text());
+    for name in [".", "missing"] {
+        let ended = run(&folder, &["check", "3", name], b"");
+        assert_eq!((ended.status, ended.text().as_str()), (3, ""));
+        assert!(ended.err.starts_with(&format!("lesmutka: cannot read {}: ", name)), "{}", ended.err);
+    }
+}
+
+#[test]
+fn shown() {
+    let folder = Folder::new();
+    let plan = steps(&[[0, 0, 0], [1, 0, 1], [1, 1, 2]]);
+    folder.write("plan", &plan);
+    let ended = run(&folder, &["show", "plan"], b"");
+    assert_eq!(
+        ended.text(),
+        "0: 0x01\n1: add(0,0) = 0x02\n2: subtract(0,1) = -0x01\n3: subtract(1,2) = 0x03\n\
+         ends at 0x03: 1 doublings, 0 additions, 2 subtractions\n"
+    );
+    assert_eq!(ended.status, 0);
+    let object = Json::read(run(&folder, &["show", "plan", "--json"], b"").text().trim_end());
+    let texts = |texts: &[&str]| Json::List(texts.iter().map(|text| Json::Text(text.to_string())).collect());
+    assert_eq!(object.get("values"), &texts(&["0x01", "0x02", "-0x01", "0x03"]));
+    assert_eq!(object.get("steps"), &texts(&step_words(&plan).split(' ').collect::<Vec<_>>()));
+    assert_eq!(object.get("subtractions"), &Json::Number(2));
+    let dot = run(&folder, &["show", "plan", "--dot"], b"").text();
+    assert_eq!(
+        dot,
+        "digraph plan {\n    node [shape=box];\n    0 [label=\"0: 0x01\"];\n    1 [label=\"1: 0x02\"];\n    \
+         0 -> 1 [label=\"double\"];\n    2 [label=\"2: -0x01\"];\n    0 -> 2 [label=\"+\"];\n    \
+         1 -> 2 [label=\"-\", style=dashed];\n    3 [label=\"3: 0x03\"];\n    1 -> 3 [label=\"+\"];\n    \
+         2 -> 3 [label=\"-\", style=dashed];\n}\n"
+    );
+    // An end that is no number of a call has no counts.
+    let ended = run(&folder, &["show", "-"], &steps(&[[0, 0, 0], [1, 0, 1]]));
+    assert!(ended.text().ends_with("ends at -0x01\n"), "{}", ended.text());
+    let doublings: Vec<[u16; 3]> = (0..260).map(|i| [0, i, i]).collect();
+    let ended = run(&folder, &["show", "-"], &steps(&doublings));
+    assert!(ended.text().ends_with(&format!("ends at 0x10{}\n", "0".repeat(64))), "{}", ended.text());
+    assert_eq!(run(&folder, &["show", "-"], b"").text(), "0: 0x01\nends at 0x01: 0 doublings, 0 additions, 0 subtractions\n");
+}
+
+/// Down to the step that is not sound, and why.
+#[test]
+fn shown_and_refused() {
+    let folder = Folder::new();
+    for (plan, last) in [
+        (steps(&[[0, 0, 0], [2, 0, 0], [0, 0, 0]]), "refused 9, place 2: this step has an unknown operation, or a position that is not below its own\n"),
+        (steps(&[[0, 0, 0], [1, 0, 0]]), "refused 10, place 2: the value at this step is zero\n"),
+    ] {
+        let ended = run(&folder, &["show", "-"], &plan);
+        assert_eq!(ended.text(), format!("0: 0x01\n1: add(0,0) = 0x02\n{}", last));
+        assert_eq!(ended.status, 1);
+        let object = Json::read(run(&folder, &["show", "-", "--json"], &plan).text().trim_end());
+        assert_eq!(object.get("values"), &Json::List(vec![Json::Text("0x01".into()), Json::Text("0x02".into())]));
+        let ended = run(&folder, &["show", "-", "--dot"], &plan);
+        assert_eq!(ended.status, 1);
+        assert!(ended.text().ends_with("0 -> 1 [label=\"double\"];\n}\n"));
+        assert_eq!(ended.err, format!("lesmutka: {}", last));
+    }
+    let ended = run(&folder, &["show", "-"], &[0; 4]);
+    assert_eq!(ended.status, 1);
+    assert!(ended.text().starts_with("refused 7, place 0: "), "{}", ended.text());
+}

@@ -1,0 +1,292 @@
+//! Batches: random and damaged lines, long ones, comments, line ends, and a reader that goes away.
+mod common;
+
+use common::{ended, expected, program, run, Folder, Json};
+use reference::generate::{methods, Rng};
+use std::collections::HashMap;
+use std::io::{BufRead, BufReader, Read, Write};
+use std::process::Stdio;
+
+const LINES: usize = 100_000;
+
+/// A request that is well formed.
+fn request(rng: &mut Rng) -> String {
+    let length = rng.pick(&[0, 1, 1, 2, 4, 8, 31, 32, 32, 33]);
+    let number = rng.bytes(length);
+    let number = match rng.below(3) {
+        0 => rng.next_u64().to_string(),
+        1 => {
+            let count = rng.between(1, 90);
+            (0..count).map(|_| char::from(b'0' + rng.below(10) as u8)).collect()
+        }
+        _ => format!("0x0{}", number.iter().map(|byte| format!("{:02X}", byte)).collect::<String>()),
+    };
+    let (method, width) = match rng.below(4) {
+        0 => (rng.below(6) as u32, rng.below(9) as u32),
+        _ => rng.pick(&methods()),
+    };
+    let name = ["0", "binary", "fixed", "sliding", "naf", "5"][method as usize];
+    let method = match (rng.one_in(2), width) {
+        (true, 0) => name.to_string(),
+        (true, _) => format!("{} {}", name, width),
+        (false, _) => format!("{} {}", method, width),
+    };
+    let mut digits = || {
+        let count = rng.below(40);
+        let words: Vec<&str> = (0..count).map(|_| rng.pick(&["0", "1", "-1", "0", "1", "-1", "2"])).collect();
+        words.join(" ")
+    };
+    match digits().len() % 5 {
+        0 => format!("recode {}", number),
+        1 => format!("clean {}", digits()),
+        2 => format!("read-back {}", digits()),
+        3 => format!("plan {} {}", number, method),
+        _ => format!("forecast {} {}", number, method),
+    }
+}
+
+/// A line with some bytes changed, cut out or put in; none ends it.
+fn damaged(rng: &mut Rng, line: &str) -> Vec<u8> {
+    let mut bytes = line.as_bytes().to_vec();
+    for _ in 0..rng.between(1, 4) {
+        let at = rng.below(bytes.len() + 1);
+        let byte = match rng.one_in(2) {
+            true => rng.next_byte(),
+            false => rng.pick(b" 0x1-#fa\t\r\0{\"~"),
+        };
+        match rng.below(3) {
+            0 => bytes.insert(at, byte),
+            1 => bytes.truncate(at),
+            _ if at < bytes.len() => bytes[at] = byte,
+            _ => {}
+        }
+    }
+    bytes.retain(|&byte| byte != b'\n');
+    bytes
+}
+
+/// 100,000 lines: a third as they should be, whose answers are those of `reference`; a third damaged; a
+/// third of random bytes. Each line with words has one answer, behind its number, and the run ends
+/// with a status, not a panic.
+#[test]
+fn random_and_damaged_lines() {
+    let rng = &mut Rng::new(0x6c69_6e65);
+    let mut input = Vec::new();
+    let mut wanted = Vec::new();
+    for _ in 0..LINES {
+        let line = request(rng);
+        match rng.below(3) {
+            0 => {
+                let words: Vec<&str> = line.split_whitespace().collect();
+                wanted.push(Some(expected(&words, &mut HashMap::new())));
+                input.extend_from_slice(line.as_bytes());
+            }
+            1 => {
+                wanted.push(None);
+                input.extend_from_slice(&damaged(rng, &line));
+            }
+            _ => {
+                wanted.push(None);
+                let length = rng.below(60);
+                input.extend(rng.bytes(length).into_iter().filter(|&byte| byte != b'\n'));
+            }
+        }
+        input.push(b'\n');
+    }
+    let folder = Folder::new();
+    let words = run(&folder, &["batch"], &input);
+    let objects = run(&folder, &["batch", "--json"], &input);
+    assert_eq!(folder.names(), Vec::<String>::new());
+    assert!(words.status == 2 || words.status == 3, "{}", words.err);
+    assert_eq!(objects.status, words.status);
+    assert_eq!(objects.err, words.err);
+    assert!(!words.err.contains("panicked"), "{}", words.err);
+
+    let answers = words.text();
+    let answers: Vec<(usize, &str)> = answers
+        .lines()
+        .map(|line| line.split_once(": ").expect(line))
+        .map(|(number, answer)| (number.parse().expect("the number of a line"), answer))
+        .collect();
+    assert!(answers.windows(2).all(|pair| pair[0].0 < pair[1].0));
+    let objects = objects.text();
+    let objects: Vec<Json> = objects.lines().map(Json::read).collect();
+    assert_eq!(objects.len(), answers.len());
+    let mut statuses: HashMap<String, usize> = HashMap::new();
+    let mut compared = 0;
+    for ((number, answer), object) in answers.iter().zip(&objects) {
+        assert_eq!(object.keys(), objects[0].keys());
+        assert_eq!(object.get("line"), &Json::Number(*number as i64));
+        let status = match object.get("status") {
+            Json::Text(status) => status.clone(),
+            other => panic!("{:?}", other),
+        };
+        if let Some(wanted) = &wanted[number - 1] {
+            assert_eq!(answer, wanted);
+            compared += 1;
+        }
+        *statuses.entry(status).or_default() += 1;
+    }
+    assert_eq!(compared, wanted.iter().flatten().count());
+    assert!(compared > LINES / 4);
+    let count = |status: &str| statuses.get(status).copied().unwrap_or(0);
+    assert!(count("answered") > 10_000 && count("refused") > 10_000 && count("malformed") > 10_000);
+    assert!(words.err.starts_with(&format!(
+        "lesmutka: {} requests: {} answered, {} refused, {} malformed (the first on line ",
+        answers.len(),
+        count("answered"),
+        count("refused"),
+        count("malformed")
+    )));
+}
+
+fn batch(input: &[u8]) -> (i32, String, String) {
+    let folder = Folder::new();
+    let ended = run(&folder, &["-"], input);
+    (ended.status, ended.text(), ended.err)
+}
+
+#[test]
+fn comments_blank_lines_and_line_ends() {
+    let (status, out, err) = batch(
+        b"\xef\xbb\xbf# a comment\r\n\r\n  recode\t3 \r\n\n# recode 3\nrecode 1 # one\nclean 1 1#1\n\xef\xbb\xbfrecode 3\nrecode 1",
+    );
+    assert_eq!(
+        out,
+        "3: 0x03: digits: 1 0 -1\n6: 0x01: digits: 1\n\
+         7: refused 4, place 0: the digit at this place is none of 0, 1, -1\n\
+         8: malformed: no such request (recode, clean, read-back, forecast, plan, check, show, methods, batch): \
+         `\u{feff}recode`\n\
+         9: 0x01: digits: 1\n"
+    );
+    assert_eq!(status, 2);
+    assert_eq!(
+        err,
+        "lesmutka: 5 requests: 3 answered, 1 refused, 1 malformed (the first on line 8), 0 failed\n"
+    );
+}
+
+#[test]
+fn nothing_to_answer() {
+    for input in [&b""[..], b"\n\n", b"# nothing", b"\xef\xbb\xbf"] {
+        let (status, out, err) = batch(input);
+        assert_eq!((status, out.as_str()), (0, ""));
+        assert_eq!(err, "lesmutka: 0 requests: 0 answered, 0 refused, 0 malformed, 0 failed\n");
+    }
+}
+
+/// The highest status of an answer counts.
+#[test]
+fn highest_status() {
+    let lines = ["recode 1\n", "recode 0x00\nforecast 0 naf\n", "plan\n", "check 3 missing\n"];
+    for status in 0..4 {
+        let input: String = lines[..=status].concat();
+        assert_eq!(batch(input.as_bytes()).0, status as i32);
+        let reversed: String = lines[..=status].iter().rev().copied().collect();
+        assert_eq!(batch(reversed.as_bytes()).0, status as i32);
+    }
+}
+
+/// What stands on the command line alone, and `-` for standard input, which holds the requests.
+#[test]
+fn what_a_line_cannot_ask_for() {
+    for line in [
+        "show x", "methods", "batch", "-", "help", "recode 1 --json", "recode 1 --help", "--version", "check 3 -",
+        "plan 3 naf to -", "recode 1 --force", "recode 1 --dot",
+    ] {
+        let (status, out, _) = batch(line.as_bytes());
+        assert_eq!(status, 2, "{}", line);
+        assert!(out.starts_with("1: malformed: "), "{}: {}", line, out);
+    }
+}
+
+#[test]
+fn long_lines() {
+    let most = 8192;
+    let exact = format!("recode {}", "0".repeat(most - 7));
+    let zero = "0x0: digits: none\n";
+    let long = "malformed: a line has at most 8192 bytes\n";
+    for end in ["\n", "\r\n", ""] {
+        let (status, out, _) = batch(format!("{}{}", exact, end).as_bytes());
+        assert_eq!((status, out), (0, format!("1: {}", zero)));
+    }
+    for more in [1, 2, 100_000, 1_000_000] {
+        let line = format!("{}{}", exact, "0".repeat(more));
+        let (status, out, _) = batch(format!("recode 0\n{}\nrecode 0\n{}", line, line).as_bytes());
+        assert_eq!((status, out), (2, format!("1: {}2: {}3: {}4: {}", zero, long, zero, long)));
+    }
+}
+
+/// An answer comes before the next request is there.
+#[test]
+fn answers_come_at_once() {
+    let mut child = program()
+        .arg("-")
+        .stdin(Stdio::piped())
+        .stdout(Stdio::piped())
+        .stderr(Stdio::piped())
+        .spawn()
+        .expect("the program runs");
+    let mut stdin = child.stdin.take().expect("standard input");
+    let mut stdout = BufReader::new(child.stdout.take().expect("standard output"));
+    for line in 1..4 {
+        stdin.write_all(b"recode 1\n").expect("a request");
+        let mut answer = String::new();
+        stdout.read_line(&mut answer).expect("an answer");
+        assert_eq!(answer, format!("{}: 0x01: digits: 1\n", line));
+    }
+    drop(stdin);
+    assert!(child.wait().expect("the program ends").success());
+}
+
+/// A reader that has gone away: the program ends, without a word.
+#[test]
+fn a_closed_pipe() {
+    let mut child = program()
+        .arg("-")
+        .stdin(Stdio::piped())
+        .stdout(Stdio::piped())
+        .stderr(Stdio::piped())
+        .spawn()
+        .expect("the program runs");
+    drop(child.stdout.take());
+    let mut stdin = child.stdin.take().expect("standard input");
+    let _ = stdin.write_all("recode 1\n".repeat(100_000).as_bytes());
+    drop(stdin);
+    let mut err = String::new();
+    child.stderr.take().expect("standard error").read_to_string(&mut err).expect("text");
+    assert!(child.wait().expect("the program ends").success());
+    assert_eq!(err, "");
+}
+
+#[test]
+fn input_that_cannot_be_read_and_output_that_cannot_be_written() {
+    let folder = Folder::new();
+    let input = std::fs::File::open(folder.path()).expect("a folder");
+    let output = program().arg("-").stdin(input).output().expect("the program runs");
+    assert_eq!(output.status.code(), Some(3));
+    assert!(String::from_utf8_lossy(&output.stderr).starts_with("lesmutka: cannot read standard input: "));
+    let full = std::fs::OpenOptions::new().write(true).open("/dev/full").expect("/dev/full");
+    for words in [&["-"][..], &["methods"], &["recode", "1"]] {
+        let mut child = program()
+            .args(words)
+            .stdin(Stdio::piped())
+            .stdout(full.try_clone().expect("/dev/full"))
+            .stderr(Stdio::piped())
+            .spawn()
+            .expect("the program runs");
+        let _ = child.stdin.take().expect("standard input").write_all(b"recode 1\n");
+        let output = child.wait_with_output().expect("the program ends");
+        assert_eq!(output.status.code(), Some(3), "{:?}", words);
+        assert!(String::from_utf8_lossy(&output.stderr).starts_with("lesmutka: cannot write to standard output: "));
+    }
+}
+
+/// Binary input, as a whole and as a plan.
+#[test]
+fn binary_input() {
+    let bytes = Rng::new(7).bytes(1 << 20);
+    let ended = ended(program().arg("-"), &bytes);
+    assert!(ended.status == 2 || ended.status == 3);
+    assert!(!ended.err.contains("panicked"), "{}", ended.err);
+}

@@ -1,0 +1,68 @@
+// The words of a refusal, for languages that cannot read the header for C.
+use rules::Refusal;
+use rules::Written;
+ghost use mathlib.Core.Path.{_≡_};
+ghost use lib.ListN.{length};
+ghost use Rattle.rules.specs.Memory.{fitted, leaves};
+ghost use Rattle.refusal_words.specs.Words.{wordsAnswer, wordsBuffer};
+
+// What the refusals say, from 0, which is none, to 12, one text behind another.
+const TEXTS: [u8; 487] = *b"not refused\
+    the number is too long\
+    the number is zero\
+    no such method, or a width that it does not allow\
+    the digit at this place is none of 0, 1, -1\
+    the digit string is too long\
+    the output needs this many bytes\
+    the plan is no whole number of steps, or has too many\
+    the work space is too short for the plan\
+    this step has an unknown operation, or a position that is not below its own\
+    the value at this step is zero\
+    the value at this step is too large\
+    the last value, at this position, is not the number";
+
+// Where each text starts, and where the last ends.
+const STARTS: [usize; 14] = [
+    0,
+    11,
+    33,
+    51,
+    100,
+    143,
+    171,
+    203,
+    256,
+    296,
+    371,
+    401,
+    436,
+    487,
+];
+
+// Puts a text at the start of a buffer that has room for all of it.
+fn copy(text: &[u8], out: &mut [u8]) -> Written
+    ensures answer { λ r. ⌜ r ≡ fitted (now (text .entry)) (length (now (out .entry))) ⌝ }
+    ensures buffer { λ r. ⌜ now (out .exit) ≡ leaves (fitted (now (text .entry)) (length (now (out .entry)))) (now (text .entry)) (now (out .entry)) ⌝ }
+{
+    if out.len() < text.len() {
+        return Written::Refused(Refusal::RoomTooSmall(text.len()));
+    }
+    let mut i = 0;
+    while i < text.len() {
+        out[i] = text[i];
+        i += 1;
+    }
+    Written::Length(text.len())
+}
+
+// Writes what a refusal's number says.
+pub fn write_words(refusal: usize, out: &mut [u8]) -> Written
+    ensures answer { λ r. ⌜ r ≡ wordsAnswer refusal (length (now (out .entry))) ⌝ }
+    ensures buffer { λ r. ⌜ now (out .exit) ≡ wordsBuffer refusal (now (out .entry)) ⌝ }
+{
+    if 12 < refusal {
+        return copy(b"no such refusal", out);
+    }
+    let texts = TEXTS;
+    copy(&texts[STARTS[refusal]..STARTS[refusal + 1]], out)
+}

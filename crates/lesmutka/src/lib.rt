@@ -20,6 +20,7 @@ ghost use Rattle.cleaning.specs.Clean.{cleanAnswer, cleanBuffer};
 ghost use Rattle.reading.specs.ReadBack.{readBackAnswer, readBackBuffer};
 ghost use Rattle.planning.specs.Plan.{forecastAnswer, planAnswer, planBuffer};
 ghost use Rattle.checking.specs.Check.{checkAnswer, checkSpace};
+ghost use Rattle.refusal_words.specs.Words.{wordsAnswer, wordsBuffer};
 ghost use Rattle.c_answers.specs.Answers.{startedFields, writtenFields, readFields, countedFields, limitFields};
 ghost use Rattle.c_answers.specs.Kept.{keptNumber, IsKeptTake};
 
@@ -113,4 +114,13 @@ pub extern "C" fn lesmutka_limits() -> Limits
     ensures { λ r. ⌜ r ≡ limitFields documented ⌝ }
 {
     c_answers::of_limits(rules::current())
+}
+
+// Writes what a refusal's number says.
+#[no_mangle]
+pub extern "C" fn lesmutka_write_words(refusal: usize, out: &mut [u8]) -> Length
+    ensures answer { λ r. ⌜ r ≡ writtenFields (wordsAnswer refusal (length (now (out .entry)))) ⌝ }
+    ensures buffer { λ r. ⌜ now (out .exit) ≡ wordsBuffer refusal (now (out .entry)) ⌝ }
+{
+    c_answers::of_written(refusal_words::write_words(refusal, out))
 }

@@ -63,6 +63,5 @@ pub fn write_words(refusal: usize, out: &mut [u8]) -> Written
     if 12 < refusal {
         return copy(b"no such refusal", out);
     }
-    let texts = TEXTS;
-    copy(&texts[STARTS[refusal]..STARTS[refusal + 1]], out)
+    copy(&TEXTS[STARTS[refusal]..STARTS[refusal + 1]], out)
 }

@@ -1,8 +1,8 @@
 //! Requests into answers, by the calls of the library.
+use crate::files;
 use crate::plans;
 use crate::print::Status;
 use crate::request::{Choice, Request};
-use crate::files;
 use lesmutka::{sys, Counts, Refusal, Value};
 use std::ffi::OsStr;
 use std::fmt;
@@ -124,7 +124,12 @@ impl Desk {
                 let counts = Counts::try_from(sys::forecast(number, method, width));
                 Ok(about(number, counts.map(Answer::Counts)))
             }
-            Request::Plan { number, choice, file, force } => {
+            Request::Plan {
+                number,
+                choice,
+                file,
+                force,
+            } => {
                 let number = read_number(number, &mut self.number)?;
                 let Choice { method, width } = *choice;
                 let counts = match Counts::try_from(sys::plan(number, method, width, &mut self.plan)) {

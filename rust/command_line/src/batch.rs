@@ -112,9 +112,7 @@ impl Batch {
         self.line += 1;
         let form = Form::new(self.json, Some(self.line));
         let answered = match line.map(|line| trimmed(line, self.line == 1)) {
-            Some(line) if line.len() <= LINE_BYTES => {
-                answer(line, self.force, &mut self.desk, &form, &mut self.out)
-            }
+            Some(line) if line.len() <= LINE_BYTES => answer(line, self.force, &mut self.desk, &form, &mut self.out),
             _ => Err(Fault::Malformed(format!("a line has at most {} bytes", LINE_BYTES))),
         };
         let status = match answered {
@@ -167,13 +165,7 @@ fn trimmed(line: &[u8], first: bool) -> &[u8] {
 }
 
 /// Answers a line; no status if it has no words.
-fn answer(
-    line: &[u8],
-    force: bool,
-    desk: &mut Desk,
-    form: &Form,
-    out: &mut Vec<u8>,
-) -> Result<Option<Status>, Fault> {
+fn answer(line: &[u8], force: bool, desk: &mut Desk, form: &Form, out: &mut Vec<u8>) -> Result<Option<Status>, Fault> {
     let words: Vec<&[u8]> = line
         .split(|byte| byte.is_ascii_whitespace())
         .filter(|word| !word.is_empty())
@@ -188,7 +180,9 @@ fn answer(
     }
     let mut words = Words::new(&words)?;
     if words.json || words.dot || words.help || words.version {
-        return Err(Fault::Malformed("of the options a line takes --force alone".to_string()));
+        return Err(Fault::Malformed(
+            "of the options a line takes --force alone".to_string(),
+        ));
     }
     // That of the whole batch is for the lines that can have it.
     words.force |= force && verb == b"plan" && words.plain.contains(&&b"to"[..]);

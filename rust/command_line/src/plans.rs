@@ -57,9 +57,9 @@ fn steps_of(text: &str) -> Result<Vec<u8>, Fault> {
         return Ok(bytes);
     }
     for word in words {
-        let step: Step = word.parse().map_err(|_| {
-            Fault::malformed("no step of a plan, which is add(J,K) or subtract(J,K)", word.as_bytes())
-        })?;
+        let step: Step = word
+            .parse()
+            .map_err(|_| Fault::malformed("no step of a plan, which is add(J,K) or subtract(J,K)", word.as_bytes()))?;
         bytes.extend_from_slice(&step.to_bytes());
     }
     Ok(bytes)
@@ -67,7 +67,9 @@ fn steps_of(text: &str) -> Result<Vec<u8>, Fault> {
 
 /// The steps of a JSON object that `plan` printed, with blanks between them.
 fn steps_of_object(text: &str) -> Result<String, Fault> {
-    let steps = text.split_once("\"steps\":[").and_then(|(_, rest)| rest.split_once(']'));
+    let steps = text
+        .split_once("\"steps\":[")
+        .and_then(|(_, rest)| rest.split_once(']'));
     match steps {
         Some((steps, _)) => Ok(steps.replace("\",\"", " ").replace('"', " ")),
         None => Err(Fault::Malformed("the object has no steps".to_string())),

@@ -174,7 +174,10 @@ pub fn hint(refusal: Refusal, choice: Option<Choice>) -> Option<String> {
             None => {
                 let mut methods: Vec<Method> = Method::ALL.to_vec();
                 methods.dedup_by_key(|method| method.number());
-                let all: Vec<String> = methods.iter().map(|m| format!("{} ({})", m.name(), m.number())).collect();
+                let all: Vec<String> = methods
+                    .iter()
+                    .map(|m| format!("{} ({})", m.name(), m.number()))
+                    .collect();
                 format!("the methods are {}", all.join(", "))
             }
         }),
@@ -342,7 +345,9 @@ impl<'a> Fields<'a> {
             in_list(out, |out| put_digits(digits, b",", out))
         });
         out.extend_from_slice(b",\"value\":");
-        put_or_null(self.value, out, |value, out| in_quotes(out, |out| put_value(value, out)));
+        put_or_null(self.value, out, |value, out| {
+            in_quotes(out, |out| put_value(value, out))
+        });
         let counts = self.counts.as_ref();
         out.extend_from_slice(b",\"doublings\":");
         put_or_null(counts.map(|counts| counts.doublings as u64), out, put_number);

@@ -60,13 +60,33 @@ pub struct Choice {
 
 /// What is asked for. Numbers and digits are still words.
 pub enum Request<'a> {
-    Recode { number: &'a [u8] },
-    Clean { digits: &'a [&'a [u8]] },
-    ReadBack { digits: &'a [&'a [u8]] },
-    Forecast { number: &'a [u8], choice: Choice },
-    Plan { number: &'a [u8], choice: Choice, file: Option<&'a OsStr>, force: bool },
-    Check { number: &'a [u8], file: &'a OsStr },
-    Show { file: &'a OsStr, dot: bool },
+    Recode {
+        number: &'a [u8],
+    },
+    Clean {
+        digits: &'a [&'a [u8]],
+    },
+    ReadBack {
+        digits: &'a [&'a [u8]],
+    },
+    Forecast {
+        number: &'a [u8],
+        choice: Choice,
+    },
+    Plan {
+        number: &'a [u8],
+        choice: Choice,
+        file: Option<&'a OsStr>,
+        force: bool,
+    },
+    Check {
+        number: &'a [u8],
+        file: &'a OsStr,
+    },
+    Show {
+        file: &'a OsStr,
+        dot: bool,
+    },
 }
 
 impl<'a> Request<'a> {

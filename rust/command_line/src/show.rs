@@ -11,7 +11,9 @@ use std::os::unix::ffi::OsStrExt;
 /// Puts the steps of a plan with their values, down to the first that is not sound.
 pub fn show(file: &OsStr, dot: bool, json: bool, desk: &mut Desk, out: &mut Vec<u8>) -> Status {
     if dot && json {
-        return complain(&Fault::Malformed("--dot and --json are two forms of one answer".to_string()));
+        return complain(&Fault::Malformed(
+            "--dot and --json are two forms of one answer".to_string(),
+        ));
     }
     let plan = match plans::read(file) {
         Ok(plan) => plan,
@@ -131,7 +133,11 @@ impl<'a> Shown<'a> {
                 None => Ok(()),
                 Some(Step::Add(j, k)) if j == k => writeln!(out, "    {} -> {} [label=\"double\"];", j, position),
                 Some(Step::Add(j, k)) => {
-                    writeln!(out, "    {} -> {} [label=\"+\"];\n    {} -> {} [label=\"+\"];", j, position, k, position)
+                    writeln!(
+                        out,
+                        "    {} -> {} [label=\"+\"];\n    {} -> {} [label=\"+\"];",
+                        j, position, k, position
+                    )
                 }
                 Some(Step::Subtract(j, k)) => writeln!(
                     out,

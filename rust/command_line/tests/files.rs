@@ -17,7 +17,15 @@ const ACCEPTED: &str = "0x03: accepted: 1 doublings, 1 additions, 0 subtractions
 #[test]
 fn written_and_checked() {
     let folder = Folder::new();
-    for name in ["three.plan", "a b.plan", "refused 6", "to", "./here", "-x", &"n".repeat(255)] {
+    for name in [
+        "three.plan",
+        "a b.plan",
+        "refused 6",
+        "to",
+        "./here",
+        "-x",
+        &"n".repeat(255),
+    ] {
         let ended = run(&folder, &["plan", "3", "1", "to", name], b"");
         let shown = match name.len() > 80 {
             true => format!("{}...", "n".repeat(80)),
@@ -46,7 +54,10 @@ fn an_existing_file_is_replaced_with_force_alone() {
     folder.write("old", b"old");
     let ended = run(&folder, &["plan", "3", "1", "to", "old"], b"");
     assert_eq!((ended.status, ended.text().as_str()), (3, ""));
-    assert_eq!(ended.err, "lesmutka: cannot write old: it is there already; --force replaces it\n");
+    assert_eq!(
+        ended.err,
+        "lesmutka: cannot write old: it is there already; --force replaces it\n"
+    );
     assert_eq!(folder.read("old"), b"old");
     let ended = run(&folder, &["plan", "3", "1", "to", "old", "--force"], b"");
     assert_eq!(ended.status, 0);
@@ -75,7 +86,11 @@ fn modes() {
             let ended = common::ended(
                 Command::new("sh")
                     .args(["-c", "umask \"$1\"; exec \"$2\" plan 3 1 to \"$3\" $4", "sh", umask])
-                    .args([env!("CARGO_BIN_EXE_lesmutka"), &name, if force { "--force" } else { "" }])
+                    .args([
+                        env!("CARGO_BIN_EXE_lesmutka"),
+                        &name,
+                        if force { "--force" } else { "" },
+                    ])
                     .current_dir(folder.path()),
                 b"",
             );
@@ -92,7 +107,11 @@ fn nothing_is_left_of_a_failure() {
     let folder = Folder::new();
     fs::create_dir(folder.file("folder")).expect("a folder");
     folder.write("file", b"old");
-    assert!(Command::new("mkfifo").arg(folder.file("pipe")).status().expect("mkfifo").success());
+    assert!(Command::new("mkfifo")
+        .arg(folder.file("pipe"))
+        .status()
+        .expect("mkfifo")
+        .success());
     symlink("missing/x", folder.file("nowhere")).expect("a link");
     let before = folder.names();
     for (name, status) in [
@@ -112,7 +131,10 @@ fn nothing_is_left_of_a_failure() {
             assert_eq!(ended.err.lines().count(), 1);
         }
     }
-    for words in [&["plan", "0", "1", "to", "file", "--force"][..], &["plan", "0", "1", "to", "new"]] {
+    for words in [
+        &["plan", "0", "1", "to", "file", "--force"][..],
+        &["plan", "0", "1", "to", "new"],
+    ] {
         let ended = run(&folder, words, b"");
         assert_eq!(
             (ended.status, ended.text().as_str()),
@@ -122,7 +144,10 @@ fn nothing_is_left_of_a_failure() {
     assert_eq!(folder.names(), before);
     assert_eq!(folder.read("file"), b"old");
     assert_eq!(fs::read_dir(folder.file("folder")).expect("the folder").count(), 0);
-    assert!(fs::metadata(folder.file("pipe")).expect("the pipe").file_type().is_fifo());
+    assert!(fs::metadata(folder.file("pipe"))
+        .expect("the pipe")
+        .file_type()
+        .is_fifo());
 }
 
 /// A file system that is full: `/dev/shm` or another is not at hand, so a limit on the size of files
@@ -134,13 +159,21 @@ fn a_file_that_cannot_be_written_whole() {
     for (name, force) in [("new", ""), ("old", "--force")] {
         let ended = common::ended(
             Command::new("sh")
-                .args(["-c", "trap '' XFSZ; ulimit -f 0; exec \"$1\" plan 3 1 to \"$2\" $3", "sh"])
+                .args([
+                    "-c",
+                    "trap '' XFSZ; ulimit -f 0; exec \"$1\" plan 3 1 to \"$2\" $3",
+                    "sh",
+                ])
                 .args([env!("CARGO_BIN_EXE_lesmutka"), name, force])
                 .current_dir(folder.path()),
             b"",
         );
         assert_eq!((ended.status, ended.text().as_str()), (3, ""));
-        assert!(ended.err.starts_with(&format!("lesmutka: cannot write {}: ", name)), "{}", ended.err);
+        assert!(
+            ended.err.starts_with(&format!("lesmutka: cannot write {}: ", name)),
+            "{}",
+            ended.err
+        );
     }
     assert_eq!(folder.names(), ["old"]);
     assert_eq!(folder.read("old"), b"old");
@@ -153,9 +186,15 @@ fn links() {
     folder.write("file", b"old");
     symlink("file", folder.file("link")).expect("a link");
     assert_eq!(run(&folder, &["plan", "3", "1", "to", "link"], b"").status, 3);
-    assert_eq!(run(&folder, &["plan", "3", "1", "to", "link", "--force"], b"").status, 0);
+    assert_eq!(
+        run(&folder, &["plan", "3", "1", "to", "link", "--force"], b"").status,
+        0
+    );
     assert_eq!(folder.read("file"), three());
-    assert!(fs::symlink_metadata(folder.file("link")).expect("the link").file_type().is_symlink());
+    assert!(fs::symlink_metadata(folder.file("link"))
+        .expect("the link")
+        .file_type()
+        .is_symlink());
 }
 
 #[test]
@@ -174,7 +213,12 @@ fn standard_input_and_output() {
 #[test]
 fn what_plan_prints_is_taken_back() {
     let folder = Folder::new();
-    for number in ["1", "3", "43", "0xffffffffffffffffffffffffffffffffffffffffffffffffffffffffffffffff"] {
+    for number in [
+        "1",
+        "3",
+        "43",
+        "0xffffffffffffffffffffffffffffffffffffffffffffffffffffffffffffffff",
+    ] {
         for method in ["binary", "fixed 4", "sliding 4", "naf"] {
             let line = format!("plan {} {}", number, method);
             let words: Vec<&str> = line.split(' ').collect();
@@ -205,7 +249,12 @@ fn plans_as_text() {
         "\u{feff}# the plan for 3\nadd(0,0) # two\n\n  add(1,0)\n",
         "steps: add(0,0) add(1,0)",
     ] {
-        assert_eq!(run(&folder, &["check", "3", "-"], text.as_bytes()).text(), ACCEPTED, "{}", text);
+        assert_eq!(
+            run(&folder, &["check", "3", "-"], text.as_bytes()).text(),
+            ACCEPTED,
+            "{}",
+            text
+        );
     }
     for (text, word) in [
         ("add(0,0) ad(1,0)", "ad(1,0)"),
@@ -230,13 +279,25 @@ fn plans_as_text() {
     ] {
         let ended = run(&folder, &["check", "3", "-"], bytes);
         assert_eq!(ended.status, 1);
-        assert!(ended.text().starts_with(&format!("0x03: {}", refusal)), "{}", ended.text());
+        assert!(
+            ended.text().starts_with(&format!("0x03: {}", refusal)),
+            "{}",
+            ended.text()
+        );
     }
     // A position that the plan does not have, and more steps than a plan has.
     let ended = run(&folder, &["check", "3", "-"], b"add(0,0) add(2,0)");
-    assert!(ended.text().starts_with("0x03: refused 9, place 2: "), "{}", ended.text());
+    assert!(
+        ended.text().starts_with("0x03: refused 9, place 2: "),
+        "{}",
+        ended.text()
+    );
     let ended = run(&folder, &["check", "3", "-"], "add(0,0) ".repeat(641).as_bytes());
-    assert!(ended.text().starts_with("0x03: refused 7, place 0: "), "{}", ended.text());
+    assert!(
+        ended.text().starts_with("0x03: refused 7, place 0: "),
+        "{}",
+        ended.text()
+    );
 }
 
 #[test]
@@ -247,11 +308,19 @@ fn huge_plans() {
         assert!(ended.status == 1 || ended.status == 2);
     }
     let ended = run(&folder, &["check", "3", "/dev/zero"], b"");
-    assert!(ended.text().starts_with("0x03: refused 7, place 0: "), "{}", ended.text());
+    assert!(
+        ended.text().starts_with("0x03: refused 7, place 0: "),
+        "{}",
+        ended.text()
+    );
     for name in [".", "missing"] {
         let ended = run(&folder, &["check", "3", name], b"");
         assert_eq!((ended.status, ended.text().as_str()), (3, ""));
-        assert!(ended.err.starts_with(&format!("lesmutka: cannot read {}: ", name)), "{}", ended.err);
+        assert!(
+            ended.err.starts_with(&format!("lesmutka: cannot read {}: ", name)),
+            "{}",
+            ended.err
+        );
     }
 }
 
@@ -270,7 +339,10 @@ fn shown() {
     let object = Json::read(run(&folder, &["show", "plan", "--json"], b"").text().trim_end());
     let texts = |texts: &[&str]| Json::List(texts.iter().map(|text| Json::Text(text.to_string())).collect());
     assert_eq!(object.get("values"), &texts(&["0x01", "0x02", "-0x01", "0x03"]));
-    assert_eq!(object.get("steps"), &texts(&step_words(&plan).split(' ').collect::<Vec<_>>()));
+    assert_eq!(
+        object.get("steps"),
+        &texts(&step_words(&plan).split(' ').collect::<Vec<_>>())
+    );
     assert_eq!(object.get("subtractions"), &Json::Number(2));
     let dot = run(&folder, &["show", "plan", "--dot"], b"").text();
     assert_eq!(
@@ -285,8 +357,15 @@ fn shown() {
     assert!(ended.text().ends_with("ends at -0x01\n"), "{}", ended.text());
     let doublings: Vec<[u16; 3]> = (0..260).map(|i| [0, i, i]).collect();
     let ended = run(&folder, &["show", "-"], &steps(&doublings));
-    assert!(ended.text().ends_with(&format!("ends at 0x10{}\n", "0".repeat(64))), "{}", ended.text());
-    assert_eq!(run(&folder, &["show", "-"], b"").text(), "0: 0x01\nends at 0x01: 0 doublings, 0 additions, 0 subtractions\n");
+    assert!(
+        ended.text().ends_with(&format!("ends at 0x10{}\n", "0".repeat(64))),
+        "{}",
+        ended.text()
+    );
+    assert_eq!(
+        run(&folder, &["show", "-"], b"").text(),
+        "0: 0x01\nends at 0x01: 0 doublings, 0 additions, 0 subtractions\n"
+    );
 }
 
 /// Down to the step that is not sound, and why.
@@ -294,14 +373,23 @@ fn shown() {
 fn shown_and_refused() {
     let folder = Folder::new();
     for (plan, last) in [
-        (steps(&[[0, 0, 0], [2, 0, 0], [0, 0, 0]]), "refused 9, place 2: this step has an unknown operation, or a position that is not below its own\n"),
-        (steps(&[[0, 0, 0], [1, 0, 0]]), "refused 10, place 2: the value at this step is zero\n"),
+        (
+            steps(&[[0, 0, 0], [2, 0, 0], [0, 0, 0]]),
+            "refused 9, place 2: this step has an unknown operation, or a position that is not below its own\n",
+        ),
+        (
+            steps(&[[0, 0, 0], [1, 0, 0]]),
+            "refused 10, place 2: the value at this step is zero\n",
+        ),
     ] {
         let ended = run(&folder, &["show", "-"], &plan);
         assert_eq!(ended.text(), format!("0: 0x01\n1: add(0,0) = 0x02\n{}", last));
         assert_eq!(ended.status, 1);
         let object = Json::read(run(&folder, &["show", "-", "--json"], &plan).text().trim_end());
-        assert_eq!(object.get("values"), &Json::List(vec![Json::Text("0x01".into()), Json::Text("0x02".into())]));
+        assert_eq!(
+            object.get("values"),
+            &Json::List(vec![Json::Text("0x01".into()), Json::Text("0x02".into())])
+        );
         let ended = run(&folder, &["show", "-", "--dot"], &plan);
         assert_eq!(ended.status, 1);
         assert!(ended.text().ends_with("0 -> 1 [label=\"double\"];\n}\n"));

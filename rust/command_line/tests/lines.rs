@@ -19,7 +19,10 @@ fn request(rng: &mut Rng) -> String {
             let count = rng.between(1, 90);
             (0..count).map(|_| char::from(b'0' + rng.below(10) as u8)).collect()
         }
-        _ => format!("0x0{}", number.iter().map(|byte| format!("{:02X}", byte)).collect::<String>()),
+        _ => format!(
+            "0x0{}",
+            number.iter().map(|byte| format!("{:02X}", byte)).collect::<String>()
+        ),
     };
     let (method, width) = match rng.below(4) {
         0 => (rng.below(6) as u32, rng.below(9) as u32),
@@ -33,7 +36,9 @@ fn request(rng: &mut Rng) -> String {
     };
     let mut digits = || {
         let count = rng.below(40);
-        let words: Vec<&str> = (0..count).map(|_| rng.pick(&["0", "1", "-1", "0", "1", "-1", "2"])).collect();
+        let words: Vec<&str> = (0..count)
+            .map(|_| rng.pick(&["0", "1", "-1", "0", "1", "-1", "2"]))
+            .collect();
         words.join(" ")
     };
     match digits().len() % 5 {
@@ -171,14 +176,22 @@ fn nothing_to_answer() {
     for input in [&b""[..], b"\n\n", b"# nothing", b"\xef\xbb\xbf"] {
         let (status, out, err) = batch(input);
         assert_eq!((status, out.as_str()), (0, ""));
-        assert_eq!(err, "lesmutka: 0 requests: 0 answered, 0 refused, 0 malformed, 0 failed\n");
+        assert_eq!(
+            err,
+            "lesmutka: 0 requests: 0 answered, 0 refused, 0 malformed, 0 failed\n"
+        );
     }
 }
 
 /// The highest status of an answer counts.
 #[test]
 fn highest_status() {
-    let lines = ["recode 1\n", "recode 0x00\nforecast 0 naf\n", "plan\n", "check 3 missing\n"];
+    let lines = [
+        "recode 1\n",
+        "recode 0x00\nforecast 0 naf\n",
+        "plan\n",
+        "check 3 missing\n",
+    ];
     for status in 0..4 {
         let input: String = lines[..=status].concat();
         assert_eq!(batch(input.as_bytes()).0, status as i32);
@@ -191,8 +204,18 @@ fn highest_status() {
 #[test]
 fn what_a_line_cannot_ask_for() {
     for line in [
-        "show x", "methods", "batch", "-", "help", "recode 1 --json", "recode 1 --help", "--version", "check 3 -",
-        "plan 3 naf to -", "recode 1 --force", "recode 1 --dot",
+        "show x",
+        "methods",
+        "batch",
+        "-",
+        "help",
+        "recode 1 --json",
+        "recode 1 --help",
+        "--version",
+        "check 3 -",
+        "plan 3 naf to -",
+        "recode 1 --force",
+        "recode 1 --dot",
     ] {
         let (status, out, _) = batch(line.as_bytes());
         assert_eq!(status, 2, "{}", line);
@@ -213,7 +236,10 @@ fn long_lines() {
     for more in [1, 2, 100_000, 1_000_000] {
         let line = format!("{}{}", exact, "0".repeat(more));
         let (status, out, _) = batch(format!("recode 0\n{}\nrecode 0\n{}", line, line).as_bytes());
-        assert_eq!((status, out), (2, format!("1: {}2: {}3: {}4: {}", zero, long, zero, long)));
+        assert_eq!(
+            (status, out),
+            (2, format!("1: {}2: {}3: {}4: {}", zero, long, zero, long))
+        );
     }
 }
 
@@ -254,7 +280,12 @@ fn a_closed_pipe() {
     let _ = stdin.write_all("recode 1\n".repeat(100_000).as_bytes());
     drop(stdin);
     let mut err = String::new();
-    child.stderr.take().expect("standard error").read_to_string(&mut err).expect("text");
+    child
+        .stderr
+        .take()
+        .expect("standard error")
+        .read_to_string(&mut err)
+        .expect("text");
     assert!(child.wait().expect("the program ends").success());
     assert_eq!(err, "");
 }
@@ -266,7 +297,10 @@ fn input_that_cannot_be_read_and_output_that_cannot_be_written() {
     let output = program().arg("-").stdin(input).output().expect("the program runs");
     assert_eq!(output.status.code(), Some(3));
     assert!(String::from_utf8_lossy(&output.stderr).starts_with("lesmutka: cannot read standard input: "));
-    let full = std::fs::OpenOptions::new().write(true).open("/dev/full").expect("/dev/full");
+    let full = std::fs::OpenOptions::new()
+        .write(true)
+        .open("/dev/full")
+        .expect("/dev/full");
     for words in [&["-"][..], &["methods"], &["recode", "1"]] {
         let mut child = program()
             .args(words)

@@ -15,7 +15,17 @@ fn help_and_version() {
     for words in [&["--help"][..], &["-h"], &["help", "help"]] {
         assert_eq!(asked(words), (0, help.clone(), String::new()));
     }
-    for verb in ["recode", "clean", "read-back", "forecast", "plan", "check", "show", "methods", "batch"] {
+    for verb in [
+        "recode",
+        "clean",
+        "read-back",
+        "forecast",
+        "plan",
+        "check",
+        "show",
+        "methods",
+        "batch",
+    ] {
         assert!(help.contains(&format!("\n  {}", verb)), "{}", verb);
         let (status, about, err) = asked(&["help", verb]);
         assert_eq!((status, err.as_str()), (0, ""));
@@ -24,7 +34,12 @@ fn help_and_version() {
         assert_eq!(asked(&["-h", verb]).1, about);
     }
     let version = lesmutka::version();
-    let text = format!("lesmutka {}.{}.{}\n", version / 10000, version / 100 % 100, version % 100);
+    let text = format!(
+        "lesmutka {}.{}.{}\n",
+        version / 10000,
+        version / 100 % 100,
+        version % 100
+    );
     assert_eq!(asked(&["--version"]), (0, text.clone(), String::new()));
     assert_eq!(text, format!("lesmutka {}\n", env!("CARGO_PKG_VERSION")));
     let (status, out, err) = asked(&[]);
@@ -54,9 +69,18 @@ fn methods() {
 fn malformed_requests() {
     const NO_NUMBER: &str = "no number, which is decimal, or hexadecimal with 0x: ";
     for (words, told) in [
-        (&["rekode", "43"][..], "no such request (recode, clean, read-back, forecast, plan, check, show, methods, batch): `rekode`"),
-        (&["recode", "2b"], "no decimal number: `2b`; if it is hexadecimal, write 0x2b"),
-        (&["recode", "2B"], "no decimal number: `2B`; if it is hexadecimal, write 0x2B"),
+        (
+            &["rekode", "43"][..],
+            "no such request (recode, clean, read-back, forecast, plan, check, show, methods, batch): `rekode`",
+        ),
+        (
+            &["recode", "2b"],
+            "no decimal number: `2b`; if it is hexadecimal, write 0x2b",
+        ),
+        (
+            &["recode", "2B"],
+            "no decimal number: `2B`; if it is hexadecimal, write 0x2B",
+        ),
         (&["recode", "2g"], &format!("{}`2g`", NO_NUMBER)),
         (&["recode", "-1"], &format!("{}`-1`", NO_NUMBER)),
         (&["recode", "1.5"], &format!("{}`1.5`", NO_NUMBER)),
@@ -69,33 +93,66 @@ fn malformed_requests() {
         (&["recode", "4\x1b3"], &format!("{}`4\\u{{1b}}3`", NO_NUMBER)),
         (&["recode"], "the form is: recode NUMBER"),
         (&["recode", "4", "3"], "the form is: recode NUMBER"),
-        (&["plan", "3"], "the form is: plan NUMBER METHOD [WIDTH] [to FILE] [--force]"),
+        (
+            &["plan", "3"],
+            "the form is: plan NUMBER METHOD [WIDTH] [to FILE] [--force]",
+        ),
         (&["plan", "3", "x"], "no such method (binary, fixed, sliding, naf): `x`"),
         (&["plan", "3", "1", "x"], "no width, which is a decimal number: `x`"),
-        (&["plan", "3", "fixed", "0x2"], "no width, which is a decimal number: `0x2`"),
-        (&["plan", "3", "2", "1", "1"], "a method has one width and no more words: `1`"),
+        (
+            &["plan", "3", "fixed", "0x2"],
+            "no width, which is a decimal number: `0x2`",
+        ),
+        (
+            &["plan", "3", "2", "1", "1"],
+            "a method has one width and no more words: `1`",
+        ),
         (&["plan", "3", "1", "to"], "no width, which is a decimal number: `to`"),
-        (&["plan", "3", "1", "into", "x"], "a method has one width and no more words: `x`"),
-        (&["plan", "3", "to", "x"], "no such method (binary, fixed, sliding, naf): `to`"),
+        (
+            &["plan", "3", "1", "into", "x"],
+            "a method has one width and no more words: `x`",
+        ),
+        (
+            &["plan", "3", "to", "x"],
+            "no such method (binary, fixed, sliding, naf): `to`",
+        ),
         (&["plan", "3", "1", "to", ""], "the name of the file is empty"),
         (&["plan", "", "2", "4", "to", "x"], "the number is empty"),
-        (&["plan", "3", "1", "to", "-", "--json"], "with `to -` standard output holds the plan's bytes, and no JSON"),
-        (&["plan", "3", "1", "--force"], "--force is for `plan ... to FILE` alone"),
+        (
+            &["plan", "3", "1", "to", "-", "--json"],
+            "with `to -` standard output holds the plan's bytes, and no JSON",
+        ),
+        (
+            &["plan", "3", "1", "--force"],
+            "--force is for `plan ... to FILE` alone",
+        ),
         (&["plan", "3", "1", "--dot"], "--dot is for `show` alone"),
         (&["forecast", "3"], "the form is: forecast NUMBER METHOD [WIDTH]"),
-        (&["forecast", "3", ""], "no such method (binary, fixed, sliding, naf): ``"),
+        (
+            &["forecast", "3", ""],
+            "no such method (binary, fixed, sliding, naf): ``",
+        ),
         (&["check", "3"], "the form is: check NUMBER FILE"),
         (&["check", "3", ""], "the name of the file is empty"),
         (&["check", "3", "x", "y"], "the form is: check NUMBER FILE"),
         (&["check", "g", "x"], &format!("{}`g`", NO_NUMBER)),
         (&["show"], "the form is: show FILE [--dot]"),
-        (&["show", "x", "--dot", "--json"], "--dot and --json are two forms of one answer"),
+        (
+            &["show", "x", "--dot", "--json"],
+            "--dot and --json are two forms of one answer",
+        ),
         (&["methods", "x"], "the form is: methods"),
         (&["batch", "x"], "the form is: batch"),
-        (&["-", "x"], "no such request (recode, clean, read-back, forecast, plan, check, show, methods, batch): `-`"),
+        (
+            &["-", "x"],
+            "no such request (recode, clean, read-back, forecast, plan, check, show, methods, batch): `-`",
+        ),
         (&["help", "me"], "no such request: `me`"),
         (&["recode", "1", "--jason"], "no such option: `--jason`"),
-        (&["", "1"], "no such request (recode, clean, read-back, forecast, plan, check, show, methods, batch): ``"),
+        (
+            &["", "1"],
+            "no such request (recode, clean, read-back, forecast, plan, check, show, methods, batch): ``",
+        ),
     ] {
         let folder = Folder::new();
         let ended = run(&folder, words, b"");
@@ -111,7 +168,10 @@ fn malformed_requests() {
 /// With --json a fault is an object too.
 #[test]
 fn faults_as_json() {
-    for (words, status, name) in [(&["recode", "2b", "--json"][..], 2, "malformed"), (&["check", "3", "missing", "--json"], 3, "failed")] {
+    for (words, status, name) in [
+        (&["recode", "2b", "--json"][..], 2, "malformed"),
+        (&["check", "3", "missing", "--json"], 3, "failed"),
+    ] {
         let (ended, out, err) = asked(words);
         assert_eq!(ended, status);
         let object = Json::read(out.trim_end());
@@ -136,7 +196,10 @@ fn words_that_look_like_options() {
 /// Digits may stand in one word, in several, or there are none.
 #[test]
 fn digits() {
-    for words in [&["read-back", "-1 0 1", "0", " 1 0 1"][..], &["read-back", "-1", "0", "1", "0", "1", "0", "1"]] {
+    for words in [
+        &["read-back", "-1 0 1", "0", " 1 0 1"][..],
+        &["read-back", "-1", "0", "1", "0", "1", "0", "1"],
+    ] {
         assert_eq!(asked(words).1, "value: -0x2b\n");
     }
     for words in [&["clean"][..], &["clean", ""]] {

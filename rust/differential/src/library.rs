@@ -1,6 +1,7 @@
 //! The linked functions with the reference's signatures, their answers taken apart field by field. Nothing of the safe
 //! wrapper stands between but the pointers and lengths of slices.
 use lesmutka::sys;
+use reference::refusal::NOT_A_DIGIT;
 use reference::{Counts, Refusal};
 
 fn refused(refusal: usize, place: usize, rest: &[usize]) -> Result<(), Refusal> {
@@ -67,4 +68,39 @@ pub fn take(recoder: &mut sys::Recoder) -> Option<u8> {
         sys::DONE => None,
         byte => Some(u8::try_from(byte).expect("a digit's byte, or done")),
     }
+}
+
+/// That a text is no number is told as refusal 4, with the place that is answered.
+fn number_read(answer: sys::Parsed) -> Result<usize, Refusal> {
+    match answer.is_number {
+        1 => {
+            assert_eq!(answer.place, 0, "a place beside a number");
+            Ok(answer.length)
+        }
+        is_number => {
+            assert_eq!((is_number, answer.length), (0, 0), "a length without a number");
+            Err(no_number(answer.place))
+        }
+    }
+}
+
+pub fn no_number(place: usize) -> Refusal {
+    Refusal {
+        number: NOT_A_DIGIT,
+        place,
+    }
+}
+
+pub fn hexadecimal(text: &[u8], out: &mut [u8]) -> Result<usize, Refusal> {
+    number_read(sys::hexadecimal(text, out))
+}
+
+pub fn decimal(text: &[u8], out: &mut [u8]) -> Result<usize, Refusal> {
+    number_read(sys::decimal(text, out))
+}
+
+/// The words of the refusal whose number is the first byte.
+pub fn words(refusal: &[u8], out: &mut [u8]) -> Result<usize, Refusal> {
+    let answer = sys::write_words(usize::from(refusal[0]), out);
+    refused(answer.refusal, answer.place, &[answer.length]).map(|_| answer.length)
 }

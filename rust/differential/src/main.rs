@@ -48,7 +48,7 @@ impl Tally {
     /// another, was not tested.
     fn print(&self, refusals: &[usize]) {
         print!(
-            "{:<10} {:>7} cases: {:>6} answered",
+            "{:<11} {:>7} cases: {:>6} answered",
             self.call,
             self.cases(),
             self.answered
@@ -380,6 +380,63 @@ fn damaged_steps(rng: &mut Rng, tally: &mut Tally) {
     }
 }
 
+/// A text that is nearly a number: digits of one kind, now and then another byte or a prefix.
+fn text(rng: &mut Rng, digits: &[u8]) -> (Vec<u8>, usize) {
+    let length = match rng.below(8) {
+        0 => rng.below(4),
+        1 => rng.below(300),
+        _ => rng.below(90),
+    };
+    let mut text: Vec<u8> = (0..length).map(|_| rng.pick(digits)).collect();
+    if rng.one_in(4) {
+        text.iter_mut().take(length / 2).for_each(|digit| *digit = b'0');
+    }
+    if rng.one_in(3) {
+        text.splice(0..0, rng.pick(&[*b"0x", *b"0X", *b"1x", *b"00"]));
+    }
+    if rng.one_in(4) && !text.is_empty() {
+        let at = rng.below(text.len());
+        text[at] = match rng.one_in(2) {
+            true => rng.next_byte(),
+            false => rng.pick(b"/:@G`g -x"),
+        };
+    }
+    let enough = (text.len() + 1) / 2;
+    let room = match rng.below(6) {
+        0 => rng.below(enough + 2),
+        1 => enough.saturating_sub(1),
+        _ => enough + rng.below(3),
+    };
+    (text, room)
+}
+
+fn hexadecimal(rng: &mut Rng) -> Tally {
+    let texts = &mut rng.clone();
+    let next = || text(texts, b"0123456789abcdefABCDEF");
+    let theirs: Call<usize> = |text, out| reference::text::hexadecimal(text, out).ok_or(library::no_number(0));
+    calls("hexadecimal", rng, next, library::hexadecimal, theirs)
+}
+
+fn decimal(rng: &mut Rng) -> Tally {
+    let texts = &mut rng.clone();
+    let next = || text(texts, b"0123456789");
+    let theirs: Call<usize> = |text, out| reference::text::decimal(text, out).map_err(library::no_number);
+    calls("decimal", rng, next, library::decimal, theirs)
+}
+
+fn words(rng: &mut Rng) -> Tally {
+    let numbers = &mut rng.clone();
+    let next = || {
+        let refusal = match numbers.one_in(8) {
+            true => numbers.next_byte(),
+            false => numbers.below(LAST + 1) as u8,
+        };
+        (vec![refusal], numbers.below(100))
+    };
+    let theirs: Call<usize> = |refusal, out| reference::text::write_words(usize::from(refusal[0]), out);
+    calls("words", rng, next, library::words, theirs)
+}
+
 /// The limits that the linked library keeps are those of the papers.
 fn same_limits() {
     let linked = lesmutka::limits();
@@ -402,6 +459,9 @@ fn main() {
     plan(cases, rng).print(&[1, 2, 3, 6]);
     forecast(cases, rng).print(&[1, 2, 3]);
     check(cases, rng).print(&[1, 2, 7, 8, 9, 10, 11, 12]);
+    hexadecimal(rng).print(&[4]);
+    decimal(rng).print(&[4]);
+    words(rng).print(&[6]);
     println!("recoders put together by hand: {}", by_hand(rng));
     println!("differential: no difference");
 }

@@ -10,8 +10,8 @@
 
 use crate::generate::methods;
 use crate::limits::*;
-use crate::refusal::Refusal;
-use crate::{check, clean, forecast, plan, read_back, recode, Counts, Recoder};
+use crate::refusal::{Refusal, LAST};
+use crate::{check, clean, forecast, plan, read_back, recode, text, Counts, Recoder};
 
 /// What the program fills a buffer with before it lends it.
 const FILL: u8 = 0xA5;
@@ -23,7 +23,9 @@ const DONE: usize = 0x100;
 const LINE_BYTES: usize = 2 * PLAN_ROOM;
 const MOST_ROOM: usize = work_space(PLAN_STEPS + 1);
 
-const CALLS: [&str; 7] = ["recode", "take", "clean", "readback", "plan", "forecast", "check"];
+const CALLS: [&str; 10] = [
+    "recode", "take", "clean", "readback", "plan", "forecast", "check", "hex", "decimal", "words",
+];
 
 // Answers.
 
@@ -65,6 +67,18 @@ fn answer(request: &str) -> String {
         ("check", [plan]) => {
             let counts = check(&input, &bytes(plan), &mut out);
             fields(counts.map(numbers)) + &buffer(&out)
+        }
+        ("hex", []) => {
+            let read = text::hexadecimal(&input, &mut out);
+            read.map_or("0 0 0".to_string(), |length| format!("1 0 {}", length)) + &buffer(&out)
+        }
+        ("decimal", []) => {
+            let read = text::decimal(&input, &mut out);
+            read.map_or_else(|place| format!("0 {} 0", place), |length| format!("1 0 {}", length)) + &buffer(&out)
+        }
+        ("words", [refusal]) => {
+            let written = text::write_words(decimal(refusal) as usize, &mut out);
+            fields(written.map(|length| [length])) + &buffer(&out)
         }
         (name, _) if !CALLS.contains(&name) => "unknown".to_string(),
         _ => panic!("{} is no request", request),
@@ -135,6 +149,8 @@ pub fn requests() -> String {
     requests.strings();
     requests.plans();
     requests.checks();
+    requests.texts();
+    requests.words();
     requests.unanswered();
     requests.families();
     requests.0
@@ -245,6 +261,16 @@ impl Requests {
         self.line("check", room, number, &format!(" {}", Requests::word(plan)));
     }
 
+    /// A text as a number of both kinds, into the room that is enough, a byte more and a byte less.
+    fn text(&mut self, text: &str) {
+        for name in ["hex", "decimal"] {
+            let enough = (text.len() + 1) / 2;
+            for room in [enough, enough + 1, enough.saturating_sub(1)] {
+                self.line(name, room, text.as_bytes(), "");
+            }
+        }
+    }
+
     /// The canonical string, whole and digit by digit, done twice over.
     fn recoded(&mut self, number: &[u8]) {
         let length = recode(number, &mut [0; RECODE_ROOM]).unwrap_or(0);
@@ -314,6 +340,42 @@ impl Requests {
         self.title("The published table of non-adjacent forms");
         for number in 1..40 {
             self.recoded(&small(number));
+        }
+    }
+
+    fn texts(&mut self) {
+        self.title("Texts as hexadecimal and as decimal numbers");
+        for text in [
+            "", "0", "1", "43", "2b", "2B", "0x2b", "0X2B", "0x02b", "0x", "x", "0x0x1", "00", "0000043",
+        ] {
+            self.text(text);
+        }
+        self.title("Bytes beside the digits, at the front, inside and at the end");
+        for text in [
+            "/", ":", "@", "G", "`", "g", " 43", "43 ", "4:3", "4/3", "-43", "+43", "4\0", "\u{e9}4",
+        ] {
+            self.text(text);
+        }
+        self.title("As many digits as the reader takes at a time, one less and one more");
+        for digits in [15, 16, 17, 31, 32, 33] {
+            self.text(&"9".repeat(digits));
+            self.text(&format!("1{}", "0".repeat(digits - 1)));
+        }
+        self.title("The greatest number of 32 bytes, one more, and longer texts");
+        let limit = "11579208923731619542357098500868790785326998466564056403945758400791312963993";
+        self.text(&format!("{}5", limit));
+        self.text(&format!("{}6", limit));
+        self.text(&format!("{}{}5", "0".repeat(50), limit));
+        self.text(&"123456789".repeat(20));
+    }
+
+    fn words(&mut self) {
+        self.title("The words of each refusal, into enough room, into a byte less than that, and into none");
+        for refusal in (0..=LAST + 2).chain([255, 256, u32::MAX as usize]) {
+            let length = text::words(refusal).len();
+            for room in [100, length, length - 1, 0] {
+                self.line("words", room, &[], &format!(" {}", refusal));
+            }
         }
     }
 

@@ -13,7 +13,9 @@ pub fn hexadecimal(text: &[u8], out: &mut [u8]) -> Option<usize> {
         return None;
     }
     for (byte, pair) in out.iter_mut().zip(digits.rchunks(2)) {
-        *byte = pair.iter().fold(0, |value, &digit| 16 * value + hexadecimal_digit(digit));
+        *byte = pair
+            .iter()
+            .fold(0, |value, &digit| 16 * value + hexadecimal_digit(digit));
     }
     Some(length)
 }

@@ -231,7 +231,10 @@ fn refused(refusal: Refusal, method: Option<u32>) -> String {
         (3, Some(4)) => "naf takes no width".to_string(),
         (3, _) => "the methods are binary (1), fixed (2), sliding (3), naf (4)".to_string(),
         (5, _) => format!("at most {} digits", STRING_DIGITS),
-        (7, _) => format!("a step has {} bytes, and a plan at most {} steps", STEP_BYTES, PLAN_STEPS),
+        (7, _) => format!(
+            "a step has {} bytes, and a plan at most {} steps",
+            STEP_BYTES, PLAN_STEPS
+        ),
         (11, _) => format!("a size is below 2^{}", VALUE_BITS),
         _ => return said,
     };

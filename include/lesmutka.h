@@ -2,14 +2,63 @@
  * Lesmutka: plans for multiplying a curve point by a public number, and their check.
  *
  * Recoding of a number into its non-adjacent form (NAF), cleaning and reading back of signed digit
- * strings, planning of addition-subtraction chains by several methods, and the check of such a plan.
- * Every function of the library is proved (lesmutka_words, which stands in this header alone, is not): whatever bytes it is handed, it returns, it touches only
- * what it was lent, and its answer and every byte that it leaves are those of a written definition.
- * For a recoder the definition fixes the number that it stands for, not its words: two recoders that
- * stand for the same number may differ.
+ * strings, planning of addition-subtraction chains by several methods, the check of such a plan,
+ * and the reading of numbers from text.
  *
- * Link with liblesmutka.a (x86-64), which `rt staticlib lesmutka` writes to target/staticlib/. It
- * needs only memcpy and memset. The header is C99 and C++11.
+ * Every function of the library is proved: whatever bytes it is handed, it returns, it touches
+ * only what it was lent, and its answer and every byte that it leaves are those of a written
+ * definition. For a recoder the definition fixes the number that it stands for, not its words: two
+ * recoders that stand for the same number may differ. lesmutka_words, which stands in this header
+ * alone, is not proved.
+ *
+ * The header is C99 and C++11.
+ *
+ * Example
+ *
+ *     #include <lesmutka.h>
+ *     #include <stdio.h>
+ *     #include <string.h>
+ *
+ *     int main(void) {
+ *         const char *text = "43";
+ *         uint8_t number[LESMUTKA_TEXT_ROOM(100)], plan[LESMUTKA_PLAN_ROOM];
+ *         uint8_t space[LESMUTKA_WORK_SPACE(LESMUTKA_PLAN_STEPS)];
+ *
+ *         lesmutka_parsed parsed =
+ *             lesmutka_decimal((const uint8_t *)text, strlen(text), number, sizeof number);
+ *         if (!parsed.is_number) {
+ *             printf("not a number of at most 100 digits\n");
+ *             return 2;
+ *         }
+ *         lesmutka_counts counts =
+ *             lesmutka_plan(number, parsed.length, LESMUTKA_NAF, 0, plan, sizeof plan);
+ *         if (counts.refusal == 0) {
+ *             size_t steps = counts.doublings + counts.additions + counts.subtractions;
+ *             counts = lesmutka_check(number, parsed.length, plan, LESMUTKA_STEP_BYTES * steps,
+ *                                     space, sizeof space);
+ *         }
+ *         if (counts.refusal != 0) {
+ *             printf("refused: %s (place %zu)\n", lesmutka_words(counts.refusal), counts.place);
+ *             return 1;
+ *         }
+ *         printf("checked: %zu doublings, %zu additions, %zu subtractions\n", counts.doublings,
+ *                counts.additions, counts.subtractions);
+ *         return 0;
+ *     }
+ *
+ * Needs
+ *
+ *   Target     x86-64 with the System V ABI, 64-bit pointers and ELF objects: Linux, the BSDs. Not
+ *              Windows, macOS or x32.
+ *   Linking    liblesmutka.a, which `rt staticlib lesmutka` writes to target/staticlib/; after
+ *              `./install PREFIX`, what `pkg-config --cflags --libs lesmutka` says. It calls memcpy
+ *              and memset and nothing else, is position independent, and has a section for each
+ *              function, so -Wl,--gc-sections leaves out those that are not called.
+ *   Registers  General and SSE2 (xmm) registers, no AVX, no x87. A kernel has to save them first.
+ *   Stack      At most LESMUTKA_STACK_BYTES bytes a call.
+ *   Red zone   Bytes just below the stack pointer are used, as the ABI allows. The signals of a
+ *              process spare them. In a kernel an interrupt may overwrite them (hence
+ *              -mno-red-zone): there, call only on a stack that no interrupt uses.
  *
  * Conventions
  *
@@ -30,14 +79,16 @@
  *              to a recoder is not NULL, and aligned as uint64_t. Buffers that are written must not
  *              overlap any other argument. They need not be cleared before.
  *   State      Nothing is kept after a function has returned. No function allocates, and none uses
- *              memory of its own but below 2 KiB of stack, so all may be called from any number of
- *              threads, provided that each has its own recoders and output buffers.
+ *              memory of its own but the stack, so all may be called from any number of threads
+ *              and from signal handlers, provided that each has its own recoders and buffers to
+ *              write to.
  *   Time       All numbers here are public. Nothing is promised about time.
  *
  * Refusals
  *
- *   The answer of every call that may be refused begins with `refusal` and `place`. Where it was not
- *   refused, both are 0. Where it was, they are these, and every other field of the answer is 0.
+ *   The answer of every call that may be refused begins with `refusal` and `place`. Where it was
+ *   not refused, both are 0. Where it was, they are these, and every other field of the answer is
+ *   0. The reading of text has no refusals: lesmutka_parsed says whether there was a number.
  *
  *    refusal                                 given when                                place
  *    1  LESMUTKA_NUMBER_TOO_LONG             number longer than LESMUTKA_NUMBER_BYTES  0
@@ -64,12 +115,22 @@
 #ifndef LESMUTKA_H
 #define LESMUTKA_H
 
+/* Elsewhere the answers would be handed over in another way, or the archive could not be linked. */
+#if !defined(__x86_64__) || defined(__ILP32__) || defined(_WIN32) || defined(__CYGWIN__) || \
+    defined(__APPLE__)
+#error "Lesmutka is only for x86-64 with the System V ABI and 64-bit pointers, on an ELF system."
+#endif
+
 #include <stddef.h>
 #include <stdint.h>
 
 #ifdef __cplusplus
 extern "C" {
 #endif
+
+/* The version, 10000 * major + 100 * minor + patch: this is 0.2.0. lesmutka_version answers that of
+ * the library that is linked. */
+#define LESMUTKA_VERSION 200
 
 /* Limits. lesmutka_limits answers those of the library that is linked. */
 #define LESMUTKA_NUMBER_BYTES 32
@@ -88,6 +149,17 @@ extern "C" {
 #define LESMUTKA_CLEAN_ROOM (LESMUTKA_STRING_DIGITS + 1)
 #define LESMUTKA_READ_BACK_ROOM (LESMUTKA_STRING_DIGITS / 8)
 #define LESMUTKA_PLAN_ROOM (LESMUTKA_STEP_BYTES * LESMUTKA_PLAN_STEPS)
+
+/* Room that is enough for the number that a text of this many digits stands for. The argument is
+ * evaluated twice. */
+#define LESMUTKA_TEXT_ROOM(digits) ((size_t)(digits) / 2 + (size_t)(digits) % 2)
+
+/* The longest words of a refusal. */
+#define LESMUTKA_WORDS_ROOM 75
+
+/* No call takes more stack than this: its return address, what it uses of the red zone and glibc's
+ * memcpy and memset included, but not the dynamic linker, where it binds these two at first use. */
+#define LESMUTKA_STACK_BYTES 1024
 
 /* The work space that the check of a plan of this many steps takes. */
 #define LESMUTKA_WORK_SPACE(steps) (LESMUTKA_RECORD_BYTES * ((size_t)(steps) + 1))
@@ -108,25 +180,27 @@ enum {
     LESMUTKA_WRONG_END = 12
 };
 
-/* Methods, for a number e above zero. "Latest" is the position filled last, at first 0; the methods by
- * windows also set it once, after their table. "Double" is add(latest, latest). The width d is 0 for binary and NAF, 1 to LESMUTKA_FIXED_WINDOW_BITS for fixed
- * windows and 1 to LESMUTKA_SLIDING_WINDOW_BITS for sliding windows.
+/* Methods, for a number e above zero. "Latest" is the position filled last, at first 0; the methods
+ * by windows also set it once, after their table. "Double" is add(latest, latest). The width d is 0
+ * for binary and NAF, 1 to LESMUTKA_FIXED_WINDOW_BITS for fixed windows and 1 to
+ * LESMUTKA_SLIDING_WINDOW_BITS for sliding windows.
  *
  *   Binary            From the bit below the top bit down: double; if the bit is 1, add(latest, 0).
- *   Fixed windows     of d bits, cut from the low end. If e is below 2^d: add(i - 1, 0) for i = 1 to
- *                     e - 1, and no more. Otherwise the table first: add(i - 1, 0) for i = 1 to
- *                     2^d - 2, so that value v stands at position v - 1. Latest becomes the position
- *                     of the value of the top window, the one that holds the top bit. For each lower window: double d times; if its
- *                     value v is not 0, add(latest, v - 1).
+ *   Fixed windows     of d bits, cut from the low end. If e is below 2^d: add(i - 1, 0) for i = 1
+ *                     to e - 1, and no more. Otherwise the table first: add(i - 1, 0) for i = 1 to
+ *                     2^d - 2, so that value v stands at position v - 1. Latest becomes the
+ *                     position of the value of the top window, the one that holds the top bit. For
+ *                     each lower window: double d times; if its value v is not 0,
+ *                     add(latest, v - 1).
  *   Sliding windows   of at most d bits. The table for d of 2 or more: add(0, 0), add(1, 0), then
  *                     add(i - 1, 1) for i = 3 to 2^(d - 1). Odd v above 1 stands at position
- *                     (v + 1) / 2, and 1 at position 0. For d = 1 there is no table. If e is odd and
- *                     below 2^d, the table stops at e, and that is the plan. Otherwise from the top
- *                     bit down: at a 1, the longest window of at most d bits that begins there and
- *                     ends in 1. The first sets latest to its value's position; each later one:
+ *                     (v + 1) / 2, and 1 at position 0. For d = 1 there is no table. If e is odd
+ *                     and below 2^d, the table stops at e, and that is the plan. Otherwise from the
+ *                     top bit down: at a 1, the longest window of at most d bits that begins there
+ *                     and ends in 1. The first sets latest to its value's position; each later one:
  *                     double once per bit of it, then add(latest, its position). At a 0: double.
- *   NAF               From the canonical digit below the top down: double; for 1 add(latest, 0); for
- *                     minus 1 subtract(latest, 0).
+ *   NAF               From the canonical digit below the top down: double; for 1 add(latest, 0);
+ *                     for minus 1 subtract(latest, 0).
  */
 enum {
     LESMUTKA_BINARY = 1,
@@ -164,7 +238,15 @@ typedef struct {
     size_t doublings;
     size_t additions;
     size_t subtractions;
-} lesmutka_steps;
+} lesmutka_counts;
+
+/* Whether a text was a number (1 or 0), where a decimal text ceases to be one, and how many bytes
+ * the number has. */
+typedef struct {
+    size_t is_number;
+    size_t place;
+    size_t length;
+} lesmutka_parsed;
 
 /* A recoder, kept by the caller. It stands for a number: that of the first words, least significant
  * first, plus one where the last word is not 0. Its takes give the canonical digits of that number,
@@ -193,7 +275,8 @@ typedef struct {
  *  In:      number: the number, number_length bytes.
  *  Out:     out: room for the digits, out_length bytes. LESMUTKA_RECODE_ROOM is always enough.
  */
-lesmutka_length lesmutka_recode(const uint8_t *number, size_t number_length, uint8_t *out, size_t out_length);
+lesmutka_length lesmutka_recode(const uint8_t *number, size_t number_length, uint8_t *out,
+                                size_t out_length);
 
 /** Start taking the canonical digits of a number one by one.
  *
@@ -202,75 +285,134 @@ lesmutka_length lesmutka_recode(const uint8_t *number, size_t number_length, uin
  *  In:      number: the number, number_length bytes. No later take reads it again.
  *  Out:     recoder: the recoder, moved on by lesmutka_take.
  */
-lesmutka_started lesmutka_start(const uint8_t *number, size_t number_length, lesmutka_recoder *recoder);
+lesmutka_started lesmutka_start(const uint8_t *number, size_t number_length,
+                                lesmutka_recoder *recoder);
 
 /** Take the lowest digit that is left.
  *
- *  Returns: the digit's byte (0x00, 0x01, 0xFF); LESMUTKA_DONE after the most significant digit, and from then on.
+ *  Returns: the digit's byte (0x00, 0x01, 0xFF); LESMUTKA_DONE after the most significant digit,
+ *           and from then on.
  *           Never refused.
  *  In/Out:  recoder: moved on by one place; unchanged where the answer is LESMUTKA_DONE.
  */
 uint32_t lesmutka_take(lesmutka_recoder *recoder);
 
-/** Clean a digit string: write the canonical string of the same value. No signed digit string of that value has fewer
- *  nonzero digits, and two strings have the same value if and only if they give the same bytes.
+/** Clean a digit string: write the canonical string of the same value. No signed digit string of
+ *  that value has fewer nonzero digits, and two strings have the same value if and only if they
+ *  give the same bytes.
  *
- *  Returns: the length of the canonical string, the bytes written; it may be one more than the longest input.
+ *  Returns: the length of the canonical string, the bytes written; it may be one more than the
+ *           longest input.
  *           Refused: 5, then 4, then 6; nothing is written.
  *  In:      digits: the digit string, digits_length bytes.
  *  Out:     out: room for the digits, out_length bytes. LESMUTKA_CLEAN_ROOM is always enough.
  */
-lesmutka_length lesmutka_clean(const uint8_t *digits, size_t digits_length, uint8_t *out, size_t out_length);
+lesmutka_length lesmutka_clean(const uint8_t *digits, size_t digits_length, uint8_t *out,
+                               size_t out_length);
 
 /** Read a digit string back: the sign and the size of its value.
  *
  *  Returns: the sign, and the length of the size, the bytes written.
  *           Refused: 5, then 4, then 6; nothing is written.
  *  In:      digits: the digit string, digits_length bytes.
- *  Out:     out: room for the size, out_length bytes; it has no high zero byte. LESMUTKA_READ_BACK_ROOM is always
- *                enough.
+ *  Out:     out: room for the size, out_length bytes; it has no high zero byte.
+ *                LESMUTKA_READ_BACK_ROOM is always enough.
  */
-lesmutka_value lesmutka_read_back(const uint8_t *digits, size_t digits_length, uint8_t *out, size_t out_length);
+lesmutka_value lesmutka_read_back(const uint8_t *digits, size_t digits_length, uint8_t *out,
+                                  size_t out_length);
 
-/** Write the plan for a number by a method. lesmutka_check accepts it for the same number, with the same counts.
+/** Write the plan for a number by a method. lesmutka_check accepts it for the same number, with the
+ *  same counts.
  *
- *  Returns: the counts of the plan's steps; their sum times LESMUTKA_STEP_BYTES is how many bytes were written.
+ *  Returns: the counts of the plan's steps; their sum times LESMUTKA_STEP_BYTES is how many bytes
+ *           were written.
  *           Refused: 1, then 2, then 3, then 6; nothing is written.
  *  In:      number: the number, number_length bytes.
- *           method: LESMUTKA_BINARY, LESMUTKA_FIXED_WINDOWS, LESMUTKA_SLIDING_WINDOWS or LESMUTKA_NAF.
- *           width: the bits of a window, from 1 to the limit of the method; 0 for the methods without.
+ *           method: LESMUTKA_BINARY, LESMUTKA_FIXED_WINDOWS, LESMUTKA_SLIDING_WINDOWS or
+ *                   LESMUTKA_NAF.
+ *           width: the bits of a window, from 1 to the limit of the method; 0 for the methods
+ *                  without.
  *  Out:     out: room for the plan, out_length bytes. LESMUTKA_PLAN_ROOM is always enough.
  */
-lesmutka_steps lesmutka_plan(const uint8_t *number, size_t number_length, uint32_t method, uint32_t width,
-                             uint8_t *out, size_t out_length);
+lesmutka_counts lesmutka_plan(const uint8_t *number, size_t number_length, uint32_t method,
+                              uint32_t width, uint8_t *out, size_t out_length);
 
-/** Forecast the counts of the plan that lesmutka_plan gives for the same number, method and width, without the plan.
+/** Forecast the counts of the plan that lesmutka_plan gives for the same number, method and width,
+ *  without the plan.
  *
  *  Returns: the counts.
  *           Refused: 1, then 2, then 3.
  *  In:      number, method, width: as for lesmutka_plan.
  */
-lesmutka_steps lesmutka_forecast(const uint8_t *number, size_t number_length, uint32_t method, uint32_t width);
+lesmutka_counts lesmutka_forecast(const uint8_t *number, size_t number_length, uint32_t method,
+                                  uint32_t width);
 
 /** Check a plan for a number: each step sound, and the last value the number.
  *
  *  Returns: the counts of the plan's steps.
- *           Refused: 1, then 2, then 7, then 8: nothing is written. Then the steps from the first, each tested for 9,
- *           then 10 or 11: the work space then holds records 0 to i - 1. Then 12: it holds records 0 to r, as after
- *           success. Bytes past these records stay.
+ *           Refused: 1, then 2, then 7, then 8: nothing is written. Then the steps from the first,
+ *           each tested for 9, then 10 or 11: the work space then holds records 0 to i - 1. Then
+ *           12: it holds records 0 to r, as after success. Bytes past these records stay.
  *  In:      number: the number, number_length bytes.
  *           plan: the plan, plan_length bytes.
- *  Out:     space: the work space, space_length bytes, at least LESMUTKA_WORK_SPACE(steps). Record i is
- *                  LESMUTKA_RECORD_BYTES bytes: the sign of a(i) (0, or 1 below zero), then its size.
+ *  Out:     space: the work space, space_length bytes, at least LESMUTKA_WORK_SPACE(steps). Record
+ *                  i is LESMUTKA_RECORD_BYTES bytes: the sign of a(i) (0, or 1 below zero), then
+ *                  its size.
  */
-lesmutka_steps lesmutka_check(const uint8_t *number, size_t number_length, const uint8_t *plan, size_t plan_length,
-                              uint8_t *space, size_t space_length);
+lesmutka_counts lesmutka_check(const uint8_t *number, size_t number_length, const uint8_t *plan,
+                               size_t plan_length, uint8_t *space, size_t space_length);
+
+/** Read a number from hexadecimal text, most significant digit first, in either case, with 0x or 0X
+ *  in front or without. Its bytes are those that the text writes: two digits a byte, and leading
+ *  zeros count.
+ *
+ *  Returns: is_number 1, and the length: the digits halved, rounded up; the bytes written.
+ *           Where the text is no number, all fields are 0 and nothing is written: it has no digit,
+ *           or a byte that is no hexadecimal digit, or the number needs more bytes than lent.
+ *           The place is always 0.
+ *  In:      text: the text, text_length bytes; no zero byte behind it.
+ *  Out:     out: room for the number, out_length bytes. LESMUTKA_TEXT_ROOM(text_length) is always
+ *                enough.
+ */
+lesmutka_parsed lesmutka_hexadecimal(const uint8_t *text, size_t text_length, uint8_t *out,
+                                     size_t out_length);
+
+/** Read a number from decimal text, most significant digit first.
+ *
+ *  Returns: is_number 1, and the length of the number without high zero bytes: 0 for zero. The
+ *           place is 0.
+ *           Where the text is no number, is_number and length are 0, nothing is written, and the
+ *           place is how many digits come before the first byte that is none. It is text_length
+ *           where all bytes are digits, but there are none or out is too short.
+ *  In:      text: the text, text_length bytes; no zero byte behind it. The time grows with the
+ *                 square of its length, so limit that where others choose the text.
+ *  Out:     out: room for the number, out_length bytes, at least LESMUTKA_TEXT_ROOM(text_length).
+ *                That many bytes are written: the number, then zeros. Bytes past these stay.
+ */
+lesmutka_parsed lesmutka_decimal(const uint8_t *text, size_t text_length, uint8_t *out,
+                                 size_t out_length);
 
 /** The limits that the linked library keeps.
  *
  *  Returns: the limits, equal to the constants above.
  */
 lesmutka_limits_t lesmutka_limits(void);
+
+/** The version of the linked library.
+ *
+ *  Returns: the version, equal to LESMUTKA_VERSION of the header that belongs to it.
+ */
+uint32_t lesmutka_version(void);
+
+/** Write a refusal in plain words, for languages that cannot read this header. The words are those
+ *  of lesmutka_words.
+ *
+ *  Returns: the length of the words, the bytes written; no zero byte is behind them.
+ *           Refused: 6; nothing is written.
+ *  In:      refusal: the refusal of an answer, or any other number.
+ *  Out:     out: room for the words, out_length bytes. LESMUTKA_WORDS_ROOM is always enough.
+ */
+lesmutka_length lesmutka_write_words(size_t refusal, uint8_t *out, size_t out_length);
 
 /** A refusal in plain words.
  *
@@ -280,17 +422,17 @@ lesmutka_limits_t lesmutka_limits(void);
 static inline const char *lesmutka_words(size_t refusal) {
     static const char *const words[] = {
         "not refused",
-        "the number is longer than 32 bytes",
+        "the number is too long",
         "the number is zero",
         "no such method, or a width that it does not allow",
         "the digit at this place is none of 0, 1, -1",
-        "the digit string is longer than 512 digits",
+        "the digit string is too long",
         "the output needs this many bytes",
-        "the plan is no whole number of steps of 5 bytes, or has more than 640 steps",
+        "the plan is no whole number of steps, or has too many",
         "the work space is too short for the plan",
         "this step has an unknown operation, or a position that is not below its own",
         "the value at this step is zero",
-        "the value at this step has a size of 2^264 or more",
+        "the value at this step is too large",
         "the last value, at this position, is not the number",
     };
     return refusal < sizeof words / sizeof words[0] ? words[refusal] : "no such refusal";

@@ -20,22 +20,25 @@ int main(void) {
     uint8_t plan[LESMUTKA_PLAN_ROOM];
     uint8_t space[LESMUTKA_WORK_SPACE(LESMUTKA_PLAN_STEPS)];
 
-    lesmutka_steps planned = lesmutka_plan(number, sizeof number, LESMUTKA_NAF, 0, plan, sizeof plan);
+    lesmutka_counts planned =
+        lesmutka_plan(number, sizeof number, LESMUTKA_NAF, 0, plan, sizeof plan);
     if (planned.refusal != 0)
         return refused(planned.refusal, planned.place);
     size_t steps = planned.doublings + planned.additions + planned.subtractions;
     printf("plan: %zu steps\n", steps);
     for (size_t i = 0; i < steps; i++) {
         const uint8_t *step = plan + LESMUTKA_STEP_BYTES * i;
-        printf("  %s(%d,%d)\n", step[0] == 0 ? "add" : "subtract", step[1] + 256 * step[2], step[3] + 256 * step[4]);
+        printf("  %s(%d,%d)\n", step[0] == 0 ? "add" : "subtract", step[1] + 256 * step[2],
+               step[3] + 256 * step[4]);
     }
 
     size_t length = LESMUTKA_STEP_BYTES * steps;
-    lesmutka_steps checked = lesmutka_check(number, sizeof number, plan, length, space, sizeof space);
+    lesmutka_counts checked =
+        lesmutka_check(number, sizeof number, plan, length, space, sizeof space);
     if (checked.refusal != 0)
         return refused(checked.refusal, checked.place);
-    printf("accepted: %zu doublings, %zu additions, %zu subtractions\n", checked.doublings, checked.additions,
-           checked.subtractions);
+    printf("accepted: %zu doublings, %zu additions, %zu subtractions\n", checked.doublings,
+           checked.additions, checked.subtractions);
 
     lesmutka_recoder recoder;
     lesmutka_started started = lesmutka_start(number, sizeof number, &recoder);
@@ -48,7 +51,8 @@ int main(void) {
 
     /* The last step turned into an addition: the plan ends elsewhere. */
     plan[length - LESMUTKA_STEP_BYTES] = 0;
-    lesmutka_steps damaged = lesmutka_check(number, sizeof number, plan, length, space, sizeof space);
+    lesmutka_counts damaged =
+        lesmutka_check(number, sizeof number, plan, length, space, sizeof space);
     refused(damaged.refusal, damaged.place);
     return 0;
 }

@@ -1,5 +1,5 @@
 /* The boundary between C and the library: every constant of the header, layout of the answers, empty buffers,
- * recoders. */
+ * recoders, the reading of text, versions and words. */
 #include <stdio.h>
 #include <stdlib.h>
 #include <string.h>
@@ -47,13 +47,13 @@ static void empty_buffers(void) {
     EXPECT(cleaned.refusal == 0 && cleaned.place == 0 && cleaned.length == 0);
     lesmutka_value value = lesmutka_read_back(NULL, 0, NULL, 0);
     EXPECT(value.refusal == 0 && value.place == 0 && value.sign == 0 && value.length == 0);
-    lesmutka_steps planned = lesmutka_plan(NULL, 0, LESMUTKA_BINARY, 0, NULL, 0);
+    lesmutka_counts planned = lesmutka_plan(NULL, 0, LESMUTKA_BINARY, 0, NULL, 0);
     EXPECT(planned.refusal == LESMUTKA_NUMBER_IS_ZERO && planned.place == 0);
     planned = lesmutka_plan(one, 1, LESMUTKA_BINARY, 0, NULL, 0);
     EXPECT(planned.refusal == 0 && planned.doublings + planned.additions + planned.subtractions == 0);
-    lesmutka_steps forecast = lesmutka_forecast(NULL, 0, LESMUTKA_BINARY, 0);
+    lesmutka_counts forecast = lesmutka_forecast(NULL, 0, LESMUTKA_BINARY, 0);
     EXPECT(forecast.refusal == LESMUTKA_NUMBER_IS_ZERO && forecast.place == 0);
-    lesmutka_steps checked = lesmutka_check(NULL, 0, NULL, 0, NULL, 0);
+    lesmutka_counts checked = lesmutka_check(NULL, 0, NULL, 0, NULL, 0);
     EXPECT(checked.refusal == LESMUTKA_NUMBER_IS_ZERO && checked.place == 0);
     checked = lesmutka_check(one, 1, NULL, 0, NULL, 0);
     EXPECT(checked.refusal == LESMUTKA_WORK_SPACE_TOO_SHORT && checked.place == 0);
@@ -117,10 +117,10 @@ static void rooms(void) {
 /* Each method of the header is the one of that name: 43 by widths at which the counts tell them apart. */
 static void methods(void) {
     const uint8_t number[] = {43};
-    lesmutka_steps binary = lesmutka_forecast(number, 1, LESMUTKA_BINARY, 0);
-    lesmutka_steps fixed = lesmutka_forecast(number, 1, LESMUTKA_FIXED_WINDOWS, 3);
-    lesmutka_steps sliding = lesmutka_forecast(number, 1, LESMUTKA_SLIDING_WINDOWS, 3);
-    lesmutka_steps naf = lesmutka_forecast(number, 1, LESMUTKA_NAF, 0);
+    lesmutka_counts binary = lesmutka_forecast(number, 1, LESMUTKA_BINARY, 0);
+    lesmutka_counts fixed = lesmutka_forecast(number, 1, LESMUTKA_FIXED_WINDOWS, 3);
+    lesmutka_counts sliding = lesmutka_forecast(number, 1, LESMUTKA_SLIDING_WINDOWS, 3);
+    lesmutka_counts naf = lesmutka_forecast(number, 1, LESMUTKA_NAF, 0);
     EXPECT(binary.refusal == 0 && binary.doublings == 5 && binary.additions == 3 && binary.subtractions == 0);
     EXPECT(fixed.refusal == 0 && fixed.doublings == 4 && fixed.additions == 6 && fixed.subtractions == 0);
     EXPECT(sliding.refusal == 0 && sliding.doublings == 4 && sliding.additions == 4 && sliding.subtractions == 0);
@@ -135,7 +135,7 @@ static void refusals(void) {
     uint8_t out[LESMUTKA_CLEAN_ROOM], space[LESMUTKA_WORK_SPACE(LESMUTKA_PLAN_STEPS)];
     lesmutka_length length = lesmutka_recode(number, sizeof number, out, sizeof out);
     EXPECT(length.refusal == LESMUTKA_NUMBER_TOO_LONG && length.place == 0);
-    lesmutka_steps steps = lesmutka_forecast(number, LESMUTKA_NUMBER_BYTES, LESMUTKA_NAF, 0);
+    lesmutka_counts steps = lesmutka_forecast(number, LESMUTKA_NUMBER_BYTES, LESMUTKA_NAF, 0);
     EXPECT(steps.refusal == LESMUTKA_NUMBER_IS_ZERO && steps.place == 0);
     steps = lesmutka_forecast(one, 1, LESMUTKA_NAF, 1);
     EXPECT(steps.refusal == LESMUTKA_METHOD_OR_WIDTH && steps.place == 0);
@@ -165,10 +165,204 @@ static void refusals(void) {
     EXPECT(steps.doublings == 0 && steps.additions == 0 && steps.subtractions == 0);
 }
 
+/* A buffer with guard bytes on both sides. Its first byte lies at an odd place, since no alignment is asked for. */
+#define GUARD 17
+#define ROOM 400
+static uint8_t guarded[GUARD + ROOM + GUARD];
+static uint8_t *const lent = guarded + GUARD;
+
+static void lend(void) {
+    memset(guarded, 0xa5, sizeof guarded);
+}
+
+/* Nothing but the first bytes of the lent buffer has changed. */
+static int changed_only(size_t first) {
+    for (size_t i = 0; i < sizeof guarded; i++)
+        if ((i < GUARD || i >= GUARD + first) && guarded[i] != 0xa5)
+            return 0;
+    return 1;
+}
+
+typedef lesmutka_parsed parser(const uint8_t *, size_t, uint8_t *, size_t);
+
+static lesmutka_parsed parse(parser *function, const char *text, size_t room) {
+    lend();
+    return function((const uint8_t *)text, strlen(text), lent, room);
+}
+
+/* The text gives these bytes, with exactly this room and with more; the bytes behind those stay. */
+static void number_from(parser *function, const char *text, const uint8_t *bytes, size_t length, size_t room) {
+    const size_t rooms[] = {room, room + 1, ROOM};
+    for (size_t i = 0; i < sizeof rooms / sizeof rooms[0]; i++) {
+        lesmutka_parsed parsed = parse(function, text, rooms[i]);
+        EXPECT(parsed.is_number == 1 && parsed.place == 0 && parsed.length == length);
+        EXPECT(length == 0 || memcmp(lent, bytes, length) == 0);
+        for (size_t k = length; k < room; k++)
+            EXPECT(lent[k] == 0);
+        EXPECT(changed_only(room));
+    }
+}
+
+/* The text is no number in this room: the place is this one, and nothing is written. */
+static void no_number_from(parser *function, const char *text, size_t room, size_t place) {
+    lesmutka_parsed parsed = parse(function, text, room);
+    EXPECT(parsed.is_number == 0 && parsed.place == place && parsed.length == 0);
+    EXPECT(changed_only(0));
+}
+
+static void hexadecimal(void) {
+    const uint8_t bytes[] = {0xef, 0xcd, 0xab, 0x89, 0x67, 0x45, 0x23, 0x01}, zeros[4] = {0};
+    number_from(lesmutka_hexadecimal, "0123456789abcdef", bytes, 8, 8);
+    number_from(lesmutka_hexadecimal, "123456789ABCDEF", bytes, 8, 8);
+    number_from(lesmutka_hexadecimal, "0x0123456789abcdef", bytes, 8, 8);
+    number_from(lesmutka_hexadecimal, "0X123456789AbCdEf", bytes, 8, 8);
+    number_from(lesmutka_hexadecimal, "0", zeros, 1, 1);
+    number_from(lesmutka_hexadecimal, "0x0", zeros, 1, 1);
+    number_from(lesmutka_hexadecimal, "0000000", zeros, 4, 4);
+    const uint8_t leading[] = {0x2b, 0x00, 0x00};
+    number_from(lesmutka_hexadecimal, "0x00002b", leading, 3, 3);
+
+    no_number_from(lesmutka_hexadecimal, "", ROOM, 0);
+    no_number_from(lesmutka_hexadecimal, "0x", ROOM, 0);
+    no_number_from(lesmutka_hexadecimal, "x", ROOM, 0);
+    no_number_from(lesmutka_hexadecimal, "0x0x1", ROOM, 0);
+    no_number_from(lesmutka_hexadecimal, "00x1", ROOM, 0);
+    no_number_from(lesmutka_hexadecimal, "2g", ROOM, 0);
+    no_number_from(lesmutka_hexadecimal, "-2b", ROOM, 0);
+    no_number_from(lesmutka_hexadecimal, "+2b", ROOM, 0);
+    no_number_from(lesmutka_hexadecimal, " 2b", ROOM, 0);
+    no_number_from(lesmutka_hexadecimal, "2b\n", ROOM, 0);
+    no_number_from(lesmutka_hexadecimal, "2b", 0, 0);
+    no_number_from(lesmutka_hexadecimal, "12b", 1, 0);
+    no_number_from(lesmutka_hexadecimal, "0x0002b", 2, 0);
+
+    /* Of all bytes, these 22 are digits. */
+    const char *digits = "0123456789abcdefABCDEF";
+    for (int byte = 0; byte < 256; byte++) {
+        const uint8_t text[] = {'1', (uint8_t)byte};
+        const char *found = byte == 0 ? NULL : strchr(digits, byte);
+        lend();
+        lesmutka_parsed parsed = lesmutka_hexadecimal(text, 2, lent, 1);
+        if (found) {
+            size_t value = (size_t)(found - digits);
+            EXPECT(parsed.is_number == 1 && parsed.place == 0 && parsed.length == 1);
+            EXPECT(lent[0] == 16 + (value < 16 ? value : value - 6) && changed_only(1));
+        } else {
+            EXPECT(parsed.is_number == 0 && parsed.place == 0 && parsed.length == 0 && changed_only(0));
+        }
+    }
+
+    lesmutka_parsed parsed = lesmutka_hexadecimal(NULL, 0, NULL, 0);
+    EXPECT(parsed.is_number == 0 && parsed.place == 0 && parsed.length == 0);
+    const uint8_t one[] = {'1'};
+    parsed = lesmutka_hexadecimal(one, 1, NULL, 0);
+    EXPECT(parsed.is_number == 0 && parsed.place == 0 && parsed.length == 0);
+}
+
+static void decimal(void) {
+    const uint8_t small[] = {43}, byte[] = {255}, two_bytes[] = {0, 1};
+    number_from(lesmutka_decimal, "43", small, 1, 1);
+    number_from(lesmutka_decimal, "0043", small, 1, 2);
+    number_from(lesmutka_decimal, "255", byte, 1, 2);
+    number_from(lesmutka_decimal, "256", two_bytes, 2, 2);
+    number_from(lesmutka_decimal, "0", NULL, 0, 1);
+    number_from(lesmutka_decimal, "00000", NULL, 0, 3);
+    /* 2^64 - 1 and 2^64: a carry through all bytes. */
+    const uint8_t word[] = {255, 255, 255, 255, 255, 255, 255, 255}, carried[9] = {0, 0, 0, 0, 0, 0, 0, 0, 1};
+    number_from(lesmutka_decimal, "18446744073709551615", word, 8, 10);
+    number_from(lesmutka_decimal, "18446744073709551616", carried, 9, 10);
+    /* 2^256 - 1, the largest number that the other calls take, and the next. */
+    uint8_t largest[LESMUTKA_NUMBER_BYTES], next[LESMUTKA_NUMBER_BYTES + 1] = {0};
+    memset(largest, 0xff, sizeof largest);
+    next[LESMUTKA_NUMBER_BYTES] = 1;
+    number_from(lesmutka_decimal, "115792089237316195423570985008687907853269984665640564039457584007913129639935", largest,
+                sizeof largest, 39);
+    number_from(lesmutka_decimal, "115792089237316195423570985008687907853269984665640564039457584007913129639936", next,
+                sizeof next, 39);
+
+    no_number_from(lesmutka_decimal, "", ROOM, 0);
+    no_number_from(lesmutka_decimal, "x", ROOM, 0);
+    no_number_from(lesmutka_decimal, "-43", ROOM, 0);
+    no_number_from(lesmutka_decimal, " 43", ROOM, 0);
+    no_number_from(lesmutka_decimal, "0x2b", ROOM, 1);
+    no_number_from(lesmutka_decimal, "43 ", ROOM, 2);
+    no_number_from(lesmutka_decimal, "43a43a", ROOM, 2);
+    no_number_from(lesmutka_decimal, "43a", 0, 2);
+    no_number_from(lesmutka_decimal, "43", 0, 2);
+    no_number_from(lesmutka_decimal, "255", 1, 3);
+    no_number_from(lesmutka_decimal, "000", 1, 3);
+
+    /* Of all bytes, ten are digits. */
+    for (int byte_value = 0; byte_value < 256; byte_value++) {
+        const uint8_t text[] = {'1', (uint8_t)byte_value};
+        lend();
+        lesmutka_parsed parsed = lesmutka_decimal(text, 2, lent, 1);
+        if (byte_value >= '0' && byte_value <= '9') {
+            EXPECT(parsed.is_number == 1 && parsed.place == 0 && parsed.length == 1);
+            EXPECT(lent[0] == 10 + byte_value - '0' && changed_only(1));
+        } else {
+            EXPECT(parsed.is_number == 0 && parsed.place == 1 && parsed.length == 0 && changed_only(0));
+        }
+    }
+
+    lesmutka_parsed parsed = lesmutka_decimal(NULL, 0, NULL, 0);
+    EXPECT(parsed.is_number == 0 && parsed.place == 0 && parsed.length == 0);
+    const uint8_t one[] = {'1'};
+    parsed = lesmutka_decimal(one, 1, NULL, 0);
+    EXPECT(parsed.is_number == 0 && parsed.place == 1 && parsed.length == 0);
+}
+
+/* Every length of text up to twice the room: 99..9 and the same as hexadecimal, in just enough room. */
+static void lengths(void) {
+    char text[2 * ROOM + 1];
+    for (size_t digits = 1; digits <= 2 * ROOM; digits++) {
+        memset(text, '9', digits);
+        text[digits] = 0;
+        size_t room = LESMUTKA_TEXT_ROOM(digits);
+        EXPECT(parse(lesmutka_decimal, text, room).is_number == 1 && changed_only(room));
+        EXPECT(parse(lesmutka_hexadecimal, text, room).length == room && changed_only(room));
+        no_number_from(lesmutka_decimal, text, room - 1, digits);
+        no_number_from(lesmutka_hexadecimal, text, room - 1, 0);
+    }
+    EXPECT(LESMUTKA_TEXT_ROOM(0) == 0 && LESMUTKA_TEXT_ROOM(1) == 1 && LESMUTKA_TEXT_ROOM(2) == 1);
+    EXPECT(LESMUTKA_TEXT_ROOM(SIZE_MAX) == SIZE_MAX / 2 + 1);
+    EXPECT(LESMUTKA_TEXT_ROOM(1 + 2) == 2);
+}
+
+static void version(void) {
+    EXPECT(lesmutka_version() == LESMUTKA_VERSION);
+}
+
+/* The header's words and the library's are the same, and fill exactly the room that is asked for. */
 static void words(void) {
     EXPECT(strcmp(lesmutka_words(0), "not refused") == 0);
     EXPECT(strcmp(lesmutka_words(LESMUTKA_NUMBER_IS_ZERO), "the number is zero") == 0);
     EXPECT(strcmp(lesmutka_words(13), "no such refusal") == 0);
+    EXPECT(strcmp(lesmutka_words(SIZE_MAX), "no such refusal") == 0);
+    size_t longest = 0;
+    for (size_t i = 0; i < 15; i++) {
+        size_t refusal = i < 14 ? i : SIZE_MAX;
+        size_t length = strlen(lesmutka_words(refusal));
+        const size_t rooms[] = {length, length + 1, LESMUTKA_WORDS_ROOM, ROOM};
+        for (size_t k = 0; k < sizeof rooms / sizeof rooms[0]; k++) {
+            lend();
+            lesmutka_length written = lesmutka_write_words(refusal, lent, rooms[k]);
+            EXPECT(written.refusal == 0 && written.place == 0 && written.length == length);
+            EXPECT(memcmp(lent, lesmutka_words(refusal), length) == 0 && changed_only(length));
+        }
+        const size_t too_small[] = {0, 1, length - 1};
+        for (size_t k = 0; k < sizeof too_small / sizeof too_small[0]; k++) {
+            lend();
+            lesmutka_length written = lesmutka_write_words(refusal, lent, too_small[k]);
+            EXPECT(written.refusal == LESMUTKA_ROOM_TOO_SMALL && written.place == length && written.length == 0);
+            EXPECT(changed_only(0));
+        }
+        if (length > longest)
+            longest = length;
+    }
+    EXPECT(longest == LESMUTKA_WORDS_ROOM);
+    lesmutka_length written = lesmutka_write_words(0, NULL, 0);
+    EXPECT(written.refusal == LESMUTKA_ROOM_TOO_SMALL && written.place == 11 && written.length == 0);
 }
 
 int main(void) {
@@ -180,6 +374,10 @@ int main(void) {
     rooms();
     methods();
     refusals();
+    hexadecimal();
+    decimal();
+    lengths();
+    version();
     words();
     printf("boundary: %d tests passed\n", tests);
     return 0;

@@ -275,10 +275,10 @@ static void decimal(void) {
     uint8_t largest[LESMUTKA_NUMBER_BYTES], next[LESMUTKA_NUMBER_BYTES + 1] = {0};
     memset(largest, 0xff, sizeof largest);
     next[LESMUTKA_NUMBER_BYTES] = 1;
-    number_from(lesmutka_decimal, "115792089237316195423570985008687907853269984665640564039457584007913129639935", largest,
-                sizeof largest, 39);
-    number_from(lesmutka_decimal, "115792089237316195423570985008687907853269984665640564039457584007913129639936", next,
-                sizeof next, 39);
+    const char *of_largest = "115792089237316195423570985008687907853269984665640564039457584007913129639935";
+    const char *of_next = "115792089237316195423570985008687907853269984665640564039457584007913129639936";
+    number_from(lesmutka_decimal, of_largest, largest, sizeof largest, 39);
+    number_from(lesmutka_decimal, of_next, next, sizeof next, 39);
 
     no_number_from(lesmutka_decimal, "", ROOM, 0);
     no_number_from(lesmutka_decimal, "x", ROOM, 0);

@@ -62,7 +62,8 @@
  *
  * Conventions
  *
- *   Order      Every buffer is least significant first: bytes of a number, digits of a string.
+ *   Order      Every buffer is least significant first: bytes of a number, digits of a string. Only
+ *              text is read as people write it, most significant first.
  *   Number     At most LESMUTKA_NUMBER_BYTES bytes. No bytes means zero. High zero bytes are
  *              allowed and change nothing.
  *   Digits     One byte a digit: 0x00 is 0, 0x01 is 1, 0xFF is minus 1. A digit string that is

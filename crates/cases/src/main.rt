@@ -8,8 +8,11 @@
 //     plan ROOM NUMBER METHOD WIDTH
 //     forecast 0 NUMBER METHOD WIDTH
 //     check ROOM NUMBER PLAN
+//     hex ROOM TEXT
+//     decimal ROOM TEXT
+//     words ROOM - REFUSAL
 //
-// NUMBER, DIGITS and PLAN are bytes in hexadecimal, or `-` for none; all else is decimal. A request
+// NUMBER, DIGITS, PLAN and TEXT are bytes in hexadecimal, or `-` for none; all else is decimal. A request
 // is copied, and behind it stand the fields of the answer in the order of include/lesmutka.h, then
 // the lent buffer: its bytes up to the last one that changed, and how many above it did not. A take
 // has instead what each take answers, then the words of the recoder. A request that does not fit is
@@ -20,12 +23,15 @@ mod show;
 
 use lesmutka::lesmutka_check;
 use lesmutka::lesmutka_clean;
+use lesmutka::lesmutka_decimal;
 use lesmutka::lesmutka_forecast;
+use lesmutka::lesmutka_hexadecimal;
 use lesmutka::lesmutka_plan;
 use lesmutka::lesmutka_read_back;
 use lesmutka::lesmutka_recode;
 use lesmutka::lesmutka_start;
 use lesmutka::lesmutka_take;
+use lesmutka::lesmutka_write_words;
 use libc::STDIN_FILENO;
 use line::LINE_BYTES;
 use line::Line;
@@ -59,6 +65,12 @@ const PLAN: u64 = 0x706c616e;
 const FORECAST: u64 = 0x666f726563617374;
 
 const CHECK: u64 = 0x636865636b;
+
+const HEX: u64 = 0x686578;
+
+const DECIMAL: u64 = 0x646563696d616c;
+
+const WORDS_OF: u64 = 0x776f726473;
 
 // The first word of a comment, `#`. That of an empty line is 0.
 const COMMENT: u64 = 0x23;
@@ -116,6 +128,21 @@ fn call(name: u64, input: &[u8], plan: &[u8], method: u32, width: u32, out: &mut
         CHECK => {
             let a = lesmutka_check(input, plan, out);
             put_steps(a.refusal, a.place, a.doublings, a.additions, a.subtractions);
+            put_buffer(out);
+        }
+        HEX => {
+            let a = lesmutka_hexadecimal(input, out);
+            put_three(a.is_number, a.place, a.length);
+            put_buffer(out);
+        }
+        DECIMAL => {
+            let a = lesmutka_decimal(input, out);
+            put_three(a.is_number, a.place, a.length);
+            put_buffer(out);
+        }
+        WORDS_OF => {
+            let a = lesmutka_write_words(method as usize, out);
+            put_three(a.refusal, a.place, a.length);
             put_buffer(out);
         }
         _ => put(b" unknown"),

@@ -5,6 +5,7 @@
 //! plain side is `reference`, written from the papers: no allocation, words of 64 bits, ordinary
 //! safe Rust. For take, whose work is as small as its call, there is a plain side that was made as
 //! fast as its author could, called and inlined (`tuned`).
+mod lines;
 mod tuned;
 
 use lesmutka::sys;
@@ -272,6 +273,14 @@ fn main() {
         move |i| keep(reference::check(&numbers[i], &longest[i], &mut b)),
     ));
 
+    let texts: &Vec<String> = &numbers.iter().map(|number| lines::decimal(number)).collect();
+    let (mut a, mut b) = (vec![0; ROOM], vec![0; ROOM]);
+    jobs.push(Job::new(
+        "decimal text read",
+        move |i| keep(sys::decimal(texts[i].as_bytes(), &mut a)),
+        move |i| keep(reference::text::decimal(texts[i].as_bytes(), &mut b)),
+    ));
+
     println!(
         "ns a call: {} rounds over {} numbers of {} bytes; buffers lent once, not cleared",
         ROUNDS,
@@ -291,4 +300,5 @@ fn main() {
     for job in &mut jobs {
         job.print();
     }
+    lines::print(numbers);
 }

@@ -70,7 +70,8 @@ fn section(title: &str) -> Vec<Stored> {
 #[test]
 fn every_refusal_is_stored() {
     let mut seen = [0; LAST + 1];
-    let answered = |stored: &Stored| stored.answer.len() > 1;
+    // The readers of text answer no refusal, but whether there is a number.
+    let answered = |stored: &Stored| stored.answer.len() > 1 && !["hex", "decimal"].contains(&stored.request[0]);
     for stored in STDOUT.lines().filter_map(Stored::read).filter(answered) {
         let refusal = stored.field(0);
         seen[refusal] += 1;
@@ -81,6 +82,30 @@ fn every_refusal_is_stored() {
         }
     }
     assert!(seen.iter().all(|&times| times > 0), "{:?}", seen);
+}
+
+/// Both readers answer with a number and without, and where there is none, nothing is written.
+#[test]
+fn texts_are_stored() {
+    for reader in ["hex", "decimal"] {
+        let mut seen = [0; 2];
+        let texts = STDOUT
+            .lines()
+            .filter_map(Stored::read)
+            .filter(|stored| stored.request[0] == reader);
+        for stored in texts {
+            seen[stored.field(0)] += 1;
+            if stored.field(0) == 0 {
+                assert_eq!(
+                    stored.answer[3],
+                    format!("+{}", stored.request[1]),
+                    "{:?}",
+                    stored.request
+                );
+            }
+        }
+        assert!(seen[0] > 20 && seen[1] > 20, "{}: {:?}", reader, seen);
+    }
 }
 
 /// What no call is made for has one word for an answer, and nothing else has.

@@ -20,13 +20,13 @@ unfolding lowBytes positional
 low-value zero v = rw pow-zero (omega arith)
 low-value (suc n) v = rw pow-suc (omega (arith, low-value n (v / 256), mod-mul v {m = 256 ^ n} {c = 256} (one-le-pow n 256 (omega arith)) (omega arith)))
 
-low-below : (n v : ℕ) → Below 256 (lowBytes n v)
+pub low-below : (n v : ℕ) → Below 256 (lowBytes n v)
 unfolding lowBytes
 low-below zero v i = omega arith
 low-below (suc n) v zero = omega arith
 low-below (suc n) v (suc i) = low-below n (v / 256) i
 
-low-of : (l : List ℕ) → Below 256 l → lowBytes (length l) (bytesValue l) ≡ l
+pub low-of : (l : List ℕ) → Below 256 l → lowBytes (length l) (bytesValue l) ≡ l
 unfolding lowBytes positional
 low-of [] b = refl
 low-of (x ∷ l) b =

@@ -1,0 +1,3 @@
+mod Digits
+mod Carry
+pub mod Value

@@ -1,0 +1,2 @@
+-- What the answer says. Assumes nothing.
+use Prim.Native.Nat.{ℕ}

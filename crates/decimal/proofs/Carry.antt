@@ -55,7 +55,7 @@ pub append-low : (bytes l : List ℕ) (n v factor addend : ℕ) → bytes ≡ lo
 append-low bytes l n v factor addend e =
     let P : ℕ = 256 ^ n in
     let whole : v * factor + addend ≡ (v % P * factor + addend) + P * (v / P * factor) =
-        ap (λ (x : ℕ). x * factor + addend) (sym (div-add-mod v P)) ∙ rw (add-mul, mul-assoc) (omega arith) in
+    ap (λ (x : ℕ). x * factor + addend) (sym (div-add-mod v P)) ∙ rw (add-mul, mul-assoc) (omega arith) in
     rw (e, take-at (lowBytes n v) (drop n l) n (length-low n v), drop-at (lowBytes n v) (drop n l) n (length-low n v), low-value n v, whole, low-above n (v % P * factor + addend) (v / P * factor))
 
 pub above-same : (bytes l : List ℕ) (n v : ℕ) → bytes ≡ lowBytes n v ++ drop n l → drop n bytes ≡ drop n l

@@ -123,5 +123,6 @@ pub fn parse(text: &[u8], bytes: &mut [u8]) -> Parsed
         return Parsed::NotDecimal(text.len());
     }
     write(text, bytes, n);
-    Parsed::Bytes(significant(&bytes[..n]))
+    let length = significant(&bytes[..n]);
+    Parsed::Bytes(length)
 }

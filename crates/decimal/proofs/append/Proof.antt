@@ -9,8 +9,6 @@ use Rattle.decimal.proofs.Carry.{total, low-next, append-more, carry-mo
 use borrow.Author.Needs.{needs}
 use Rattle.decimal.proofs.append.Statement.{statement}
 use Rattle.decimal.proofs.append.Tie as tie
-use Rattle.decimal.proofs.append.Reads as reads
-use Rattle.decimal.proofs.append.Lts as lts
 
 abbrev Inv-loop : tie.InvT-loop
 Inv-loop bytes₀ n factor addend carry₀ k₀ bytes carry k =
@@ -61,13 +59,14 @@ loop-again c =
     let byte : getD (loop .bytes) (loop .k) 0 < 256 = omega (arith, c .slice-known .given (loop .k)) in
     let sum : ℕ = getD (loop .bytes) (loop .k) 0 * args .factor + loop .carry in
     let same : getD (loop .bytes) (loop .k) 0 ≡ getD l (loop .k) 0 =
-        ap (λ (b : List ℕ). getD b (loop .k) 0) (loop .inv .4) ∙ low-next l (total l (args .factor) (args .addend) (loop .k)) (loop .k) (omega arith) in
-    let here : getD l (loop .k) 0 * args .factor + total l (args .factor) (args .addend) (loop .k) / 256 ^ loop .k ≡ sum = rw (← same, ← loop .inv .3) in
-    (search needs,
-    search needs,
-    omega (arith, byte-times (getD (loop .bytes) (loop .k) 0) (args .factor) byte),
-    carry-more l (args .factor) (args .addend) (loop .k) sum here,
-    ap (λ (b : List ℕ). set b (loop .k) (sum % 256)) (loop .inv .4) ∙ append-more l (args .factor) (args .addend) (loop .k) sum here (omega arith))
+    ap (λ (b : List ℕ). getD b (loop .k) 0) (loop .inv .4) ∙ low-next l (total l (args .factor) (args .addend) (loop .k)) (loop .k) (omega arith) in
+    let here : getD l (loop .k) 0 * args .factor + total l (args .factor) (args .addend) (loop .k) / 256 ^ loop .k ≡ sum = rw (← same, ← loop .inv .3) in (
+      search needs,
+      search needs,
+      omega (arith, byte-times (getD (loop .bytes) (loop .k) 0) (args .factor) byte),
+      carry-more l (args .factor) (args .addend) (loop .k) sum here,
+      ap (λ (b : List ℕ). set b (loop .k) (sum % 256)) (loop .inv .4) ∙ append-more l (args .factor) (args .addend) (loop .k) sum here (omega arith),
+    )
 
 same-length : tie.Need-same-length Inv-loop μ-loop
 same-length c = search needs

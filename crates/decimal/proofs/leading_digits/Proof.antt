@@ -8,8 +8,6 @@ use Rattle.decimal.proofs.Digits.{digit-passed, below-digits, above-dig
 use borrow.Author.Needs.{needs}
 use Rattle.decimal.proofs.leading_digits.Statement.{statement}
 use Rattle.decimal.proofs.leading_digits.Tie as tie
-use Rattle.decimal.proofs.leading_digits.Reads as reads
-use Rattle.decimal.proofs.leading_digits.Lts as lts
 
 abbrev Inv-loop : tie.InvT-loop
 Inv-loop text i₀ i = (i ≤ length text) × (leading text ≡ i + leading (drop i text))

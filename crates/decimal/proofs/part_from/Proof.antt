@@ -11,8 +11,6 @@ use Rattle.decimal.proofs.Digits.{each-digit, digit-more, power-room, p
 use borrow.Author.Needs.{needs}
 use Rattle.decimal.proofs.part_from.Statement.{statement}
 use Rattle.decimal.proofs.part_from.Tie as tie
-use Rattle.decimal.proofs.part_from.Reads as reads
-use Rattle.decimal.proofs.part_from.Lts as lts
 
 abbrev Inv-loop : tie.InvT-loop
 Inv-loop text from count value₀ power₀ i₀ value power i =
@@ -76,23 +74,27 @@ loop-again c =
     let loop = c .before .before .loop in
     let args = c .before .before .before .before .args in
     let digit = each-digit (args .text .now) (c .before .before .before .before .pre .0) (args .from + loop .i) (omega arith) in
-    let more = digit-more (args .text .now) (args .from) (loop .i) (omega arith) in
-    (loop .inv .0,
-    loop .inv .1,
-    loop .inv .2,
-    search needs,
-    omega (arith, more),
-    rw (add-one, pow-suc, ← loop .inv .5),
-    omega (arith, digit))
+    let more = digit-more (args .text .now) (args .from) (loop .i) (omega arith) in (
+      loop .inv .0,
+      loop .inv .1,
+      loop .inv .2,
+      search needs,
+      omega (arith, more),
+      rw (add-one, pow-suc, ← loop .inv .5),
+      omega (arith, digit),
+    )
 
 returns : tie.Need-returns Inv-loop μ-loop
 returns c =
     let loop = c .before .loop in
     let whole : loop .i ≡ c .before .before .if1 .count = omega arith in
-    let power = rw whole at (loop .inv .5) in
-    ((loop .inv .0, loop .inv .2),
-    ((rw whole at (loop .inv .4), loop .inv .6),
-    (power, omega (arith, power-limit (c .before .before .if1 .count) (loop .inv .1)))))
+    let power = rw whole at (loop .inv .5) in (
+      (loop .inv .0, loop .inv .2),
+      (
+        (rw whole at (loop .inv .4), loop .inv .6),
+        (power, omega (arith, power-limit (c .before .before .if1 .count) (loop .inv .1))),
+      ),
+    )
 
 pub part-from-spec : {M : Type 1} → statement M
 part-from-spec =

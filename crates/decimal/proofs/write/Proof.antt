@@ -12,10 +12,6 @@ use Rattle.decimal.proofs.Carry.{zero-more, append-low, above-same}
 use borrow.Author.Needs.{needs}
 use Rattle.decimal.proofs.write.Statement.{statement}
 use Rattle.decimal.proofs.write.Tie as tie
-use Rattle.decimal.proofs.write.Reads as reads
-use Rattle.decimal.proofs.write.Lts as lts
-use Rattle.decimal.proofs.append.Reads as append-reads
-use Rattle.decimal.proofs.part_from.Reads as part-from-reads
 
 abbrev Inv-loop : tie.InvT-loop
 Inv-loop text bytes₀ n k₀ bytes k = (k ≤ n) × (length bytes ≡ length bytes₀) × (bytes ≡ lowBytes k 0 ++ drop k bytes₀)
@@ -82,10 +78,11 @@ loop2-again c =
     let loop = c .before .before .before .before .before .before .before .loop2 in
     let cleared = c .before .before .before .before .before .before .before .before .before .loop .bytes in
     let args = c .before .before .before .before .before .before .before .before .before .before .before .before .args in
-    let made = c .before .before .before .append .ensures in
-    (search needs,
-    search needs,
-    made ∙ passed-more (args .text .now) (loop .bytes) cleared (args .n) (loop .from) (part .result .count) (part .result .value) (part .result .power) (search needs) (loop .inv .2) (part .ensures .1 .0 .0) (part .ensures .1 .1 .0))
+    let made = c .before .before .before .append .ensures in (
+      search needs,
+      search needs,
+      made ∙ passed-more (args .text .now) (loop .bytes) cleared (args .n) (loop .from) (part .result .count) (part .result .value) (part .result .power) (search needs) (loop .inv .2) (part .ensures .1 .0 .0) (part .ensures .1 .1 .0),
+    )
 
 same-length : tie.Need-same-length Inv-loop μ-loop Inv-loop2 μ-loop2
 same-length c = search needs
@@ -98,8 +95,8 @@ returns c =
     let text = args .text .now in
     let all : take (loop .from) text ≡ text = take-all (loop .from) text (omega arith) in
     let above : drop (args .n) (first .bytes) ≡ drop (args .n) (args .bytes .now) =
-        let whole : first .k ≡ args .n = omega arith in
-        above-same (first .bytes) (args .bytes .now) (args .n) 0 (rw whole at (first .inv .2)) in
+    let whole : first .k ≡ args .n = omega arith in
+    above-same (first .bytes) (args .bytes .now) (args .n) 0 (rw whole at (first .inv .2)) in
     loop .inv .2 ∙ rw (all, above)
 
 pub write-spec : {M : Type 1} → statement M

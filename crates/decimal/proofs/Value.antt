@@ -56,15 +56,15 @@ significant-length v m n rest h s =
 -- a text that is a number: all digits, and how many bytes its number has
 parsed-is : (text : List ℕ) (room n : ℕ) → parsed text room ≡ Bytes n → (leading text ≡ length text) × (length (bytesOf (decimalValue text)) ≡ n)
 unfolding parsed
-parsed-is text room n = go (ltb (leading text) (length text)) refl (eqb (length text) 0) (ltb room (byteCount text))
+parsed-is text room n = go _ _ _ (ltb (leading text) (length text)) refl (eqb (length text) 0) (ltb room (byteCount text))
   where
-    go : (other : Bool) → ltb (leading text) (length text) ≡ other → (none short : Bool)
-        → cond other (NotDecimal (leading text)) (cond none (NotDecimal 0) (cond short (NotDecimal (length text)) (Bytes (length (bytesOf (decimalValue text)))))) ≡ Bytes n
+    go : (a b c : ℕ) (other : Bool) → ltb (leading text) (length text) ≡ other → (none short : Bool)
+        → cond other (NotDecimal a) (cond none (NotDecimal b) (cond short (NotDecimal c) (Bytes (length (bytesOf (decimalValue text)))))) ≡ Bytes n
         → (leading text ≡ length text) × (length (bytesOf (decimalValue text)) ≡ n)
-    go true t none short e = let z : _≡_ {A = ℕ} 0 1 = cc in absurd (omega arith)
-    go false t true short e = let z : _≡_ {A = ℕ} 0 1 = cc in absurd (omega arith)
-    go false t false true e = let z : _≡_ {A = ℕ} 0 1 = cc in absurd (omega arith)
-    go false t false false e = (omega (arith, leading-within text, ltb-false (leading text) (length text) t), cc)
+    go a b c true t none short e = let z : _≡_ {A = ℕ} 0 1 = cc in absurd (omega arith)
+    go a b c false t true short e = let z : _≡_ {A = ℕ} 0 1 = cc in absurd (omega arith)
+    go a b c false t false true e = let z : _≡_ {A = ℕ} 0 1 = cc in absurd (omega arith)
+    go a b c false t false false e = (omega (arith, leading-within text, ltb-false (leading text) (length text) t), cc)
 
 -- where the answer is a number of this many bytes, they are exactly the bytes of the text's number: none of them is a high zero byte
 pub parsed-bytes : (text bytes : List ℕ) (n : ℕ) → parsed text (length bytes) ≡ Bytes n → take n (parsedBuffer text bytes) ≡ bytesOf (decimalValue text)
@@ -84,31 +84,30 @@ Other text = (i : ℕ) × (i < length text) × (isDigit (getD text i 0) ≡ fals
 pub not-decimal : (text : List ℕ) (room : ℕ) → ((p : ℕ) × (parsed text room ≡ NotDecimal p)) ↔ (length text ≡ 0) ⊎ Other text ⊎ (room < byteCount text)
 unfolding parsed
 not-decimal text room = (
-  λ e. to (ltb (leading text) (length text)) refl (eqb (length text) 0) refl (ltb room (byteCount text)) refl (e .0) (e .1),
-  from (ltb (leading text) (length text)) refl (eqb (length text) 0) refl (ltb room (byteCount text)) refl,
+  λ e. to _ _ _ _ (ltb (leading text) (length text)) refl (eqb (length text) 0) refl (ltb room (byteCount text)) refl (e .0) (e .1),
+  from _ _ _ _ (ltb (leading text) (length text)) refl (eqb (length text) 0) refl (ltb room (byteCount text)) refl,
 )
   where
-    answer : Bool → Bool → Bool → Parsed
-    answer other none short = cond other (NotDecimal (leading text)) (cond none (NotDecimal 0) (cond short (NotDecimal (length text)) (Bytes (length (bytesOf (decimalValue text))))))
+    to : (a b c d : ℕ) (other : Bool) → ltb (leading text) (length text) ≡ other → (none : Bool) → eqb (length text) 0 ≡ none → (short : Bool) → ltb room (byteCount text) ≡ short
+        → (p : ℕ) → cond other (NotDecimal a) (cond none (NotDecimal b) (cond short (NotDecimal c) (Bytes d))) ≡ NotDecimal p
+        → (length text ≡ 0) ⊎ Other text ⊎ (room < byteCount text)
+    to a b c d true o none n short s p e = let h = ltb-true (leading text) (length text) o in inr (inl (leading text, h, leading-end text h))
+    to a b c d false o true n short s p e = inl (eqb-true (length text) 0 n)
+    to a b c d false o false n true s p e = inr (inr (ltb-true room (byteCount text) s))
+    to a b c d false o false n false s p e = let z : _≡_ {A = ℕ} 0 1 = cc in absurd (omega arith)
 
-    to : (other : Bool) → ltb (leading text) (length text) ≡ other → (none : Bool) → eqb (length text) 0 ≡ none → (short : Bool) → ltb room (byteCount text) ≡ short
-        → (p : ℕ) → answer other none short ≡ NotDecimal p → (length text ≡ 0) ⊎ Other text ⊎ (room < byteCount text)
-    to true o none n short s p e = let h = ltb-true (leading text) (length text) o in inr (inl (leading text, h, leading-end text h))
-    to false o true n short s p e = inl (eqb-true (length text) 0 n)
-    to false o false n true s p e = inr (inr (ltb-true room (byteCount text) s))
-    to false o false n false s p e = let z : _≡_ {A = ℕ} 0 1 = cc in absurd (omega arith)
-
-    from : (other : Bool) → ltb (leading text) (length text) ≡ other → (none : Bool) → eqb (length text) 0 ≡ none → (short : Bool) → ltb room (byteCount text) ≡ short
-        → (length text ≡ 0) ⊎ Other text ⊎ (room < byteCount text) → (p : ℕ) × (answer other none short ≡ NotDecimal p)
-    from true o none n short s why = (leading text, refl)
-    from false o true n short s why = (0, refl)
-    from false o false n true s why = (length text, refl)
-    from false o false n false s (inl z) = absurd (eqb-false (length text) 0 n z)
-    from false o false n false s (inr (inl (i, h, d))) =
+    from : (a b c d : ℕ) (other : Bool) → ltb (leading text) (length text) ≡ other → (none : Bool) → eqb (length text) 0 ≡ none → (short : Bool) → ltb room (byteCount text) ≡ short
+        → (length text ≡ 0) ⊎ Other text ⊎ (room < byteCount text)
+        → (p : ℕ) × (cond other (NotDecimal a) (cond none (NotDecimal b) (cond short (NotDecimal c) (Bytes d))) ≡ NotDecimal p)
+    from a b c d true o none n short s why = (a, refl)
+    from a b c d false o true n short s why = (b, refl)
+    from a b c d false o false n true s why = (c, refl)
+    from a b c d false o false n false s (inl z) = absurd (eqb-false (length text) 0 n z)
+    from a b c d false o false n false s (inr (inl (i, h, other))) =
         let digit : isDigit (getD text i 0) ≡ true = leading-digits text i (omega (arith, ltb-false (leading text) (length text) o)) in
         let z : _≡_ {A = ℕ} 0 1 = cc in
         absurd (omega arith)
-    from false o false n false s (inr (inr h)) = absurd (omega (arith, ltb-false room (byteCount text) s))
+    from a b c d false o false n false s (inr (inr h)) = absurd (omega (arith, ltb-false room (byteCount text) s))
 
 -- where it stops before the end of the text, the byte there is no digit, and all before it are
 pub not-decimal-place : (text : List ℕ) (room p : ℕ) → parsed text room ≡ NotDecimal p → p < length text

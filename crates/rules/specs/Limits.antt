@@ -2,6 +2,10 @@
 use Prim.Native.Nat.{ℕ, _+_, _*_, _/_, _^_}
 use Rattle.rules.specs.declared.Limits.{Limits}
 
+-- the version: 10000 * major + 100 * minor + patch
+abbrev pub version : ℕ
+version = 200
+
 -- a number has at most this many bytes
 abbrev pub numberBytes : ℕ
 numberBytes = 32

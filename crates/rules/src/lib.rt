@@ -6,6 +6,9 @@ ghost use mathlib.Core.Path.{_≡_};
 ghost use Rattle.rules.specs.Limits.{documented};
 ghost use Rattle.rules.specs.Refusals.{refusalNumber, refusalPlace};
 
+// The version: 10000 * major + 100 * minor + patch.
+pub const VERSION: u32 = 200;
+
 // The most bytes of a number.
 pub const NUMBER_BYTES: usize = 32;
 

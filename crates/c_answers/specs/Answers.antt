@@ -5,7 +5,7 @@ use Rattle.rules.specs.declared.Refusal.{Refusal}
 use Rattle.rules.specs.declared.Written.{Written}
 use Rattle.rules.specs.declared.Written.the-variants.{Length as Fitted, Refused as NotWritten}
 use Rattle.rules.specs.declared.Counted.{Counted}
-use Rattle.rules.specs.declared.Counted.the-variants.{Steps as Counts, Refused as NotCounted}
+use Rattle.rules.specs.declared.Counted.the-variants.{Steps as Made, Refused as NotCounted}
 use Rattle.reading.specs.declared.ReadBack.{ReadBack}
 use Rattle.reading.specs.declared.ReadBack.the-variants.{Value as Reads, Refused as NotRead}
 use Rattle.taking.specs.declared.Start.{Start}
@@ -15,7 +15,7 @@ use Rattle.c_answers.specs.declared.Limits.{Limits}
 use Rattle.c_answers.specs.declared.Started.{Started}
 use Rattle.c_answers.specs.declared.Length.{Length}
 use Rattle.c_answers.specs.declared.Value.{Value}
-use Rattle.c_answers.specs.declared.Steps.{Steps}
+use Rattle.c_answers.specs.declared.Counts.{Counts}
 
 -- a refusal
 abbrev pub refusedFields : Refusal → Started
@@ -33,8 +33,8 @@ abbrev pub readFields : ReadBack → Value
 readFields (Reads sign n) = record { refusal = 0; place = 0; sign = sign; length = n }
 readFields (NotRead r) = record { refusal = refusalNumber r; place = refusalPlace r; sign = 0; length = 0 }
 
-abbrev pub countedFields : Counted → Steps
-countedFields (Counts c) = record { refusal = 0; place = 0; doublings = c .doublings; additions = c .additions; subtractions = c .subtractions }
+abbrev pub countedFields : Counted → Counts
+countedFields (Made c) = record { refusal = 0; place = 0; doublings = c .doublings; additions = c .additions; subtractions = c .subtractions }
 countedFields (NotCounted r) = record { refusal = refusalNumber r; place = refusalPlace r; doublings = 0; additions = 0; subtractions = 0 }
 
 abbrev pub limitFields : Documented → Limits

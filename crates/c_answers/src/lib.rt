@@ -36,7 +36,7 @@ pub struct Value {
 
 // How many steps of each kind.
 #[repr(C)]
-pub struct Steps {
+pub struct Counts {
     pub refusal: usize,
     pub place: usize,
     pub doublings: usize,
@@ -132,11 +132,11 @@ pub fn of_read_back(answer: ReadBack) -> Value
     }
 }
 
-pub fn of_counted(answer: Counted) -> Steps
+pub fn of_counted(answer: Counted) -> Counts
     ensures { λ r. ⌜ r ≡ countedFields answer ⌝ }
 {
     match answer {
-        Counted::Steps(counts) => Steps {
+        Counted::Steps(counts) => Counts {
             refusal: 0,
             place: 0,
             doublings: counts.doublings,
@@ -145,7 +145,7 @@ pub fn of_counted(answer: Counted) -> Steps
         },
         Counted::Refused(refusal) => {
             let given = refused(refusal);
-            Steps {
+            Counts {
                 refusal: given.refusal,
                 place: given.place,
                 doublings: 0,

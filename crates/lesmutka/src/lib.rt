@@ -1,10 +1,10 @@
 // Every call (docs/RULES.md, 4.1) for C and Rust: byte slices and numbers in, structs of numbers out. A
 // slice is passed as a pointer and a length. include/lesmutka.h says what each call takes and
 // leaves.
+use c_answers::Counts;
 use c_answers::Length;
 use c_answers::Limits;
 use c_answers::Started;
-use c_answers::Steps;
 use c_answers::Value;
 use c_answers::kept::KEPT_WORDS;
 use c_answers::kept::kept_of;
@@ -84,7 +84,7 @@ pub extern "C" fn lesmutka_read_back(digits: &[u8], out: &mut [u8]) -> Value
 
 // Writes the plan for a number by a method.
 #[no_mangle]
-pub extern "C" fn lesmutka_plan(number: &[u8], method: u32, width: u32, out: &mut [u8]) -> Steps
+pub extern "C" fn lesmutka_plan(number: &[u8], method: u32, width: u32, out: &mut [u8]) -> Counts
     ensures answer { λ r. ⌜ r ≡ countedFields (planAnswer (now (number .entry)) method width (length (now (out .entry)))) ⌝ }
     ensures buffer { λ r. ⌜ now (out .exit) ≡ planBuffer (now (number .entry)) method width (now (out .entry)) ⌝ }
 {
@@ -93,7 +93,7 @@ pub extern "C" fn lesmutka_plan(number: &[u8], method: u32, width: u32, out: &mu
 
 // The counts of that plan's steps.
 #[no_mangle]
-pub extern "C" fn lesmutka_forecast(number: &[u8], method: u32, width: u32) -> Steps
+pub extern "C" fn lesmutka_forecast(number: &[u8], method: u32, width: u32) -> Counts
     ensures { λ r. ⌜ r ≡ countedFields (forecastAnswer (now (number .entry)) method width) ⌝ }
 {
     c_answers::of_counted(planning::forecast(number, method, width))
@@ -101,7 +101,7 @@ pub extern "C" fn lesmutka_forecast(number: &[u8], method: u32, width: u32) -> S
 
 // Checks a plan for a number, in a lent work space.
 #[no_mangle]
-pub extern "C" fn lesmutka_check(number: &[u8], plan: &[u8], space: &mut [u8]) -> Steps
+pub extern "C" fn lesmutka_check(number: &[u8], plan: &[u8], space: &mut [u8]) -> Counts
     ensures answer { λ r. ⌜ r ≡ countedFields (checkAnswer (now (number .entry)) (now (plan .entry)) (length (now (space .entry)))) ⌝ }
     ensures space { λ r. ⌜ now (space .exit) ≡ checkSpace (now (number .entry)) (now (plan .entry)) (now (space .entry)) ⌝ }
 {

@@ -10,12 +10,17 @@ use Rattle.reading.specs.declared.ReadBack.{ReadBack}
 use Rattle.reading.specs.declared.ReadBack.the-variants.{Value as Reads, Refused as NotRead}
 use Rattle.taking.specs.declared.Start.{Start}
 use Rattle.taking.specs.declared.Start.the-variants.{Ready, Refused as NotStarted}
+use Rattle.hexadecimal.specs.declared.Parsed.{Parsed as Hexadecimal}
+use Rattle.hexadecimal.specs.declared.Parsed.the-variants.{Bytes as HexBytes, NotHex}
+use Rattle.decimal.specs.declared.Parsed.{Parsed as Decimal}
+use Rattle.decimal.specs.declared.Parsed.the-variants.{Bytes as DecimalBytes, NotDecimal}
 use Rattle.rules.specs.declared.Limits.{Limits as Documented}
 use Rattle.c_answers.specs.declared.Limits.{Limits}
 use Rattle.c_answers.specs.declared.Started.{Started}
 use Rattle.c_answers.specs.declared.Length.{Length}
 use Rattle.c_answers.specs.declared.Value.{Value}
 use Rattle.c_answers.specs.declared.Counts.{Counts}
+use Rattle.c_answers.specs.declared.Parsed.{Parsed}
 
 -- a refusal
 abbrev pub refusedFields : Refusal → Started
@@ -36,6 +41,15 @@ readFields (NotRead r) = record { refusal = refusalNumber r; place = refusalPlac
 abbrev pub countedFields : Counted → Counts
 countedFields (Made c) = record { refusal = 0; place = 0; doublings = c .doublings; additions = c .additions; subtractions = c .subtractions }
 countedFields (NotCounted r) = record { refusal = refusalNumber r; place = refusalPlace r; doublings = 0; additions = 0; subtractions = 0 }
+
+-- a text that is a number, by how many bytes it has; if it is none, a decimal one tells its place
+abbrev pub hexadecimalFields : Hexadecimal → Parsed
+hexadecimalFields (HexBytes n) = record { «is_number» = 1; place = 0; length = n }
+hexadecimalFields NotHex = record { «is_number» = 0; place = 0; length = 0 }
+
+abbrev pub decimalFields : Decimal → Parsed
+decimalFields (DecimalBytes n) = record { «is_number» = 1; place = 0; length = n }
+decimalFields (NotDecimal p) = record { «is_number» = 0; place = p; length = 0 }
 
 abbrev pub limitFields : Documented → Limits
 limitFields l = record {

@@ -8,7 +8,7 @@ use rules::Refusal;
 use rules::Written;
 use taking::Start;
 ghost use mathlib.Core.Path.{_≡_};
-ghost use Rattle.c_answers.specs.Answers.{refusedFields, startedFields, writtenFields, readFields, countedFields, limitFields};
+ghost use Rattle.c_answers.specs.Answers.{refusedFields, startedFields, writtenFields, readFields, countedFields, limitFields, hexadecimalFields, decimalFields};
 
 // What the start of taking answers.
 #[repr(C)]
@@ -42,6 +42,15 @@ pub struct Counts {
     pub doublings: usize,
     pub additions: usize,
     pub subtractions: usize,
+}
+
+// Whether a text is a number, 1 if it is: then how many bytes it has; if not, how many digits come
+// before the first byte that is none, where the reader tells.
+#[repr(C)]
+pub struct Parsed {
+    pub is_number: usize,
+    pub place: usize,
+    pub length: usize,
 }
 
 // The limits that the library keeps.
@@ -153,5 +162,39 @@ pub fn of_counted(answer: Counted) -> Counts
                 subtractions: 0,
             }
         }
+    }
+}
+
+pub fn of_hexadecimal(answer: hexadecimal::Parsed) -> Parsed
+    ensures { λ r. ⌜ r ≡ hexadecimalFields answer ⌝ }
+{
+    match answer {
+        hexadecimal::Parsed::Bytes(length) => Parsed {
+            is_number: 1,
+            place: 0,
+            length,
+        },
+        hexadecimal::Parsed::NotHex => Parsed {
+            is_number: 0,
+            place: 0,
+            length: 0,
+        },
+    }
+}
+
+pub fn of_decimal(answer: decimal::Parsed) -> Parsed
+    ensures { λ r. ⌜ r ≡ decimalFields answer ⌝ }
+{
+    match answer {
+        decimal::Parsed::Bytes(length) => Parsed {
+            is_number: 1,
+            place: 0,
+            length,
+        },
+        decimal::Parsed::NotDecimal(place) => Parsed {
+            is_number: 0,
+            place,
+            length: 0,
+        },
     }
 }

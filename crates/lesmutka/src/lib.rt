@@ -4,6 +4,7 @@
 use c_answers::Counts;
 use c_answers::Length;
 use c_answers::Limits;
+use c_answers::Parsed;
 use c_answers::Started;
 use c_answers::Value;
 use c_answers::kept::KEPT_WORDS;
@@ -13,15 +14,17 @@ use taking::Recoder;
 use taking::Take;
 ghost use mathlib.Core.Path.{_≡_};
 ghost use lib.ListN.{length};
-ghost use Rattle.rules.specs.Limits.{documented};
+ghost use Rattle.rules.specs.Limits.{documented, version};
 ghost use Rattle.recoding.specs.Recode.{recodeAnswer, recodeBuffer};
 ghost use Rattle.taking.specs.Take.{startAnswer, startNumber};
 ghost use Rattle.cleaning.specs.Clean.{cleanAnswer, cleanBuffer};
 ghost use Rattle.reading.specs.ReadBack.{readBackAnswer, readBackBuffer};
 ghost use Rattle.planning.specs.Plan.{forecastAnswer, planAnswer, planBuffer};
 ghost use Rattle.checking.specs.Check.{checkAnswer, checkSpace};
+ghost use Rattle.hexadecimal.specs.Hex as hexadecimal_text;
+ghost use Rattle.decimal.specs.Decimal as decimal_text;
 ghost use Rattle.refusal_words.specs.Words.{wordsAnswer, wordsBuffer};
-ghost use Rattle.c_answers.specs.Answers.{startedFields, writtenFields, readFields, countedFields, limitFields};
+ghost use Rattle.c_answers.specs.Answers.{startedFields, writtenFields, readFields, countedFields, limitFields, hexadecimalFields, decimalFields};
 ghost use Rattle.c_answers.specs.Kept.{keptNumber, IsKeptTake};
 
 // Writes the canonical string of a number.
@@ -114,6 +117,32 @@ pub extern "C" fn lesmutka_limits() -> Limits
     ensures { λ r. ⌜ r ≡ limitFields documented ⌝ }
 {
     c_answers::of_limits(rules::current())
+}
+
+// Writes the number of a hexadecimal text.
+#[no_mangle]
+pub extern "C" fn lesmutka_hexadecimal(text: &[u8], out: &mut [u8]) -> Parsed
+    ensures answer { λ r. ⌜ r ≡ hexadecimalFields (hexadecimal_text.parsed (hexadecimal_text.withoutPrefix (now (text .entry))) (length (now (out .entry)))) ⌝ }
+    ensures buffer { λ r. ⌜ now (out .exit) ≡ hexadecimal_text.parsedBuffer (hexadecimal_text.withoutPrefix (now (text .entry))) (now (out .entry)) ⌝ }
+{
+    c_answers::of_hexadecimal(hexadecimal::parse(text, out))
+}
+
+// Writes the number of a decimal text.
+#[no_mangle]
+pub extern "C" fn lesmutka_decimal(text: &[u8], out: &mut [u8]) -> Parsed
+    ensures answer { λ r. ⌜ r ≡ decimalFields (decimal_text.parsed (now (text .entry)) (length (now (out .entry)))) ⌝ }
+    ensures buffer { λ r. ⌜ now (out .exit) ≡ decimal_text.parsedBuffer (now (text .entry)) (now (out .entry)) ⌝ }
+{
+    c_answers::of_decimal(decimal::parse(text, out))
+}
+
+// The version of the library.
+#[no_mangle]
+pub extern "C" fn lesmutka_version() -> u32
+    ensures { λ r. ⌜ r ≡ version ⌝ }
+{
+    rules::VERSION
 }
 
 // Writes what a refusal's number says.

@@ -212,6 +212,7 @@ fn main() {
     let canonicals: &Vec<Vec<u8>> = &numbers.iter().map(|number| canonical(number)).collect();
     let strings = &strings(rng, 256);
     let longest: &Vec<Vec<u8>> = &numbers.iter().map(|number| longest(number)).collect();
+    let texts: &Vec<String> = &numbers.iter().map(|number| lines::decimal(number)).collect();
     const ROOM: usize = lesmutka::PLAN_ROOM;
     const SPACE: usize = lesmutka::work_space(lesmutka::PLAN_STEPS);
 
@@ -273,7 +274,6 @@ fn main() {
         move |i| keep(reference::check(&numbers[i], &longest[i], &mut b)),
     ));
 
-    let texts: &Vec<String> = &numbers.iter().map(|number| lines::decimal(number)).collect();
     let (mut a, mut b) = (vec![0; ROOM], vec![0; ROOM]);
     jobs.push(Job::new(
         "decimal text read",

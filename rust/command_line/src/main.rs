@@ -67,36 +67,28 @@ fn run(words: &[&[u8]]) -> Status {
     }
 }
 
-/// Answers one request. Faults are also told on standard error.
+/// Answers one request. A fault is told on standard error and, with --json, as an object too.
 fn one(words: &Words, out: &mut Vec<u8>) -> Status {
-    let form = Form::new(words.json, None);
-    let mut desk = Desk::new();
-    let status = match Request::new(words) {
-        Err(fault) => {
-            form.fault(&fault, out);
-            complain(&fault)
+    answered(words, out).unwrap_or_else(|fault| {
+        if words.json {
+            Form::new(true, None).fault(&fault, out);
         }
-        Ok(Request::Show { file, dot }) => show::show(file, dot, words.json, &mut desk, out),
-        Ok(request) => match desk.answer(&request) {
-            Ok(answer) => {
-                let status = form.answer(&request, &answer, out);
-                if status == Status::Refused && request.is_to_standard_output() {
-                    let _ = io::stderr().write_all(out);
-                    out.clear();
-                }
-                status
-            }
-            Err(fault) => {
-                form.fault(&fault, out);
-                complain(&fault)
-            }
-        },
-    };
-    if !words.json && status >= Status::Malformed {
-        // In words a fault is told once, on standard error.
+        complain(&fault)
+    })
+}
+
+fn answered(words: &Words, out: &mut Vec<u8>) -> Result<Status, Fault> {
+    let mut desk = Desk::new();
+    let request = Request::new(words)?;
+    if let Request::Show { file, dot } = request {
+        return show::show(file, dot, words.json, &mut desk, out);
+    }
+    let status = Form::new(words.json, None).answer(&request, &desk.answer(&request)?, out);
+    if status == Status::Refused && request.is_to_standard_output() {
+        let _ = io::stderr().write_all(out);
         out.clear();
     }
-    status
+    Ok(status)
 }
 
 /// Tells a fault in one line on standard error.

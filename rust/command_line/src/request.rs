@@ -137,6 +137,8 @@ impl<'a> Request<'a> {
             Some("--force is for `plan ... to FILE` alone")
         } else if words.dot && !matches!(self, Request::Show { .. }) {
             Some("--dot is for `show` alone")
+        } else if words.dot && words.json {
+            Some("--dot and --json are two forms of one answer")
         } else if words.json && self.is_to_standard_output() {
             Some("with `to -` standard output holds the plan's bytes, and no JSON")
         } else {

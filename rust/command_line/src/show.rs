@@ -1,6 +1,5 @@
 //! A plan with its values, which are the records that the check leaves in its work space.
 use crate::answer::{Desk, Fault};
-use crate::complain;
 use crate::plans;
 use crate::print::{hint, put_value, Fields, Status};
 use lesmutka::{check, records, Counts, Refusal, Step, Value};
@@ -9,16 +8,8 @@ use std::io::{self, Write};
 use std::os::unix::ffi::OsStrExt;
 
 /// Puts the steps of a plan with their values, down to the first that is not sound.
-pub fn show(file: &OsStr, dot: bool, json: bool, desk: &mut Desk, out: &mut Vec<u8>) -> Status {
-    if dot && json {
-        return complain(&Fault::Malformed(
-            "--dot and --json are two forms of one answer".to_string(),
-        ));
-    }
-    let plan = match plans::read(file) {
-        Ok(plan) => plan,
-        Err(fault) => return complain(&fault),
-    };
+pub fn show(file: &OsStr, dot: bool, json: bool, desk: &mut Desk, out: &mut Vec<u8>) -> Result<Status, Fault> {
+    let plan = plans::read(file)?;
     let shown = Shown::new(&plan, &mut desk.space);
     let status = match shown.refusal {
         Some(_) => Status::Refused,
@@ -40,7 +31,7 @@ pub fn show(file: &OsStr, dot: bool, json: bool, desk: &mut Desk, out: &mut Vec<
     } else {
         shown.lines(out);
     }
-    status
+    Ok(status)
 }
 
 struct Shown<'a> {

@@ -89,7 +89,7 @@
  *
  *   The answer of every call that may be refused begins with `refusal` and `place`. Where it was
  *   not refused, both are 0. Where it was, they are these, and every other field of the answer is
- *   0. The reading of text has no refusals: lesmutka_parsed says whether there was a number.
+ *   0. The reading of numbers has none: lesmutka_parsed says whether there was a number.
  *
  *    refusal                                 given when                                place
  *    1  LESMUTKA_NUMBER_TOO_LONG             number longer than LESMUTKA_NUMBER_BYTES  0
@@ -392,6 +392,32 @@ lesmutka_parsed lesmutka_hexadecimal(const uint8_t *text, size_t text_length, ui
  */
 lesmutka_parsed lesmutka_decimal(const uint8_t *text, size_t text_length, uint8_t *out,
                                  size_t out_length);
+
+/** Read a digit string from text: words 0, 1 and -1, most significant first, with blanks between
+ *  them. A blank is a space or a byte from tab (0x09) to carriage return (0x0D). Any other word is
+ *  written as the byte 0x02, which is no digit, so that a call refuses it with its place.
+ *
+ *  Returns: the length of the string, the bytes written: one for each word.
+ *           Refused: 6; nothing is written.
+ *  In:      text: the text, text_length bytes; no zero byte behind it.
+ *  Out:     out: room for the digits, out_length bytes. LESMUTKA_TEXT_ROOM(text_length) is always
+ *                enough.
+ */
+lesmutka_length lesmutka_read_digits(const uint8_t *text, size_t text_length, uint8_t *out,
+                                     size_t out_length);
+
+/** Read a plan from text: words add(J,K) and subtract(J,K), the first step first, with blanks
+ *  between them, as for lesmutka_read_digits. J and K are decimal and below 65536. Any other word
+ *  is written as a step whose operation is 0x02, which lesmutka_check refuses with its place.
+ *
+ *  Returns: the length of the plan, the bytes written: LESMUTKA_STEP_BYTES for each word.
+ *           Refused: 6; nothing is written.
+ *  In:      text: the text, text_length bytes; no zero byte behind it.
+ *  Out:     out: room for the plan, out_length bytes. LESMUTKA_STEP_BYTES *
+ *                LESMUTKA_TEXT_ROOM(text_length) is always enough.
+ */
+lesmutka_length lesmutka_read_steps(const uint8_t *text, size_t text_length, uint8_t *out,
+                                    size_t out_length);
 
 /** The limits that the linked library keeps.
  *

@@ -329,6 +329,59 @@ static void lengths(void) {
     EXPECT(LESMUTKA_TEXT_ROOM(1 + 2) == 2);
 }
 
+typedef lesmutka_length words_reader(const uint8_t *, size_t, uint8_t *, size_t);
+
+/* A text of words gives these bytes, in just enough room and in all, and is refused in a byte less. */
+static void words_from(words_reader *read, const char *text, const uint8_t *bytes, size_t length) {
+    const size_t rooms[] = {length, ROOM};
+    for (size_t k = 0; k < sizeof rooms / sizeof rooms[0]; k++) {
+        lend();
+        lesmutka_length written = read((const uint8_t *)text, strlen(text), lent, rooms[k]);
+        EXPECT(written.refusal == 0 && written.place == 0 && written.length == length);
+        EXPECT(length == 0 || memcmp(lent, bytes, length) == 0);
+        EXPECT(changed_only(length));
+    }
+    if (length == 0)
+        return;
+    lend();
+    lesmutka_length written = read((const uint8_t *)text, strlen(text), lent, length - 1);
+    EXPECT(written.refusal == LESMUTKA_ROOM_TOO_SMALL && written.place == length && written.length == 0);
+    EXPECT(changed_only(0));
+}
+
+static void words_as_text(void) {
+    const uint8_t three[] = {0xff, 0, 1}, others[] = {2, 2, 1, 2};
+    words_from(lesmutka_read_digits, "1 0 -1", three, 3);
+    words_from(lesmutka_read_digits, " 1\t0\v\r\n-1\f", three, 3);
+    words_from(lesmutka_read_digits, "-0 1 11 --1", others, 4);
+    words_from(lesmutka_read_digits, "", NULL, 0);
+    words_from(lesmutka_read_digits, " \n", NULL, 0);
+
+    const uint8_t steps[] = {0, 0, 0, 0, 0, 1, 2, 1, 255, 255}, none[] = {2, 0, 0, 0, 0, 0, 7, 0, 0, 0};
+    words_from(lesmutka_read_steps, "add(0,0) subtract(258,65535)", steps, 10);
+    words_from(lesmutka_read_steps, "add(0,65536)\nadd(007,0)", none, 10);
+    const char *no_steps[] = {"add", "add(0,0", "add(0,0)x", "add(,0)", "add(0,)", "add(0;0)", "sub(0,0)", "Add(0,0)"};
+    for (size_t k = 0; k < sizeof no_steps / sizeof no_steps[0]; k++)
+        words_from(lesmutka_read_steps, no_steps[k], none, 5);
+    words_from(lesmutka_read_steps, "", NULL, 0);
+
+    /* The rooms that are always enough: every second byte a blank. */
+    char text[2 * ROOM];
+    for (size_t length = 1; length < 2 * ROOM; length++) {
+        for (size_t i = 0; i < length; i++)
+            text[i] = i % 2 == 0 ? '1' : ' ';
+        lend();
+        lesmutka_length written =
+            lesmutka_read_digits((const uint8_t *)text, length, lent, LESMUTKA_TEXT_ROOM(length));
+        EXPECT(written.refusal == 0 && written.length == LESMUTKA_TEXT_ROOM(length));
+        size_t room = LESMUTKA_STEP_BYTES * LESMUTKA_TEXT_ROOM(length);
+        if (room <= ROOM)
+            EXPECT(lesmutka_read_steps((const uint8_t *)text, length, lent, room).length == room);
+    }
+    EXPECT(lesmutka_read_digits(NULL, 0, NULL, 0).refusal == 0);
+    EXPECT(lesmutka_read_steps(NULL, 0, NULL, 0).refusal == 0);
+}
+
 static void version(void) {
     EXPECT(lesmutka_version() == LESMUTKA_VERSION);
 }
@@ -377,6 +430,7 @@ int main(void) {
     hexadecimal();
     decimal();
     lengths();
+    words_as_text();
     version();
     words();
     printf("boundary: %d tests passed\n", tests);

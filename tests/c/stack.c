@@ -81,6 +81,16 @@ static void decimal(void) {
     answer = lesmutka_decimal(bytes, length, out, room).is_number;
 }
 
+static void read_digits(void) {
+    mark();
+    answer = lesmutka_read_digits(bytes, length, out, room).refusal;
+}
+
+static void read_steps(void) {
+    mark();
+    answer = lesmutka_read_steps(bytes, length, out, room).refusal;
+}
+
 static void limits(void) {
     mark();
     answer = lesmutka_limits().number_bytes;
@@ -294,6 +304,22 @@ static void texts(void) {
     }
 }
 
+/* Words of each kind, over and over, into enough room and into none. */
+static void words_as_text(const char *name, void (*run)(void), const char *words) {
+    static uint8_t text[512];
+    for (size_t i = 0; i < sizeof text; i++)
+        text[i] = (uint8_t)words[i % strlen(words)];
+    bytes = text;
+    for (length = 0; length <= sizeof text; length++) {
+        room = sizeof out;
+        measure(run, 0);
+    }
+    length = sizeof text;
+    room = 0;
+    measure(run, LESMUTKA_ROOM_TOO_SMALL);
+    report(name);
+}
+
 int main(void) {
     /* At their first call the dynamic linker binds memcpy and memset, on the stack of whoever calls. */
     const uint8_t one[] = {1};
@@ -310,6 +336,8 @@ int main(void) {
     digit_strings();
     checks();
     texts();
+    words_as_text("read_digits", read_digits, "1 0 -1 x ");
+    words_as_text("read_steps", read_steps, "add(0,65535) subtract(12,0) add(x) ");
     measure(limits, LESMUTKA_NUMBER_BYTES);
     report("limits");
     measure(version, LESMUTKA_VERSION);

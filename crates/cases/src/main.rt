@@ -10,6 +10,8 @@
 //     check ROOM NUMBER PLAN
 //     hex ROOM TEXT
 //     decimal ROOM TEXT
+//     digits ROOM TEXT
+//     steps ROOM TEXT
 //     words ROOM - REFUSAL
 //
 // NUMBER, DIGITS, PLAN and TEXT are bytes in hexadecimal, or `-` for none; all else is decimal. A request
@@ -28,6 +30,8 @@ use lesmutka::lesmutka_forecast;
 use lesmutka::lesmutka_hexadecimal;
 use lesmutka::lesmutka_plan;
 use lesmutka::lesmutka_read_back;
+use lesmutka::lesmutka_read_digits;
+use lesmutka::lesmutka_read_steps;
 use lesmutka::lesmutka_recode;
 use lesmutka::lesmutka_start;
 use lesmutka::lesmutka_take;
@@ -69,6 +73,10 @@ const CHECK: u64 = 0x636865636b;
 const HEX: u64 = 0x686578;
 
 const DECIMAL: u64 = 0x646563696d616c;
+
+const DIGITS: u64 = 0x646967697473;
+
+const STEPS: u64 = 0x7374657073;
 
 const WORDS_OF: u64 = 0x776f726473;
 
@@ -138,6 +146,16 @@ fn call(name: u64, input: &[u8], plan: &[u8], method: u32, width: u32, out: &mut
         DECIMAL => {
             let a = lesmutka_decimal(input, out);
             put_three(a.is_number, a.place, a.length);
+            put_buffer(out);
+        }
+        DIGITS => {
+            let a = lesmutka_read_digits(input, out);
+            put_three(a.refusal, a.place, a.length);
+            put_buffer(out);
+        }
+        STEPS => {
+            let a = lesmutka_read_steps(input, out);
+            put_three(a.refusal, a.place, a.length);
             put_buffer(out);
         }
         WORDS_OF => {

@@ -107,16 +107,12 @@ impl Desk {
                 ))
             }
             Request::Clean { digits } => {
-                read_digits(digits, &mut self.digits_in);
-                Ok(alone(
-                    lesmutka::clean(&self.digits_in, &mut self.digits).map(Answer::Digits),
-                ))
+                let digits = read_digits(digits, &mut self.digits_in);
+                Ok(alone(lesmutka::clean(digits, &mut self.digits).map(Answer::Digits)))
             }
             Request::ReadBack { digits } => {
-                read_digits(digits, &mut self.digits_in);
-                Ok(alone(
-                    lesmutka::read_back(&self.digits_in, &mut self.size).map(Answer::Value),
-                ))
+                let digits = read_digits(digits, &mut self.digits_in);
+                Ok(alone(lesmutka::read_back(digits, &mut self.size).map(Answer::Value)))
             }
             Request::Forecast { number, choice } => {
                 let number = read_number(number, &mut self.number)?;
@@ -214,16 +210,13 @@ fn no_number(word: &[u8]) -> Fault {
     }
 }
 
-/// Digits, which are written most significant first. A word may hold several, with blanks between
-/// them. What is none of 0, 1, -1 becomes 2, so that the call refuses it.
-fn read_digits(words: &[&[u8]], digits: &mut Vec<i8>) {
-    digits.clear();
-    let parts = words.iter().flat_map(|word| word.split(u8::is_ascii_whitespace));
-    digits.extend(parts.filter(|part| !part.is_empty()).map(|part| match part {
-        b"0" => 0,
-        b"1" => 1,
-        b"-1" => -1,
-        _ => 2,
-    }));
-    digits.reverse();
+/// The digits that words stand for, by the library's reader. A word may hold several, with blanks
+/// between them.
+fn read_digits<'a>(words: &[&[u8]], digits: &'a mut Vec<i8>) -> &'a [i8] {
+    let text = words.join(&b' ');
+    let room = lesmutka::text_room(text.len());
+    if digits.len() < room {
+        digits.resize(room, 0);
+    }
+    lesmutka::read_digits(&text, digits).expect("there is room for every text of this length")
 }

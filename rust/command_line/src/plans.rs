@@ -1,6 +1,5 @@
 //! Plans as files hold them: their bytes, or their steps as text.
 use crate::answer::{is_standard, Fault, Shown};
-use lesmutka::Step;
 use std::ffi::OsStr;
 use std::fs::File;
 use std::io::{self, Read};
@@ -8,6 +7,9 @@ use std::os::unix::ffi::OsStrExt;
 
 /// More than any plan has, in bytes or as text. A longer one is refused for its length all the same.
 const MOST: u64 = 1 << 20;
+
+/// The operation that the library's reader gives a word that is no step.
+const NO_STEP: u8 = 2;
 
 /// The bytes of the plan in a file, or on standard input.
 pub fn read(file: &OsStr) -> Result<Vec<u8>, Fault> {
@@ -40,7 +42,8 @@ fn text_of(bytes: &[u8]) -> Option<&str> {
     }
 }
 
-/// The bytes of the steps in a text: step after step, or a line that `plan` printed.
+/// The bytes of the steps in a text, by the library's reader: step after step, or a line that `plan`
+/// printed.
 fn steps_of(text: &str) -> Result<Vec<u8>, Fault> {
     let lines = text.lines().map(|line| line.split('#').next().unwrap_or(""));
     let text = lines.collect::<Vec<&str>>().join("\n");
@@ -51,27 +54,46 @@ fn steps_of(text: &str) -> Result<Vec<u8>, Fault> {
             None => text,
         },
     };
-    let mut bytes = Vec::new();
-    let words: Vec<&str> = steps.split_whitespace().collect();
-    if words == ["none"] {
-        return Ok(bytes);
+    let words = || {
+        steps
+            .split(|c: char| c.is_ascii_whitespace())
+            .filter(|word| !word.is_empty())
+    };
+    match words().next() {
+        None => {
+            return Err(Fault::Malformed(
+                "the plan has no steps; an empty one is `none`".to_string(),
+            ))
+        }
+        Some("none") if words().count() == 1 => return Ok(Vec::new()),
+        Some(_) => {}
     }
-    for word in words {
-        let step: Step = word
-            .parse()
-            .map_err(|_| Fault::malformed("no step of a plan, which is add(J,K) or subtract(J,K)", word.as_bytes()))?;
-        bytes.extend_from_slice(&step.to_bytes());
+    let mut bytes = vec![0; lesmutka::STEP_BYTES * lesmutka::text_room(steps.len())];
+    let length = lesmutka::read_steps(steps.as_bytes(), &mut bytes)
+        .expect("there is room for every text of this length")
+        .len();
+    bytes.truncate(length);
+    // What the reader took for no step is told by its word, which says more than the call's refusal.
+    let mut read = bytes.chunks_exact(lesmutka::STEP_BYTES).zip(words());
+    match read.find(|(bytes, _)| bytes[0] == NO_STEP) {
+        Some((_, word)) => Err(Fault::malformed(
+            "no step of a plan, which is add(J,K) or subtract(J,K)",
+            word.as_bytes(),
+        )),
+        None => Ok(bytes),
     }
-    Ok(bytes)
 }
 
 /// The steps of a JSON object that `plan` printed, with blanks between them.
 fn steps_of_object(text: &str) -> Result<String, Fault> {
-    let steps = text
-        .split_once("\"steps\":[")
-        .and_then(|(_, rest)| rest.split_once(']'));
-    match steps {
-        Some((steps, _)) => Ok(steps.replace("\",\"", " ").replace('"', " ")),
+    let list = text
+        .split_once("\"steps\"")
+        .and_then(|(_, rest)| rest.trim_start().strip_prefix(':')?.trim_start().strip_prefix('['))
+        .and_then(|rest| rest.split_once(']'));
+    match list {
+        Some((list, _)) if list.trim().is_empty() => Ok("none".to_string()),
+        // Every second part between quotes is a step; the others are commas and blanks.
+        Some((list, _)) => Ok(list.split('"').skip(1).step_by(2).collect::<Vec<&str>>().join(" ")),
         None => Err(Fault::Malformed("the object has no steps".to_string())),
     }
 }

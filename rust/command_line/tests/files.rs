@@ -248,6 +248,8 @@ fn plans_as_text() {
         "add(0,0)\r\nadd(1,0)\r\n",
         "\u{feff}# the plan for 3\nadd(0,0) # two\n\n  add(1,0)\n",
         "steps: add(0,0) add(1,0)",
+        "{\"steps\":[\"add(0,0)\",\"add(1,0)\"]}",
+        "{\n  \"line\": 1,\n  \"steps\": [\n    \"add(0,0)\",\n    \"add(1,0)\"\n  ],\n  \"file\": null\n}\n",
     ] {
         assert_eq!(
             run(&folder, &["check", "3", "-"], text.as_bytes()).text(),
@@ -269,6 +271,28 @@ fn plans_as_text() {
         let ended = run(&folder, &["check", "3", "-"], text.as_bytes());
         assert_eq!((ended.status, ended.text().as_str()), (2, ""), "{}", text);
         assert!(ended.err.ends_with(&format!(": `{}`\n", word)), "{}", ended.err);
+    }
+    for (text, told) in [
+        ("\n", "the plan has no steps; an empty one is `none`"),
+        ("# nothing", "the plan has no steps; an empty one is `none`"),
+        ("{\"steps\":null}", "the object has no steps"),
+        ("{}", "the object has no steps"),
+    ] {
+        let ended = run(&folder, &["check", "1", "-"], text.as_bytes());
+        assert_eq!(
+            (ended.status, ended.err),
+            (2, format!("lesmutka: {}\n", told)),
+            "{}",
+            text
+        );
+    }
+    for empty in ["none", " none\n", "{\"steps\":[]}", ""] {
+        assert_eq!(
+            run(&folder, &["check", "1", "-"], empty.as_bytes()).status,
+            0,
+            "{}",
+            empty
+        );
     }
     // Bytes that are no text are bytes, and the call refuses them.
     for (bytes, refusal) in [

@@ -99,6 +99,16 @@ pub fn decimal(text: &[u8], out: &mut [u8]) -> Result<usize, Refusal> {
     number_read(sys::decimal(text, out))
 }
 
+pub fn read_digits(text: &[u8], out: &mut [u8]) -> Result<usize, Refusal> {
+    let answer = sys::read_digits(text, out);
+    refused(answer.refusal, answer.place, &[answer.length]).map(|_| answer.length)
+}
+
+pub fn read_steps(text: &[u8], out: &mut [u8]) -> Result<usize, Refusal> {
+    let answer = sys::read_steps(text, out);
+    refused(answer.refusal, answer.place, &[answer.length]).map(|_| answer.length)
+}
+
 /// The words of the refusal whose number is the first byte.
 pub fn words(refusal: &[u8], out: &mut [u8]) -> Result<usize, Refusal> {
     let answer = sys::write_words(usize::from(refusal[0]), out);

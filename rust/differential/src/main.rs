@@ -424,6 +424,92 @@ fn decimal(rng: &mut Rng) -> Tally {
     calls("decimal", rng, next, library::decimal, theirs)
 }
 
+/// Words that are nearly digits or steps, with blanks between them, and room for about as many bytes as
+/// they take.
+fn words_of(rng: &mut Rng, word: fn(&mut Rng) -> Vec<u8>, bytes: usize) -> (Vec<u8>, usize) {
+    let count = rng.below(12);
+    let mut text = Vec::new();
+    for _ in 0..count {
+        let blanks = if rng.one_in(8) { rng.below(3) } else { 1 };
+        text.extend((0..blanks).map(|_| rng.pick(b"    \t\n\x0b\x0c\r")));
+        text.extend(word(rng));
+        if rng.one_in(40) {
+            let at = rng.below(text.len() + 1);
+            text.insert(at, rng.next_byte());
+        }
+    }
+    let room = match rng.below(4) {
+        0 => rng.below(bytes * count + 2),
+        _ => bytes * (count + 1),
+    };
+    (text, room)
+}
+
+fn digit_word(rng: &mut Rng) -> Vec<u8> {
+    let words: [&[u8]; 12] = [
+        b"0", b"1", b"-1", b"0", b"1", b"-1", b"-", b"2", b"-0", b"11", b"-11", b"--1",
+    ];
+    rng.pick(&words).to_vec()
+}
+
+fn step_word(rng: &mut Rng) -> Vec<u8> {
+    let names = ["add", "subtract", "add", "subtract", "ad", "ADD", "subtracts", ""];
+    let mut position = || match rng.below(8) {
+        0 => rng
+            .pick(&[
+                "",
+                "00",
+                "0007",
+                "65535",
+                "65536",
+                "655360",
+                "99999999999999999999",
+                "-1",
+                "x",
+            ])
+            .to_string(),
+        1 => rng.below(70_000).to_string(),
+        _ => rng.below(700).to_string(),
+    };
+    let (j, k) = (position(), position());
+    let (open, comma, close) = match rng.below(12) {
+        0 => rng.pick(&[
+            ("", ",", ")"),
+            ("((", ",", ")"),
+            ("(", "", ")"),
+            ("(", ",,", ")"),
+            ("(", ",", ""),
+            ("(", ",", ")x"),
+        ]),
+        _ => ("(", ",", ")"),
+    };
+    format!("{}{}{}{}{}{}", rng.pick(&names), open, j, comma, k, close).into_bytes()
+}
+
+fn read_digits(rng: &mut Rng) -> Tally {
+    let texts = &mut rng.clone();
+    let next = || words_of(texts, digit_word, 1);
+    calls(
+        "read digits",
+        rng,
+        next,
+        library::read_digits,
+        reference::text::read_digits,
+    )
+}
+
+fn read_steps(rng: &mut Rng) -> Tally {
+    let texts = &mut rng.clone();
+    let next = || words_of(texts, step_word, limits::STEP_BYTES);
+    calls(
+        "read steps",
+        rng,
+        next,
+        library::read_steps,
+        reference::text::read_steps,
+    )
+}
+
 fn words(rng: &mut Rng) -> Tally {
     let numbers = &mut rng.clone();
     let next = || {
@@ -461,6 +547,8 @@ fn main() {
     check(cases, rng).print(&[1, 2, 7, 8, 9, 10, 11, 12]);
     hexadecimal(rng).print(&[4]);
     decimal(rng).print(&[4]);
+    read_digits(rng).print(&[6]);
+    read_steps(rng).print(&[6]);
     words(rng).print(&[6]);
     println!("recoders put together by hand: {}", by_hand(rng));
     println!("differential: no difference");

@@ -239,6 +239,46 @@ pub fn decimal<'a>(text: &[u8], out: &'a mut [u8]) -> Result<&'a [u8], usize> {
     }
 }
 
+/// Reads a digit string: words `0`, `1` and `-1`, most significant first, with blanks between them.
+/// Writes the digits and hands them back, least significant first. Any other word becomes 2, which is
+/// no digit, so that [`clean`] and [`read_back`] refuse it with its place.
+///
+/// # Errors
+///
+/// Refusal: 6. [`text_room`] of the text's length is always enough.
+///
+/// ```
+/// use lesmutka::{read_digits, text_room};
+///
+/// let mut room = [0; text_room(6)];
+/// assert_eq!(read_digits(b"1 0 -1", &mut room)?, [-1, 0, 1]);
+/// # Ok::<(), lesmutka::Refusal>(())
+/// ```
+pub fn read_digits<'a>(text: &[u8], out: &'a mut [i8]) -> Result<&'a [i8], Refusal> {
+    let length = written(sys::read_digits(text, bytes_of_mut(out)))?;
+    Ok(&out[..length])
+}
+
+/// Reads a plan: words as [`Step`] prints them, the first step first, with blanks between them. Writes
+/// the bytes of the steps and hands them back. Any other word becomes a step of an unknown operation,
+/// so that [`check`] refuses it with its place.
+///
+/// # Errors
+///
+/// Refusal: 6. [`STEP_BYTES`] times [`text_room`] of the text's length is always enough.
+///
+/// ```
+/// use lesmutka::{read_steps, text_room, STEP_BYTES};
+///
+/// let mut room = [0; STEP_BYTES * text_room(17)];
+/// assert_eq!(read_steps(b"add(0,0) add(1,0)", &mut room)?, [0, 0, 0, 0, 0, 0, 1, 0, 0, 0]);
+/// # Ok::<(), lesmutka::Refusal>(())
+/// ```
+pub fn read_steps<'a>(text: &[u8], out: &'a mut [u8]) -> Result<&'a [u8], Refusal> {
+    let length = written(sys::read_steps(text, out))?;
+    Ok(&out[..length])
+}
+
 /// A decimal number of at most 10 digits, if it fits.
 fn small(text: &str) -> Option<u32> {
     let mut room = [0; text_room(10)];

@@ -137,6 +137,10 @@ extern "C" {
     pub fn lesmutka_hexadecimal(text: *const u8, text_length: usize, out: *mut u8, out_length: usize) -> Parsed;
     /// Reads a decimal number. Nothing is written where the text is none.
     pub fn lesmutka_decimal(text: *const u8, text_length: usize, out: *mut u8, out_length: usize) -> Parsed;
+    /// Reads a digit string from text.
+    pub fn lesmutka_read_digits(text: *const u8, text_length: usize, out: *mut u8, out_length: usize) -> Length;
+    /// Reads the steps of a plan from text.
+    pub fn lesmutka_read_steps(text: *const u8, text_length: usize, out: *mut u8, out_length: usize) -> Length;
     /// Writes a refusal in plain words. Refused: 6.
     pub fn lesmutka_write_words(refusal: usize, out: *mut u8, out_length: usize) -> Length;
     /// The limits that the library keeps.
@@ -211,6 +215,18 @@ pub fn hexadecimal(text: &[u8], out: &mut [u8]) -> Parsed {
 #[inline]
 pub fn decimal(text: &[u8], out: &mut [u8]) -> Parsed {
     unsafe { lesmutka_decimal(text.as_ptr(), text.len(), out.as_mut_ptr(), out.len()) }
+}
+
+/// [`lesmutka_read_digits`] over slices.
+#[inline]
+pub fn read_digits(text: &[u8], out: &mut [u8]) -> Length {
+    unsafe { lesmutka_read_digits(text.as_ptr(), text.len(), out.as_mut_ptr(), out.len()) }
+}
+
+/// [`lesmutka_read_steps`] over slices.
+#[inline]
+pub fn read_steps(text: &[u8], out: &mut [u8]) -> Length {
+    unsafe { lesmutka_read_steps(text.as_ptr(), text.len(), out.as_mut_ptr(), out.len()) }
 }
 
 /// [`lesmutka_write_words`] over a slice.

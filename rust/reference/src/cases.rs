@@ -23,8 +23,8 @@ const DONE: usize = 0x100;
 const LINE_BYTES: usize = 2 * PLAN_ROOM;
 const MOST_ROOM: usize = work_space(PLAN_STEPS + 1);
 
-const CALLS: [&str; 10] = [
-    "recode", "take", "clean", "readback", "plan", "forecast", "check", "hex", "decimal", "words",
+const CALLS: [&str; 12] = [
+    "recode", "take", "clean", "readback", "plan", "forecast", "check", "hex", "decimal", "digits", "steps", "words",
 ];
 
 // Answers.
@@ -76,6 +76,8 @@ fn answer(request: &str) -> String {
             let read = text::decimal(&input, &mut out);
             read.map_or_else(|place| format!("0 {} 0", place), |length| format!("1 0 {}", length)) + &buffer(&out)
         }
+        ("digits", []) => fields(text::read_digits(&input, &mut out).map(|length| [length])) + &buffer(&out),
+        ("steps", []) => fields(text::read_steps(&input, &mut out).map(|length| [length])) + &buffer(&out),
         ("words", [refusal]) => {
             let written = text::write_words(decimal(refusal) as usize, &mut out);
             fields(written.map(|length| [length])) + &buffer(&out)
@@ -150,6 +152,8 @@ pub fn requests() -> String {
     requests.plans();
     requests.checks();
     requests.texts();
+    requests.digit_texts();
+    requests.step_texts();
     requests.words();
     requests.unanswered();
     requests.families();
@@ -367,6 +371,72 @@ impl Requests {
         self.text(&format!("{}6", limit));
         self.text(&format!("{}{}5", "0".repeat(50), limit));
         self.text(&"123456789".repeat(20));
+    }
+
+    fn digit_texts(&mut self) {
+        self.title("Digits as text: digits, then words that are none");
+        for text in ["", " ", "0", "1", "-1", "1 0 -1", " 1\t0\n-1\x0b1\x0c0\r", "1  0"] {
+            self.words_into("digits", 1, text);
+        }
+        for text in [
+            "2", "-0", "+1", "11", "--1", "-", "1 -11 0", "x 1", "1\u{a0}1", "1\0", "\x081", "\x0e1",
+        ] {
+            self.words_into("digits", 1, text);
+        }
+    }
+
+    fn step_texts(&mut self) {
+        self.title("Steps as text: steps, then words that are none");
+        for text in [
+            "",
+            "add(0,0)",
+            "subtract(2,0)",
+            "add(0,0) add(1,1)\nsubtract(2,0)",
+            "add(258,65535)",
+            "add(007,00)",
+        ] {
+            self.words_into("steps", STEP_BYTES, text);
+        }
+        for text in [
+            "add",
+            "add(",
+            "add()",
+            "add(,)",
+            "add(0)",
+            "add(0,)",
+            "add(,0)",
+            "add(0,0",
+            "add(0,0))",
+            "add(0,0)x",
+            "add(0,0,0)",
+            "add(0;0)",
+            "add0,0)",
+            "xadd(0,0)",
+            "ADD(0,0)",
+            "sub(0,0)",
+            "subtract(0,65536)",
+            "add(65536,0)",
+            "add(99999999999999999999999,0)",
+            "add(-1,0)",
+            "add(0x1,0)",
+            "add(0, 0)",
+            "add(0,0) x add(0,0)",
+        ] {
+            self.words_into("steps", STEP_BYTES, text);
+        }
+    }
+
+    /// A text whose words take this many bytes each, into more room than it takes, just enough, and a
+    /// byte less.
+    fn words_into(&mut self, name: &str, bytes: usize, text: &str) {
+        let enough = match name {
+            "digits" => text::read_digits(text.as_bytes(), &mut [0; 99]),
+            _ => text::read_steps(text.as_bytes(), &mut [0; 99]),
+        }
+        .unwrap();
+        for room in [enough + bytes, enough, enough.saturating_sub(1)] {
+            self.line(name, room, text.as_bytes(), "");
+        }
     }
 
     fn words(&mut self) {

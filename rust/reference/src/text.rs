@@ -1,4 +1,7 @@
-//! Numbers as text, and the words of refusals (docs/RULES.md, "Text").
+//! Numbers, digits and steps from text, and the words of refusals (docs/RULES.md, "Text").
+
+use crate::limits::STEP_BYTES;
+use crate::{output, Refusal};
 
 /// The number of a hexadecimal text, with 0x in front or without: as many bytes as its digits take,
 /// two to a byte. None, and nothing written, where it has no digit, a byte that is none, or too
@@ -49,6 +52,66 @@ pub fn decimal(text: &[u8], out: &mut [u8]) -> Result<usize, usize> {
     Ok(number.iter().rposition(|&byte| byte != 0).map_or(0, |top| top + 1))
 }
 
+/// The words of a text: the longest runs of bytes that are no blanks, which are a space and the bytes
+/// from tab to carriage return.
+fn words_of(text: &[u8]) -> impl DoubleEndedIterator<Item = &[u8]> + Clone {
+    let is_blank = |byte: &u8| *byte == b' ' || (9..=13).contains(byte);
+    text.split(is_blank).filter(|word| !word.is_empty())
+}
+
+/// The digits of a text, least significant first; 2 for a word that is none.
+pub fn read_digits(text: &[u8], out: &mut [u8]) -> Result<usize, Refusal> {
+    let words = words_of(text);
+    let out = output(out, words.clone().count())?;
+    for (digit, word) in out.iter_mut().zip(words.rev()) {
+        *digit = match word {
+            b"0" => 0,
+            b"1" => 1,
+            b"-1" => 255,
+            _ => 2,
+        };
+    }
+    Ok(out.len())
+}
+
+/// The bytes of a text's steps; operation 2 for a word that is none.
+pub fn read_steps(text: &[u8], out: &mut [u8]) -> Result<usize, Refusal> {
+    let words = words_of(text);
+    let out = output(out, STEP_BYTES * words.clone().count())?;
+    for (bytes, word) in out.chunks_mut(STEP_BYTES).zip(words) {
+        bytes.copy_from_slice(&step(word).unwrap_or([2, 0, 0, 0, 0]));
+    }
+    Ok(out.len())
+}
+
+fn step(word: &[u8]) -> Option<[u8; STEP_BYTES]> {
+    let (operation, rest) = match (word.strip_prefix(b"add("), word.strip_prefix(b"subtract(")) {
+        (Some(rest), _) => (0, rest),
+        (_, Some(rest)) => (1, rest),
+        _ => return None,
+    };
+    let mut parts = rest.strip_suffix(b")")?.split(|&byte| byte == b',');
+    let (j, k) = (position(parts.next()?)?, position(parts.next()?)?);
+    match parts.next() {
+        None => Some([operation, j[0], j[1], k[0], k[1]]),
+        Some(_) => None,
+    }
+}
+
+fn position(digits: &[u8]) -> Option<[u8; 2]> {
+    let mut value = 0;
+    for digit in digits {
+        if !digit.is_ascii_digit() {
+            return None;
+        }
+        value = (10 * value + u32::from(digit - b'0')).min(1 << 16);
+    }
+    match digits.is_empty() || value >= 1 << 16 {
+        true => None,
+        false => Some((value as u16).to_le_bytes()),
+    }
+}
+
 /// What each refusal says, by its number; 0 is none.
 const WORDS: [&str; 13] = [
     "not refused",
@@ -71,8 +134,8 @@ pub fn words(refusal: usize) -> &'static str {
 }
 
 /// The words of a refusal, written.
-pub fn write_words(refusal: usize, out: &mut [u8]) -> Result<usize, crate::Refusal> {
+pub fn write_words(refusal: usize, out: &mut [u8]) -> Result<usize, Refusal> {
     let words = words(refusal).as_bytes();
-    crate::output(out, words.len())?.copy_from_slice(words);
+    output(out, words.len())?.copy_from_slice(words);
     Ok(words.len())
 }

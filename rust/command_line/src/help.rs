@@ -1,20 +1,7 @@
 //! What the program says about itself.
 use crate::answer::Fault;
-use crate::request::FORMS;
+use crate::request::VERBS;
 use std::io::Write;
-
-/// What each request is about, in the order of `FORMS`.
-const ABOUT: [&str; 9] = [
-    "the canonical digits of a number, its non-adjacent form (NAF)",
-    "the canonical digits of the value of a digit string",
-    "the value of a digit string",
-    "how many steps of each kind the plan for a number has",
-    "the plan for a number by a method, printed or written to a file",
-    "whether a plan is sound and ends at the number",
-    "the steps of a plan with their values",
-    "the methods and the widths that they take",
-    "requests from standard input, one a line; so does `lesmutka -`",
-];
 
 const WORDS: &str = "\
 NUMBER: decimal, or hexadecimal with 0x. What is written with 0x goes to the
@@ -50,8 +37,8 @@ error says how many requests there were.
 /// The forms of all requests.
 pub fn summary(out: &mut Vec<u8>) {
     let _ = writeln!(out, "usage: lesmutka REQUEST [OPTIONS]\n");
-    for ((name, form), about) in FORMS.iter().zip(ABOUT) {
-        let _ = writeln!(out, "  {}\n      {}", format!("{} {}", name, form).trim_end(), about);
+    for verb in &VERBS {
+        let _ = writeln!(out, "  {}\n      {}", verb.form(), verb.about);
     }
     let _ = writeln!(out, "  help [REQUEST]\n      this text, or that of a request\n");
     let _ = writeln!(out, "{}\n{}\n{}", WORDS, OPTIONS, STATUS.trim_end());
@@ -67,20 +54,18 @@ pub fn about(words: &[&[u8]], out: &mut Vec<u8>) -> Result<(), Fault> {
         [b"-"] => b"batch",
         [verb, ..] => *verb,
     };
-    match FORMS.iter().zip(ABOUT).find(|((name, _), _)| name.as_bytes() == verb) {
-        Some(((name, form), about)) => {
-            let _ = writeln!(out, "usage: lesmutka {}\n", format!("{} {}", name, form).trim_end());
-            let _ = writeln!(out, "{}{}.", about[..1].to_uppercase(), &about[1..]);
-            if *name == "batch" {
-                let _ = write!(out, "\n{}", BATCH);
-            }
-            if !form.is_empty() {
-                let _ = write!(out, "\n{}", WORDS);
-            }
-            Ok(())
-        }
-        None => Err(Fault::malformed("no such request", verb)),
+    let verb = match VERBS.iter().find(|known| known.name.as_bytes() == verb) {
+        Some(known) => known,
+        None => return Err(Fault::malformed("no such request", verb)),
+    };
+    let _ = writeln!(out, "usage: lesmutka {}\n", verb.form());
+    let _ = writeln!(out, "{}{}.", verb.about[..1].to_uppercase(), &verb.about[1..]);
+    match verb.name {
+        "batch" => out.extend_from_slice(format!("\n{}", BATCH).as_bytes()),
+        "methods" => {}
+        _ => out.extend_from_slice(format!("\n{}", WORDS).as_bytes()),
     }
+    Ok(())
 }
 
 pub fn version(out: &mut Vec<u8>) {

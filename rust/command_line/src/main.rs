@@ -1,8 +1,8 @@
 //! The program `lesmutka`: the calls of the proved library, asked for by words and answered by lines.
 //!
 //! A request is taken apart by [`request`], answered by [`answer`] and printed by [`print`]. What a
-//! person types reaches a call only through the library's proved readers of numbers; all other words
-//! stand in lists and are compared whole.
+//! person types reaches a call only through the library's proved readers of numbers, digits and steps;
+//! all other words stand in lists and are compared whole.
 mod answer;
 mod batch;
 mod files;
@@ -24,47 +24,33 @@ use std::process;
 fn main() {
     let arguments: Vec<Vec<u8>> = env::args_os().skip(1).map(|word| word.into_vec()).collect();
     let words: Vec<&[u8]> = arguments.iter().map(|word| word.as_slice()).collect();
-    let status = run(&words);
+    let mut out = Vec::new();
+    let status = run(&words, &mut out).unwrap_or_else(|fault| complain(&fault));
+    let status = match put_all(&out) {
+        Ok(_) => status,
+        Err(fault) => status.max(complain(&fault)),
+    };
     process::exit(status as i32);
 }
 
-/// Answers the words of the command line; the answer goes to standard output.
-fn run(words: &[&[u8]]) -> Status {
-    let words = match Words::new(words) {
-        Ok(words) => words,
-        Err(fault) => return complain(&fault),
-    };
-    let mut out = Vec::new();
-    let status = if words.help {
-        match help::about(&words.plain, &mut out) {
-            Ok(()) => Status::Answered,
-            Err(fault) => return complain(&fault),
+/// Answers the words of the command line.
+fn run(words: &[&[u8]], out: &mut Vec<u8>) -> Result<Status, Fault> {
+    let words = Words::new(words)?;
+    match words.plain.as_slice() {
+        plain if words.help => help::about(plain, out)?,
+        _ if words.version => help::version(out),
+        [] => {
+            let mut summary = Vec::new();
+            help::summary(&mut summary);
+            let _ = io::stderr().write_all(&summary);
+            return Ok(Status::Malformed);
         }
-    } else if words.version {
-        help::version(&mut out);
-        Status::Answered
-    } else if words.plain.is_empty() {
-        help::summary(&mut out);
-        let _ = io::stderr().write_all(&out);
-        return Status::Malformed;
-    } else {
-        match words.plain[0] {
-            b"help" => match help::about(&words.plain[1..], &mut out) {
-                Ok(()) => Status::Answered,
-                Err(fault) => return complain(&fault),
-            },
-            b"batch" | b"-" if words.plain.len() == 1 => return batch::run(&words),
-            b"methods" if words.plain.len() == 1 => {
-                print::methods(words.json, &mut out);
-                Status::Answered
-            }
-            _ => one(&words, &mut out),
-        }
-    };
-    match put_all(&out) {
-        Ok(_) => status,
-        Err(fault) => status.max(complain(&fault)),
+        [b"help", about @ ..] => help::about(about, out)?,
+        [b"methods"] => print::methods(words.json, out),
+        [b"batch" | b"-"] => return Ok(batch::run(&words)),
+        _ => return Ok(one(&words, out)),
     }
+    Ok(Status::Answered)
 }
 
 /// Answers one request. A fault is told on standard error and, with --json, as an object too.

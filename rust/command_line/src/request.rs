@@ -4,17 +4,66 @@ use lesmutka::Method;
 use std::ffi::OsStr;
 use std::os::unix::ffi::OsStrExt;
 
-/// Each request, and the form of the words behind it.
-pub const FORMS: [(&str, &str); 9] = [
-    ("recode", "NUMBER"),
-    ("clean", "DIGITS..."),
-    ("read-back", "DIGITS..."),
-    ("forecast", "NUMBER METHOD [WIDTH]"),
-    ("plan", "NUMBER METHOD [WIDTH] [to FILE] [--force]"),
-    ("check", "NUMBER FILE"),
-    ("show", "FILE [--dot]"),
-    ("methods", ""),
-    ("batch", ""),
+/// A request: its first word, the form of the words behind it, and what it is about.
+pub struct Verb {
+    pub name: &'static str,
+    form: &'static str,
+    pub about: &'static str,
+}
+
+impl Verb {
+    /// The whole form.
+    pub fn form(&self) -> String {
+        format!("{} {}", self.name, self.form).trim_end().to_string()
+    }
+}
+
+pub const VERBS: [Verb; 9] = [
+    Verb {
+        name: "recode",
+        form: "NUMBER",
+        about: "the canonical digits of a number, its non-adjacent form (NAF)",
+    },
+    Verb {
+        name: "clean",
+        form: "DIGITS...",
+        about: "the canonical digits of the value of a digit string",
+    },
+    Verb {
+        name: "read-back",
+        form: "DIGITS...",
+        about: "the value of a digit string",
+    },
+    Verb {
+        name: "forecast",
+        form: "NUMBER METHOD [WIDTH]",
+        about: "how many steps of each kind the plan for a number has",
+    },
+    Verb {
+        name: "plan",
+        form: "NUMBER METHOD [WIDTH] [to FILE] [--force]",
+        about: "the plan for a number by a method, printed or written to a file",
+    },
+    Verb {
+        name: "check",
+        form: "NUMBER FILE",
+        about: "whether a plan is sound and ends at the number",
+    },
+    Verb {
+        name: "show",
+        form: "FILE [--dot]",
+        about: "the steps of a plan with their values",
+    },
+    Verb {
+        name: "methods",
+        form: "",
+        about: "the methods and the widths that they take",
+    },
+    Verb {
+        name: "batch",
+        form: "",
+        about: "requests from standard input, one a line; so does `lesmutka -`",
+    },
 ];
 
 /// The words without the options, and the options.
@@ -123,7 +172,7 @@ impl<'a> Request<'a> {
                 file: file_of(file)?,
                 dot: words.dot,
             },
-            _ => return Err(misformed(verb)),
+            _ => return Err(no_request(verb)),
         };
         match request.misplaced(words) {
             Some(what) => Err(Fault::Malformed(what.to_string())),
@@ -165,11 +214,11 @@ impl<'a> Request<'a> {
 }
 
 /// A verb that is none, or one with the wrong words behind it.
-fn misformed(verb: &[u8]) -> Fault {
-    match FORMS.iter().find(|(name, _)| name.as_bytes() == verb) {
-        Some((name, form)) => Fault::Malformed(format!("the form is: {}", format!("{} {}", name, form).trim_end())),
+fn no_request(verb: &[u8]) -> Fault {
+    match VERBS.iter().find(|known| known.name.as_bytes() == verb) {
+        Some(known) => Fault::Malformed(format!("the form is: {}", known.form())),
         None => {
-            let names: Vec<&str> = FORMS.iter().map(|(name, _)| *name).collect();
+            let names: Vec<&str> = VERBS.iter().map(|known| known.name).collect();
             Fault::malformed(&format!("no such request ({})", names.join(", ")), verb)
         }
     }

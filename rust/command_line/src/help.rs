@@ -29,9 +29,9 @@ program failed; of a batch, the highest.
 
 const BATCH: &str = "\
 Each answer begins with the number of its line. # begins a comment; a line
-without words has no answer. --json, --force and -- may stand on the command
-line, --force also on a line of its own request. A closing line on standard
-error says how many requests there were.
+without words has no answer. --json and --force on the command line are for
+all lines; --force may also stand on a line. A closing line on standard error
+says how many requests there were.
 ";
 
 /// The forms of all requests.

@@ -62,7 +62,7 @@ pub const VERBS: [Verb; 9] = [
     Verb {
         name: "batch",
         form: "",
-        about: "requests from standard input, one a line; so does `lesmutka -`",
+        about: "requests from standard input, one a line; `lesmutka -` is the same",
     },
 ];
 

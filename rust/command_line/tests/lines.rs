@@ -1,7 +1,7 @@
 //! Batches: random and damaged lines, long ones, comments, line ends, and a reader that goes away.
 mod common;
 
-use common::{ended, expected, program, run, Folder, Json};
+use common::{ended, expected, program, run, started, Folder, Json};
 use reference::generate::{methods, Rng};
 use std::collections::HashMap;
 use std::io::{BufRead, BufReader, Read, Write};
@@ -246,13 +246,7 @@ fn long_lines() {
 /// An answer comes before the next request is there.
 #[test]
 fn answers_come_at_once() {
-    let mut child = program()
-        .arg("-")
-        .stdin(Stdio::piped())
-        .stdout(Stdio::piped())
-        .stderr(Stdio::piped())
-        .spawn()
-        .expect("the program runs");
+    let mut child = started(program().arg("-"));
     let mut stdin = child.stdin.take().expect("standard input");
     let mut stdout = BufReader::new(child.stdout.take().expect("standard output"));
     for line in 1..4 {
@@ -268,13 +262,7 @@ fn answers_come_at_once() {
 /// A reader that has gone away: the program ends, without a word.
 #[test]
 fn a_closed_pipe() {
-    let mut child = program()
-        .arg("-")
-        .stdin(Stdio::piped())
-        .stdout(Stdio::piped())
-        .stderr(Stdio::piped())
-        .spawn()
-        .expect("the program runs");
+    let mut child = started(program().arg("-"));
     drop(child.stdout.take());
     let mut stdin = child.stdin.take().expect("standard input");
     let _ = stdin.write_all("recode 1\n".repeat(100_000).as_bytes());

@@ -102,6 +102,13 @@ fn methods_agree() {
 #[test]
 fn versions_agree() {
     assert_eq!(lesmutka::version(), lesmutka::VERSION);
+    assert_eq!(lesmutka::VERSION as usize, constant("LESMUTKA_VERSION"));
+    let changes = include_str!("../../../CHANGELOG.md");
+    let latest = changes
+        .lines()
+        .find_map(|line| line.strip_prefix("## "))
+        .expect("a version");
+    assert_eq!(latest, env!("CARGO_PKG_VERSION"));
     let numbers = env!("CARGO_PKG_VERSION")
         .split('.')
         .map(|number| number.parse::<u32>().unwrap());

@@ -7,7 +7,7 @@ use std::collections::HashMap;
 use std::fs;
 use std::io::Write;
 use std::path::{Path, PathBuf};
-use std::process::{self, Command, Stdio};
+use std::process::{self, Child, Command, Stdio};
 use std::sync::atomic::{AtomicUsize, Ordering};
 use std::thread;
 
@@ -28,14 +28,19 @@ pub fn program() -> Command {
     Command::new(env!("CARGO_BIN_EXE_lesmutka"))
 }
 
-/// Runs a command with this on standard input.
-pub fn ended(command: &mut Command, input: &[u8]) -> Ended {
-    let mut child = command
+/// Starts a command whose standard input, output and error are pipes.
+pub fn started(command: &mut Command) -> Child {
+    command
         .stdin(Stdio::piped())
         .stdout(Stdio::piped())
         .stderr(Stdio::piped())
         .spawn()
-        .expect("the program runs");
+        .expect("the program runs")
+}
+
+/// Runs a command with this on standard input.
+pub fn ended(command: &mut Command, input: &[u8]) -> Ended {
+    let mut child = started(command);
     let mut stdin = child.stdin.take().expect("standard input");
     let input = input.to_vec();
     // The program may end before it has read all, which is its own affair.

@@ -1,13 +1,13 @@
 -- A number in the low bytes of a buffer, times a factor, plus an addend, one byte a turn. Assumes nothing.
-use mathlib.Core.Path.{_≡_, refl, sym, ap, _∙_}
-use mathlib.Core.List.{List, [], _∷_, _++_, append-assoc}
-use Prim.Native.Nat.{ℕ, zero, suc, _+_, _-_, _*_, _/_, _%_, _^_, _<_, _≤_}
-use native.Mathlib.Nat.{pow-suc, add-mul, mul-add, mul-assoc, mul-comm, zero-div, add-mul-div-left, div-div-eq-div-mul, div-add-mod, mul-le-mul-right}
+use mathlib.Core.Path.{_≡_, sym, ap, _∙_}
+use mathlib.Core.List.{List, _++_, append-assoc}
+use Prim.Native.Nat.{ℕ, suc, _+_, _*_, _/_, _%_, _^_, _<_, _≤_}
+use native.Mathlib.Nat.{pow-suc, add-mul, mul-assoc, zero-div, add-mul-div-left, div-div-eq-div-mul, div-add-mod, mul-le-mul-right}
 use native.Mathlib.Numerals.{add-one}
 use native.Mathlib.Omega.{arith}
 use lib.ListN.{length, getD, set, take, drop}
 use lib.Seq.{drop-cons, set-at, getD-at, take-at, drop-at}
-use Rattle.integers.specs.Positional.{positional, bytesValue, lowBytes}
+use Rattle.integers.specs.Positional.{bytesValue, lowBytes}
 use Rattle.integers.proofs.Positional.{positional-take}
 use Rattle.integers.proofs.LowBytes.{length-low, low-value, low-add, low-above}
 use Rattle.integers.proofs.Bits.{power-positive}

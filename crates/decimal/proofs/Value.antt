@@ -15,7 +15,6 @@ use Rattle.integers.proofs.Positional.{positional-div, positional-nonzero}
 use Rattle.integers.proofs.LowBytes.{length-low, low-whole, low-below, low-of, low-add}
 use Rattle.integers.proofs.Shortest.{bytes-value, bytes-below, bytes-top, bytes-significant}
 use Rattle.decimal.specs.Decimal.{isDigit, leading, decimalValue, byteCount, parsed, parsedBuffer}
-use Rattle.decimal.specs.declared.Parsed.{Parsed}
 use Rattle.decimal.specs.declared.Parsed.the-variants.{Bytes, NotDecimal}
 use Rattle.decimal.proofs.Digits.{leading-digits, leading-end, leading-within, value-fits}
 

@@ -1,0 +1,74 @@
+-- What every word is, and how many a text can have. Assumes nothing.
+use mathlib.Core.Path.{_≡_, refl}
+use mathlib.Core.Bool.{Bool, true, false, cond}
+use mathlib.Core.List.{List, [], _∷_, _++_}
+use Prim.Native.Nat.{ℕ, zero, suc, _+_, _*_, _/_, _<_, _≤_}
+use native.Mathlib.Omega.{arith}
+use lib.ListN.{length, getD, length-append}
+use Rattle.text_words.specs.Words.{isBlank, ended, wordsAfter, textWords}
+
+-- ---- a word has a byte, and no blank
+
+abbrev pub NoBlank : List ℕ → Type 0
+NoBlank word = (i : ℕ) → i < length word → isBlank (getD word i 0) ≡ false
+
+abbrev pub IsWord : List ℕ → Type 0
+IsWord word = (0 < length word) × NoBlank word
+
+none : NoBlank []
+none i h = absurd (omega arith)
+
+one-more : (word : List ℕ) (c : ℕ) → NoBlank word → isBlank c ≡ false → NoBlank (word ++ (c ∷ []))
+one-more [] c clear e zero h = e
+one-more [] c clear e (suc i) h = absurd (omega arith)
+one-more (d ∷ word) c clear e zero h = clear zero (omega arith)
+one-more (d ∷ word) c clear e (suc i) h = one-more word c (λ j l. clear (suc j) (omega arith)) e i (omega arith)
+
+-- of a word that has ended, and words behind it
+then : (word : List ℕ) (words : List (List ℕ)) → NoBlank word → ((n : ℕ) → n < length words → IsWord (getD words n []))
+    → (n : ℕ) → n < length (ended word ++ words) → IsWord (getD (ended word ++ words) n [])
+then [] words clear each n h = each n h
+then (c ∷ word) words clear each zero h = (omega arith, clear)
+then (c ∷ word) words clear each (suc n) h = each n (omega arith)
+
+after : (word text : List ℕ) → NoBlank word → (n : ℕ) → n < length (wordsAfter word text) → IsWord (getD (wordsAfter word text) n [])
+unfolding wordsAfter
+after [] [] clear n h = absurd (omega arith)
+after (c ∷ word) [] clear zero h = (omega arith, clear)
+after (c ∷ word) [] clear (suc n) h = absurd (omega arith)
+after word (c ∷ text) clear n h =
+    go (isBlank c) refl h (λ m l. after [] text none m l) (λ e m l. after (word ++ (c ∷ [])) text (one-more word c clear e) m l)
+  where
+    go : (b : Bool) → isBlank c ≡ b → n < length (cond b (ended word ++ wordsAfter [] text) (wordsAfter (word ++ (c ∷ [])) text))
+        → ((m : ℕ) → m < length (wordsAfter [] text) → IsWord (getD (wordsAfter [] text) m []))
+        → (isBlank c ≡ false → (m : ℕ) → m < length (wordsAfter (word ++ (c ∷ [])) text) → IsWord (getD (wordsAfter (word ++ (c ∷ [])) text) m []))
+        → IsWord (getD (cond b (ended word ++ wordsAfter [] text) (wordsAfter (word ++ (c ∷ [])) text)) n [])
+    go true e l blank letter = then word (wordsAfter [] text) clear blank n l
+    go false e l blank letter = letter e n l
+
+pub is-word : (text : List ℕ) (n : ℕ) → n < length (textWords text) → IsWord (getD (textWords text) n [])
+is-word text n h = after [] text none n h
+
+-- ---- each word but the last has a blank behind it
+
+at-most-one : (word : List ℕ) → length (ended word) ≤ 1
+at-most-one [] = omega arith
+at-most-one (c ∷ word) = omega arith
+
+has-begun : (word : List ℕ) (c : ℕ) → length (ended (word ++ (c ∷ []))) ≡ 1
+has-begun [] c = refl
+has-begun (d ∷ word) c = refl
+
+room : (word text : List ℕ) → 2 * length (wordsAfter word text) ≤ length text + 1 + length (ended word)
+unfolding wordsAfter
+room [] [] = omega arith
+room (c ∷ word) [] = omega arith
+room word (c ∷ text) = go (isBlank c) (room [] text) (room (word ++ (c ∷ [])) text)
+  where
+    go : (b : Bool) → 2 * length (wordsAfter [] text) ≤ length text + 1 + length (ended []) → 2 * length (wordsAfter (word ++ (c ∷ [])) text) ≤ length text + 1 + length (ended (word ++ (c ∷ [])))
+        → 2 * length (cond b (ended word ++ wordsAfter [] text) (wordsAfter (word ++ (c ∷ [])) text)) ≤ suc (length text) + 1 + length (ended word)
+    go true blank letter = rw length-append (omega (arith, at-most-one word))
+    go false blank letter = omega (arith, has-begun word c)
+
+pub words-room : (text : List ℕ) → length (textWords text) ≤ (length text + 1) / 2
+words-room text = omega (arith, room [] text)

@@ -1,11 +1,13 @@
 -- What every word is, and how many a text can have. Assumes nothing.
-use mathlib.Core.Path.{_≡_, refl}
+use mathlib.Core.Path.{_≡_, refl, sym, ap, _∙_}
 use mathlib.Core.Bool.{Bool, true, false, cond}
 use mathlib.Core.List.{List, [], _∷_, _++_}
-use Prim.Native.Nat.{ℕ, zero, suc, _+_, _*_, _/_, _<_, _≤_}
+use Prim.Native.Nat.{ℕ, zero, suc, _+_, _-_, _*_, _/_, _<_, _≤_}
 use native.Mathlib.Omega.{arith}
-use lib.ListN.{length, getD, length-append}
+use native.Mathlib.Decide.{decLt}
+use lib.ListN.{length, getD, take, drop, length-append}
 use Rattle.text_words.specs.Words.{isBlank, ended, wordsAfter, textWords}
+use Rattle.text_words.proofs.Passing.{first-word, none-left}
 
 -- ---- a word has a byte, and no blank
 
@@ -48,6 +50,21 @@ after word (c ∷ text) clear n h =
 
 pub is-word : (text : List ℕ) (n : ℕ) → n < length (textWords text) → IsWord (getD (textWords text) n [])
 is-word text n h = after [] text none n h
+
+-- ---- what `next_word` gives while a word is left is that word
+
+module _ (text : List ℕ) (at start end : ℕ) (ordered : start ≤ end) (within : end ≤ length text) (empty : start ≡ end → end ≡ length text) where
+  pub next-is-first : textWords (drop at text) ≡ ended (take (end - start) (drop start text)) ++ textWords (drop end text) → 0 < length (textWords (drop at text))
+      → textWords (drop at text) ≡ take (end - start) (drop start text) ∷ textWords (drop end text)
+  next-is-first e some = go (decLt start end)
+    where
+      go : Dec (start < end) → textWords (drop at text) ≡ take (end - start) (drop start text) ∷ textWords (drop end text)
+      go (yes l) = e ∙ sym (first-word text start end (textWords (drop end text)) l within)
+      go (no l) =
+          let no-byte : end - start ≡ 0 = omega arith in
+          let last : end ≡ length text = empty (omega arith) in
+          let nothing : textWords (drop at text) ≡ [] = (rw no-byte at e) ∙ none-left text end (omega arith) in
+          absurd (omega (arith, ap length nothing))
 
 -- ---- each word but the last has a blank behind it
 

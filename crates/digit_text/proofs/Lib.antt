@@ -1,0 +1,3 @@
+mod Comparing
+mod Filling
+pub mod Promises

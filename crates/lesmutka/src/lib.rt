@@ -24,6 +24,7 @@ ghost use Rattle.checking.specs.Check.{checkAnswer, checkSpace};
 ghost use Rattle.hexadecimal.specs.Hex as hexadecimal_text;
 ghost use Rattle.decimal.specs.Decimal as decimal_text;
 ghost use Rattle.refusal_words.specs.Words.{wordsAnswer, wordsBuffer};
+ghost use Rattle.digit_text.specs.Digits.{digitsAnswer, digitsBuffer};
 ghost use Rattle.c_answers.specs.Answers.{startedFields, writtenFields, readFields, countedFields, limitFields, hexadecimalFields, decimalFields};
 ghost use Rattle.c_answers.specs.Kept.{keptNumber, IsKeptTake};
 
@@ -152,4 +153,13 @@ pub extern "C" fn lesmutka_write_words(refusal: usize, out: &mut [u8]) -> Length
     ensures buffer { λ r. ⌜ now (out .exit) ≡ wordsBuffer refusal (now (out .entry)) ⌝ }
 {
     c_answers::of_written(refusal_words::write_words(refusal, out))
+}
+
+// Writes the digits of a text.
+#[no_mangle]
+pub extern "C" fn lesmutka_digits(text: &[u8], out: &mut [u8]) -> Length
+    ensures answer { λ r. ⌜ r ≡ writtenFields (digitsAnswer (now (text .entry)) (length (now (out .entry)))) ⌝ }
+    ensures buffer { λ r. ⌜ now (out .exit) ≡ digitsBuffer (now (text .entry)) (now (out .entry)) ⌝ }
+{
+    c_answers::of_written(digit_text::read_digits(text, out))
 }

@@ -1,6 +1,6 @@
 -- A text's digits, put into a buffer from the last one down. Assumes nothing.
 use mathlib.Core.Path.{_≡_, sym, ap, _∙_}
-use mathlib.Core.List.{List, [], _∷_, _++_, map, reverse, append-assoc, reverse-cons}
+use mathlib.Core.List.{List, [], _∷_, _++_, map, append-assoc, reverse-cons}
 use Prim.Native.Nat.{ℕ, suc, _+_, _-_, _<_, _≤_}
 use native.Mathlib.Omega.{arith}
 use lib.ListN.{length, getD, set, take, drop, length-append, length-map, length-reverse, take-append-drop}

@@ -157,7 +157,7 @@ pub extern "C" fn lesmutka_write_words(refusal: usize, out: &mut [u8]) -> Length
 
 // Writes the digits of a text.
 #[no_mangle]
-pub extern "C" fn lesmutka_digits(text: &[u8], out: &mut [u8]) -> Length
+pub extern "C" fn lesmutka_read_digits(text: &[u8], out: &mut [u8]) -> Length
     ensures answer { λ r. ⌜ r ≡ writtenFields (digitsAnswer (now (text .entry)) (length (now (out .entry)))) ⌝ }
     ensures buffer { λ r. ⌜ now (out .exit) ≡ digitsBuffer (now (text .entry)) (now (out .entry)) ⌝ }
 {

@@ -1,3 +1,3 @@
-mod Digits
+pub mod Digits
 mod Carry
 pub mod Value

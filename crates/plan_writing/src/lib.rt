@@ -18,7 +18,7 @@ pub struct Cursor {
 }
 
 // Writes step n, counted from 0.
-fn put(out: &mut [u8], n: usize, operation: u8, j: usize, k: usize)
+pub fn put(out: &mut [u8], n: usize, operation: u8, j: usize, k: usize)
     requires { ⌜ stepBytes * n + stepBytes ≤ length (now out) ⌝ }
     ensures { λ _. ⌜ now (out .exit) ≡ take (stepBytes * n) (now (out .entry)) ++ (stepBytesOf (stepWith operation j k) ++ drop (stepBytes * n + stepBytes) (now (out .entry))) ⌝ }
 {

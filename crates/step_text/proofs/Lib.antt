@@ -1,3 +1,4 @@
 mod Positions
 mod Names
 mod Outcomes
+mod Written

@@ -1,11 +1,18 @@
 -- Plans as people write them: a word for each step, add(J,K) or subtract(J,K), with decimal positions J and K.
-use Prim.Native.Nat.{ℕ, _+_, _^_}
+use Prim.Native.Nat.{ℕ, _+_, _-_, _/_, _^_}
 use mathlib.Core.Bool.{Bool, true, false, cond}
-use mathlib.Core.List.{List, [], _∷_}
+use mathlib.Core.List.{List, [], _∷_, map}
 use lib.Dec.{eqb, ltb}
 use lib.ListN.{length, getD, take, drop}
-use Rattle.chains.specs.Steps.{Step, adding, subtracting}
+use Rattle.rules.specs.Limits.{stepBytes}
+use Rattle.rules.specs.Memory.{written, leaves}
+use Rattle.rules.specs.declared.Refusal.the-variants.{PlanLength}
+use Rattle.rules.specs.declared.Verdict.{Verdict}
+use Rattle.rules.specs.declared.Verdict.the-variants.{Passed, Failed}
+use Rattle.rules.specs.declared.Written.{Written}
+use Rattle.chains.specs.Steps.{Step, adding, subtracting, planBytesOf}
 use Rattle.decimal.specs.Decimal.{leading, decimalValue}
+use Rattle.text_words.specs.Words.{textWords}
 
 -- what is no step: an operation that no step has
 abbrev pub noStep : Step
@@ -47,3 +54,22 @@ unfoldable pub wordStep : List ℕ → Step
 wordStep word =
     cond (begins addName word) (stepIn adding (drop (length addName) word))
     (cond (begins subtractName word) (stepIn subtracting (drop (length subtractName) word)) noStep)
+
+-- the bytes of a text's steps, in order
+unfoldable pub textSteps : List ℕ → List ℕ
+textSteps text = planBytesOf (map wordStep (textWords text))
+
+-- the number of these bytes is part of the answer, so it has to be below 2^64. A text with more words is longer than any memory; it is refused all the same
+abbrev pub mostWords : ℕ
+mostWords = (2 ^ 64 - 1) / stepBytes
+
+unfoldable pub countTest : ℕ → Verdict
+countTest words = cond (ltb mostWords words) (Failed PlanLength) Passed
+
+-- into a lent buffer: all of them or, where there is no room, nothing and refusal 6
+abbrev pub stepsAnswer : List ℕ → ℕ → Written
+stepsAnswer text room = written (countTest (length (textWords text))) (textSteps text) room
+
+-- the buffer afterwards
+abbrev pub stepsBuffer : List ℕ → List ℕ → List ℕ
+stepsBuffer text out = leaves (stepsAnswer text (length out)) (textSteps text) out

@@ -2,3 +2,4 @@ mod Positions
 mod Names
 mod Outcomes
 mod Written
+pub mod Promises

@@ -40,7 +40,7 @@ returns-2 c =
     let args = c .before .before .before .before .before .args in
     let count = c .before .before .word-count .ensures in
     let text = args .text .now in
-    returns-refused (λ w. w) (textSteps text) (args .out .now) (counted (length (textWords text)) (rw count at (c .before .if1 .left))) (ap (λ (n : ℕ). stepBytes * n) count ∙ sym (length-steps text)) (c .if2 .taken)
+    returns-refused (λ w. w) (textSteps text) (args .out .now) (counted (length (textWords text)) (rw count at (c .before .if1 .left))) (ap (λ (n : ℕ). stepBytes * n) count ∙ sym (length-steps text)) (omega arith)
 
 loop-holds : tie.Need-loop-holds Inv-loop μ-loop
 loop-holds c =
@@ -99,7 +99,7 @@ returns-3 c =
     let whole : loop .n ≡ length (textWords text) = omega arith in
     let done = finish text (args .out .now) (loop .from) (loop .n) (loop .out) (loop .inv .3) whole in
     let same : loop .n ≡ c .before .before .before .before .word-count .result = omega arith in
-    returns-written (λ w. w) (textSteps text) (args .out .now) (counted (length (textWords text)) (rw count at (c .before .before .before .if1 .left))) (ap (λ (n : ℕ). stepBytes * n) count ∙ sym (length-steps text)) (c .before .before .if2 .left) (rw same at done)
+    returns-written (λ w. w) (textSteps text) (args .out .now) (counted (length (textWords text)) (rw count at (c .before .before .before .if1 .left))) (ap (λ (n : ℕ). stepBytes * n) count ∙ sym (length-steps text)) (omega arith) (rw same at done)
 
 pub read-steps-spec : {M : Type 1} → statement M
 read-steps-spec =

@@ -56,14 +56,16 @@ returns-3 c =
     let args = c .before .before .before .before .before .before .before .before .before .before .before .args in
     let first = c .before .before .before .before .before .before .before .before .before .position-before .ensures in
     let second = c .before .before .before .before .position-before2 .ensures in
-    not-closed (args .operation) (args .text .now) (first .0) (c .before .before .before .before .before .before .before .if1 .left) (all-behind (c .before .before .before .before .before .before .before .before .before .position-before .result .digits + 1) (args .text .now)) (second .0) (c .before .before .if2 .left) (c .if3 .taken)
+    let rest = all-behind (c .before .before .before .before .before .before .before .before .before .position-before .result .digits + 1) (args .text .now) in
+    not-closed (args .operation) (args .text .now) (first .0) (c .before .before .before .before .before .before .before .if1 .left) rest (second .0) (c .before .before .if2 .left) (λ closed. omega arith)
 
 returns-4 : tie.Need-returns-4
 returns-4 c =
     let args = c .before .before .before .before .before .before .before .before .before .before .before .args in
     let first = c .before .before .before .before .before .before .before .before .before .position-before .ensures in
     let second = c .before .before .before .before .position-before2 .ensures in
-    is-step (args .operation) (args .text .now) (first .0) (c .before .before .before .before .before .before .before .if1 .left) (all-behind (c .before .before .before .before .before .before .before .before .before .position-before .result .digits + 1) (args .text .now)) (second .0) (c .before .before .if2 .left) (c .if3 .left) (first .1) (second .1)
+    let rest = all-behind (c .before .before .before .before .before .before .before .before .before .position-before .result .digits + 1) (args .text .now) in
+    is-step (args .operation) (args .text .now) (first .0) (c .before .before .before .before .before .before .before .if1 .left) rest (second .0) (c .before .before .if2 .left) (omega arith) (first .1) (second .1)
 
 pub step-in-spec : {M : Type 1} → statement M
 step-in-spec =

@@ -25,6 +25,7 @@ ghost use Rattle.hexadecimal.specs.Hex as hexadecimal_text;
 ghost use Rattle.decimal.specs.Decimal as decimal_text;
 ghost use Rattle.refusal_words.specs.Words.{wordsAnswer, wordsBuffer};
 ghost use Rattle.digit_text.specs.Digits.{digitsAnswer, digitsBuffer};
+ghost use Rattle.step_text.specs.Steps.{stepsAnswer, stepsBuffer};
 ghost use Rattle.c_answers.specs.Answers.{startedFields, writtenFields, readFields, countedFields, limitFields, hexadecimalFields, decimalFields};
 ghost use Rattle.c_answers.specs.Kept.{keptNumber, IsKeptTake};
 
@@ -162,4 +163,13 @@ pub extern "C" fn lesmutka_read_digits(text: &[u8], out: &mut [u8]) -> Length
     ensures buffer { λ r. ⌜ now (out .exit) ≡ digitsBuffer (now (text .entry)) (now (out .entry)) ⌝ }
 {
     c_answers::of_written(digit_text::read_digits(text, out))
+}
+
+// Writes the plan of a text, a word for each step.
+#[no_mangle]
+pub extern "C" fn lesmutka_read_steps(text: &[u8], out: &mut [u8]) -> Length
+    ensures answer { λ r. ⌜ r ≡ writtenFields (stepsAnswer (now (text .entry)) (length (now (out .entry)))) ⌝ }
+    ensures buffer { λ r. ⌜ now (out .exit) ≡ stepsBuffer (now (text .entry)) (now (out .entry)) ⌝ }
+{
+    c_answers::of_written(step_text::read_steps(text, out))
 }

@@ -1,11 +1,11 @@
 -- Whether a word begins with a name, byte by byte. Assumes nothing.
 use mathlib.Core.Path.{_≡_, refl}
 use mathlib.Core.Bool.{Bool, true, false, cond}
-use mathlib.Core.List.{List, [], _∷_}
+use mathlib.Core.List.{List, [], _∷_, _++_}
 use Prim.Native.Nat.{ℕ, suc, _+_, _<_, _≤_}
 use native.Mathlib.Numerals.{add-one}
 use native.Mathlib.Omega.{arith}
-use borrow.Author.Tests.{eq-eqb, ne-eqb}
+use borrow.Author.Tests.{eq-eqb, ne-eqb, eqb-true}
 use lib.Dec.{eqb}
 use lib.ListN.{length, getD, drop, drop-of-length-le}
 use lib.Seq.{drop-cons}
@@ -41,3 +41,15 @@ begins-short name word h = go (begins name word) refl
     go : (b : Bool) → begins name word ≡ b → b ≡ false
     go true e = absurd (omega (arith, begins-long name word e))
     go false e = refl
+
+-- it is the name, and what is behind it
+pub begins-is : (name word : List ℕ) → begins name word ≡ true → word ≡ name ++ drop (length name) word
+unfolding begins
+begins-is [] word e = refl
+begins-is (c ∷ name) [] e = let z : _≡_ {A = ℕ} 0 1 = cc in absurd (omega arith)
+begins-is (c ∷ name) (d ∷ word) e = go (eqb c d) refl e (λ t. begins-is name word t)
+  where
+    go : (b : Bool) → eqb c d ≡ b → cond b (begins name word) false ≡ true → (begins name word ≡ true → word ≡ name ++ drop (length name) word)
+        → d ∷ word ≡ c ∷ (name ++ drop (length name) word)
+    go true f e rest = let same : c ≡ d = eqb-true c d f in rw (same, ← rest e)
+    go false f e rest = let z : _≡_ {A = ℕ} 0 1 = cc in absurd (omega arith)

@@ -1,14 +1,13 @@
 -- A position that a text begins with, by the bytes passed. Assumes nothing.
-use mathlib.Core.Path.{_≡_, refl, sym, ap, _∙_}
+use mathlib.Core.Path.{_≡_, refl}
 use mathlib.Core.Bool.{Bool, true, false, cond}
 use mathlib.Core.List.{List}
-use Prim.Native.Nat.{ℕ, suc, _+_, _-_, _*_, _^_, _<_, _≤_}
+use Prim.Native.Nat.{ℕ, _+_, _-_, _*_, _^_, _<_, _≤_}
 use native.Mathlib.Nat.{zero-add, one-le-pow, mul-le-mul-left}
-use native.Mathlib.Numerals.{add-one}
 use native.Mathlib.Omega.{arith}
 use borrow.Author.Tests.{eq-eqb, ne-eqb, lt-ltb, le-ltb, eqb-true, ltb-true, ltb-false}
 use lib.Dec.{eqb, ltb}
-use lib.ListN.{length, getD, take, drop, List·getD-eq-default}
+use lib.ListN.{length, getD, take, List·getD-eq-default}
 use Rattle.decimal.specs.Decimal.{leading, decimalValue}
 use Rattle.decimal.proofs.Digits.{digit-more, part-more, leading-within}
 use Rattle.step_text.specs.Steps.{positionDigits}
@@ -51,18 +50,33 @@ module _ (text : List ℕ) (end i : ℕ) where
       go true = refl
       go false = refl
 
--- behind a position there is a byte
-pub position-within : (text : List ℕ) (end : ℕ) → 0 < end → (positionDigits text end ≡ 0 → ⊥) → positionDigits text end + 1 ≤ length text
+-- ---- what a position tells
+
+-- it is all the digits that the text begins with, and the byte is behind them
+pub record Found (text : List ℕ) (end n : ℕ) : Type 0 where
+  pub digits : leading text ≡ n
+  pub behind : getD text n 0 ≡ end
+  pub small : decimalValue (take n text) < 2 ^ 16
+
+pub position-is : (text : List ℕ) (end : ℕ) → (positionDigits text end ≡ 0 → ⊥) → Found text end (positionDigits text end)
 unfolding positionDigits
-position-within text end some = go (eqb (getD text (leading text) 0) end) (ltb (decimalValue (take (leading text) text)) (2 ^ 16)) refl
+position-is text end = go (eqb (getD text (leading text) 0) end) (ltb (decimalValue (take (leading text) text)) (2 ^ 16)) refl refl
   where
-    go : (b small : Bool) → eqb (getD text (leading text) 0) end ≡ b → (cond b (cond small (leading text) 0) 0 ≡ 0 → ⊥) → cond b (cond small (leading text) 0) 0 + 1 ≤ length text
-    go true true e n =
-        let at : getD text (leading text) 0 ≡ end = eqb-true (getD text (leading text) 0) end e in
-        inside (ltb (leading text) (length text)) refl at
-      where
-        inside : (b : Bool) → ltb (leading text) (length text) ≡ b → getD text (leading text) 0 ≡ end → leading text + 1 ≤ length text
-        inside true l at = omega (arith, ltb-true (leading text) (length text) l)
-        inside false l at = absurd (omega (arith, List·getD-eq-default text 0 {n = leading text} (ltb-false (leading text) (length text) l)))
-    go true false e n = absurd (n refl)
-    go false small e n = absurd (n refl)
+    go : (b small : Bool) → eqb (getD text (leading text) 0) end ≡ b → ltb (decimalValue (take (leading text) text)) (2 ^ 16) ≡ small
+        → (cond b (cond small (leading text) 0) 0 ≡ 0 → ⊥) → Found text end (cond b (cond small (leading text) 0) 0)
+    go true true e l n = record {
+      digits = refl;
+      behind = eqb-true (getD text (leading text) 0) end e;
+      small = ltb-true (decimalValue (take (leading text) text)) (2 ^ 16) l;
+    }
+    go true false e l n = absurd (n refl)
+    go false small e l n = absurd (n refl)
+
+-- so behind it there is a byte
+pub position-within : (text : List ℕ) (end : ℕ) → 0 < end → (positionDigits text end ≡ 0 → ⊥) → positionDigits text end + 1 ≤ length text
+position-within text end some n = go (ltb (positionDigits text end) (length text)) refl
+  where
+    go : (b : Bool) → ltb (positionDigits text end) (length text) ≡ b → positionDigits text end + 1 ≤ length text
+    go true l = omega (arith, ltb-true (positionDigits text end) (length text) l)
+    go false l =
+        absurd (omega (arith, position-is text end n .behind, List·getD-eq-default text 0 {n = positionDigits text end} (ltb-false (positionDigits text end) (length text) l)))

@@ -1,21 +1,26 @@
 -- What the call promises: five bytes a word, and for a word that is add(J,K) or subtract(J,K) those of that step. Assumes nothing.
 use mathlib.Core.Path.{_≡_, refl, sym, ap, _∙_}
+use mathlib.Core.Logic.{_⊎_, inl, inr}
 use mathlib.Core.Bool.{Bool, true, false, cond}
 use mathlib.Core.List.{List, [], _∷_, _++_}
-use Prim.Native.Nat.{ℕ, suc, _+_, _*_, _^_, _<_, _≤_}
+use Prim.Native.Nat.{ℕ, suc, _+_, _*_, _^_, _<_}
+use native.Mathlib.Numerals.{add-one}
 use native.Mathlib.Omega.{arith}
-use lib.ListN.{length, take, drop, length-append}
-use lib.Seq.{take-at, drop-at, getD-at, drop-drop}
+use borrow.Author.Tests.{eqb-true, eqb-false}
+use lib.Dec.{eqb}
+use lib.ListN.{length, take, drop, length-append, drop-of-length-le}
+use lib.Seq.{take-at, drop-at, getD-at, drop-drop, split-at, length-take-le}
 use Rattle.rules.specs.Limits.{stepBytes}
 use Rattle.rules.specs.Memory.{fitted}
 use Rattle.integers.specs.Positional.{lowBytes}
-use Rattle.chains.specs.Steps.{Step, adding, subtracting, add, subtract, stepBytesOf}
+use Rattle.chains.specs.Steps.{adding, subtracting, add, subtract, stepBytesOf}
 use Rattle.decimal.specs.Decimal.{isDigit, leading, decimalValue}
 use Rattle.text_words.specs.Words.{textWords}
 use Rattle.text_words.proofs.Words.{words-room}
-use Rattle.step_text.specs.Steps.{positionDigits, stepIn, begins, addName, subtractName, wordStep, textSteps, mostWords, stepsAnswer}
-use Rattle.step_text.proofs.Positions.{position-ends}
-use Rattle.step_text.proofs.Outcomes.{is-step}
+use Rattle.step_text.specs.Steps.{noStep, positionDigits, stepIn, begins, addName, subtractName, wordStep, textSteps, stepsAnswer}
+use Rattle.step_text.proofs.Positions.{Found, position-ends, position-is, position-within}
+use Rattle.step_text.proofs.Outcomes.{no-first, no-second, not-closed, is-step}
+use Rattle.step_text.proofs.Names.{begins-is}
 use Rattle.step_text.proofs.Written.{length-steps, counted}
 
 -- five bytes a word
@@ -82,3 +87,87 @@ module _ (J K : List ℕ) (j : IsPosition J) (k : IsPosition K) where
   pub subtract-bytes : stepBytesOf (wordStep (subtractName ++ pair J K)) ≡ 1 ∷ (lowBytes 2 (decimalValue J) ++ lowBytes 2 (decimalValue K))
   unfolding stepBytesOf lowBytes
   subtract-bytes = rw subtract-word
+
+-- ---- and no others
+
+-- a word that is a name, two positions, and nothing else
+pub record Spelled (name word : List ℕ) : Type 0 where
+  pub J : List ℕ
+  pub K : List ℕ
+  pub first : IsPosition J
+  pub second : IsPosition K
+  pub is : word ≡ name ++ pair J K
+
+leading-taken : (text : List ℕ) → leading (take (leading text) text) ≡ leading text
+unfolding leading
+leading-taken [] = refl
+leading-taken (c ∷ text) = go (isDigit c) refl (leading-taken text)
+  where
+    go : (b : Bool) → isDigit c ≡ b → leading (take (leading text) text) ≡ leading text → leading (take (cond b (suc (leading text)) 0) (c ∷ text)) ≡ cond b (suc (leading text)) 0
+    go true e h = rw (e, h)
+    go false e h = refl
+
+module _ (text : List ℕ) (end : ℕ) (some : 0 < end) (n : positionDigits text end ≡ 0 → ⊥) where
+  abbrev count : ℕ
+  count = positionDigits text end
+
+  taken : IsPosition (take count text)
+  taken =
+      let p : Found text end count = position-is text end n in
+      let size : length (take count text) ≡ count = length-take-le count text (omega (arith, position-within text end some n)) in
+      record { all = rw (← p .digits) (leading-taken text) ∙ sym size; some = omega arith; small = p .small }
+
+  split : text ≡ take count text ++ (end ∷ drop (count + 1) text)
+  split =
+      let p : Found text end count = position-is text end n in
+      rw add-one
+      (split-at text count 0 (omega (arith, position-within text end some n)) ∙ ap (λ (c : ℕ). take count text ++ (c ∷ drop (suc count) text)) (p .behind))
+
+only-pairs : (operation : ℕ) (text : List ℕ) → (stepIn operation text ≡ noStep → ⊥) → Spelled [] text
+only-pairs operation text n = go-first (eqb j 0) refl
+  where
+    j : ℕ
+    j = positionDigits text 44
+
+    rest : List ℕ
+    rest = drop (j + 1) text
+
+    k : ℕ
+    k = positionDigits rest 41
+
+    go-length : (j ≡ 0 → ⊥) → (k ≡ 0 → ⊥) → (b : Bool) → eqb (length rest) (k + 1) ≡ b → Spelled [] text
+    go-length f s true e =
+        let end : drop (k + 1) rest ≡ [] = drop-of-length-le rest {i = k + 1} (omega (arith, eqb-true (length rest) (k + 1) e)) in
+        record {
+          J = take j text;
+          K = take k rest;
+          first = taken text 44 (omega arith) f;
+          second = taken rest 41 (omega arith) s;
+          is = split text 44 (omega arith) f ∙ ap (λ (l : List ℕ). take j text ++ (44 ∷ l)) (split rest 41 (omega arith) s ∙ rw end);
+        }
+    go-length f s false e = absurd (n (sym (not-closed operation text refl f refl refl s (eqb-false (length rest) (k + 1) e))))
+
+    go-second : (j ≡ 0 → ⊥) → (b : Bool) → eqb k 0 ≡ b → Spelled [] text
+    go-second f true e = absurd (n (sym (no-second operation text refl f refl refl (eqb-true k 0 e))))
+    go-second f false e = go-length f (eqb-false k 0 e) (eqb (length rest) (k + 1)) refl
+
+    go-first : (b : Bool) → eqb j 0 ≡ b → Spelled [] text
+    go-first true e = absurd (n (sym (no-first operation text refl (eqb-true j 0 e))))
+    go-first false e = go-second (eqb-false j 0 e) (eqb k 0) refl
+
+-- any other word is no step
+pub only-words : (word : List ℕ) → (wordStep word ≡ noStep → ⊥) → Spelled addName word ⊎ Spelled subtractName word
+unfolding wordStep
+only-words word n = go (begins addName word) (begins subtractName word) refl refl n
+  where
+    named : (name : List ℕ) (operation : ℕ) → begins name word ≡ true → (stepIn operation (drop (length name) word) ≡ noStep → ⊥) → Spelled name word
+    named name operation e n =
+        let p = only-pairs operation (drop (length name) word) n in
+        record { J = p .J; K = p .K; first = p .first; second = p .second; is = begins-is name word e ∙ ap (λ (l : List ℕ). name ++ l) (p .is) }
+
+    go : (a s : Bool) → begins addName word ≡ a → begins subtractName word ≡ s
+        → (cond a (stepIn adding (drop (length addName) word)) (cond s (stepIn subtracting (drop (length subtractName) word)) noStep) ≡ noStep → ⊥)
+        → Spelled addName word ⊎ Spelled subtractName word
+    go true s e f n = inl (named addName adding e n)
+    go false true e f n = inr (named subtractName subtracting f n)
+    go false false e f n = absurd (n refl)

@@ -8,7 +8,7 @@ use text_words::next_word;
 use text_words::word_count;
 ghost use mathlib.Core.Path.{_≡_};
 ghost use Prim.Native.Nat.{_<_};
-ghost use lib.ListN.{length, take, drop};
+ghost use lib.ListN.{length, take};
 ghost use Rattle.decimal.specs.Decimal.{decimalValue};
 ghost use Rattle.step_reading.specs.Fields.{asStep};
 ghost use Rattle.step_text.specs.Steps.{positionDigits, stepIn, begins, wordStep, stepsAnswer, stepsBuffer};

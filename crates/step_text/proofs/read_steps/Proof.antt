@@ -4,10 +4,9 @@ use Prim.Native.Nat.{ℕ, _≤_, _<_, _*_, _-_, _^_}
 use native.Mathlib.Omega.{arith}
 use lib.ListN.{length}
 use Rattle.rules.specs.Limits.{stepBytes}
-use Rattle.rules.specs.declared.Verdict.the-variants.{Passed}
 use Rattle.rules.proofs.Returns.{returns-refused, returns-written}
 use Rattle.text_words.specs.Words.{textWords}
-use Rattle.step_text.specs.Steps.{textSteps, mostWords, countTest}
+use Rattle.step_text.specs.Steps.{textSteps, mostWords}
 use Rattle.step_reading.specs.Fields.{asStep}
 use Rattle.step_text.proofs.Written.{Underway, length-steps, counted, too-many, start, finish, step-more}
 use borrow.Author.Needs.{needs}

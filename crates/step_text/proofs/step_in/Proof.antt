@@ -1,9 +1,7 @@
 -- `step_text::step_in` meets its contract: each answer goes by the tests that led to it. Assumes nothing.
-use mathlib.Core.Path.{_≡_, _∙_}
-use Prim.Native.Nat.{_+_, _≤_}
+use mathlib.Core.Path.{_∙_}
+use Prim.Native.Nat.{_+_}
 use native.Mathlib.Omega.{arith}
-use lib.ListN.{length}
-use Rattle.step_text.specs.Steps.{positionDigits}
 use Rattle.step_text.proofs.Positions.{position-within}
 use Rattle.step_text.proofs.Outcomes.{all-behind, no-first, no-second, not-closed, is-step}
 use borrow.Author.Needs.{needs}

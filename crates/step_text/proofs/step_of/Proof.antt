@@ -1,9 +1,7 @@
 -- `step_text::step_of` meets its contract: each name leads to its operation. Assumes nothing.
 use mathlib.Core.Path.{_≡_, sym, ap, _∙_}
 use mathlib.Core.Bool.{true, false}
-use Prim.Native.Nat.{_≤_}
 use native.Mathlib.Omega.{arith}
-use lib.ListN.{length}
 use Rattle.step_text.specs.Steps.{stepIn, begins, addName, subtractName, wordStep}
 use Rattle.step_text.proofs.Names.{begins-long}
 use Rattle.step_text.proofs.Outcomes.{all-behind}

@@ -3,33 +3,37 @@ use mathlib.Core.Path.{_≡_, refl, sym, ap, _∙_}
 use mathlib.Core.Logic.{_⊎_, inl, inr}
 use mathlib.Core.Bool.{Bool, true, false, cond}
 use mathlib.Core.List.{List, [], _∷_, _++_}
-use Prim.Native.Nat.{ℕ, suc, _+_, _*_, _^_, _<_}
+use Prim.Native.Nat.{ℕ, suc, _+_, _*_, _^_, _<_, _≤_}
 use native.Mathlib.Numerals.{add-one}
 use native.Mathlib.Omega.{arith}
 use borrow.Author.Tests.{eqb-true, eqb-false}
 use lib.Dec.{eqb}
 use lib.ListN.{length, take, drop, length-append, drop-of-length-le}
 use lib.Seq.{take-at, drop-at, getD-at, drop-drop, split-at, length-take-le}
-use Rattle.rules.specs.Limits.{stepBytes}
+use Rattle.rules.specs.Limits.{stepBytes, planSteps}
+use Rattle.rules.specs.declared.Refusal.the-variants.{PlanLength}
+use Rattle.rules.specs.declared.Written.the-variants.{Refused}
 use Rattle.rules.specs.Memory.{fitted}
 use Rattle.integers.specs.Positional.{lowBytes}
 use Rattle.chains.specs.Steps.{adding, subtracting, add, subtract, stepBytesOf}
 use Rattle.decimal.specs.Decimal.{isDigit, leading, decimalValue}
 use Rattle.text_words.specs.Words.{textWords}
-use Rattle.text_words.proofs.Words.{words-room}
 use Rattle.step_text.specs.Steps.{noStep, positionDigits, stepIn, begins, addName, subtractName, wordStep, textSteps, stepsAnswer}
 use Rattle.step_text.proofs.Positions.{Found, position-ends, position-is, position-within}
 use Rattle.step_text.proofs.Outcomes.{no-first, no-second, not-closed, is-step}
 use Rattle.step_text.proofs.Names.{begins-is}
-use Rattle.step_text.proofs.Written.{length-steps, counted}
+use Rattle.step_text.proofs.Written.{length-steps, counted, too-many}
 
 -- five bytes a word
 pub five-bytes : (text : List ℕ) → length (textSteps text) ≡ stepBytes * length (textWords text)
 five-bytes text = length-steps text
 
--- a text that any memory holds is refused only where there is no room
-pub answered : (text : List ℕ) (room : ℕ) → length text < 2 ^ 62 → stepsAnswer text room ≡ fitted (textSteps text) room
-answered text room h = rw (counted (length (textWords text)) (omega (arith, words-room text)))
+-- more words than a plan has steps are refused with 7; any other text only where there is no room
+pub too-many-words : (text : List ℕ) (room : ℕ) → planSteps < length (textWords text) → stepsAnswer text room ≡ Refused PlanLength
+too-many-words text room h = rw (too-many (length (textWords text)) h)
+
+pub few-words : (text : List ℕ) (room : ℕ) → length (textWords text) ≤ planSteps → stepsAnswer text room ≡ fitted (textSteps text) room
+few-words text room h = rw (counted (length (textWords text)) h)
 
 -- ---- the words that people write
 

@@ -6,26 +6,26 @@ use native.Mathlib.Omega.{arith}
 use borrow.Author.Tests.{lt-ltb, le-ltb}
 use lib.ListN.{length, take, drop, length-append, length-drop, length-map, take-append-drop, drop-of-length-le}
 use lib.Seq.{take-at, drop-at, drop-drop, length-take-le}
-use Rattle.rules.specs.Limits.{stepBytes}
+use Rattle.rules.specs.Limits.{stepBytes, planSteps}
 use Rattle.rules.specs.declared.Refusal.the-variants.{PlanLength}
 use Rattle.rules.specs.declared.Verdict.the-variants.{Passed, Failed}
 use Rattle.chains.specs.Steps.{Step, stepBytesOf, planBytesOf}
 use Rattle.chains.proofs.Bytes.{length-plan}
 use Rattle.text_words.specs.Words.{ended, wordsAfter, textWords}
-use Rattle.step_text.specs.Steps.{wordStep, textSteps, mostWords, countTest}
+use Rattle.step_text.specs.Steps.{wordStep, textSteps, countTest}
 
 -- a step for each word
 pub length-steps : (text : List ℕ) → length (textSteps text) ≡ stepBytes * length (textWords text)
 unfolding textSteps
 length-steps text = length-plan (map wordStep (textWords text)) ∙ ap (λ (n : ℕ). stepBytes * n) (length-map (textWords text) wordStep)
 
-pub counted : (n : ℕ) → n ≤ mostWords → countTest n ≡ Passed
+pub counted : (n : ℕ) → n ≤ planSteps → countTest n ≡ Passed
 unfolding countTest
-counted n h = simp (le-ltb mostWords n h)
+counted n h = simp (le-ltb planSteps n h)
 
-pub too-many : (n : ℕ) → mostWords < n → countTest n ≡ Failed PlanLength
+pub too-many : (n : ℕ) → planSteps < n → countTest n ≡ Failed PlanLength
 unfolding countTest
-too-many n h = simp (lt-ltb mostWords n h)
+too-many n h = simp (lt-ltb planSteps n h)
 
 length-step : (s : Step) → length (stepBytesOf s) ≡ stepBytes
 unfolding stepBytesOf

@@ -1,10 +1,10 @@
 -- Plans as people write them: a word for each step, add(J,K) or subtract(J,K), with decimal positions J and K.
-use Prim.Native.Nat.{ℕ, _+_, _-_, _/_, _^_}
+use Prim.Native.Nat.{ℕ, _+_, _^_}
 use mathlib.Core.Bool.{Bool, true, false, cond}
 use mathlib.Core.List.{List, [], _∷_, map}
 use lib.Dec.{eqb, ltb}
 use lib.ListN.{length, getD, take, drop}
-use Rattle.rules.specs.Limits.{stepBytes}
+use Rattle.rules.specs.Limits.{planSteps}
 use Rattle.rules.specs.Memory.{written, leaves}
 use Rattle.rules.specs.declared.Refusal.the-variants.{PlanLength}
 use Rattle.rules.specs.declared.Verdict.{Verdict}
@@ -59,14 +59,11 @@ wordStep word =
 unfoldable pub textSteps : List ℕ → List ℕ
 textSteps text = planBytesOf (map wordStep (textWords text))
 
--- the number of these bytes is part of the answer, so it has to be below 2^64. A text with more words is longer than any memory; it is refused all the same
-abbrev pub mostWords : ℕ
-mostWords = (2 ^ 64 - 1) / stepBytes
-
+-- a plan has no more steps than the limit
 unfoldable pub countTest : ℕ → Verdict
-countTest words = cond (ltb mostWords words) (Failed PlanLength) Passed
+countTest words = cond (ltb planSteps words) (Failed PlanLength) Passed
 
--- into a lent buffer: all of them or, where there is no room, nothing and refusal 6
+-- into a lent buffer: refusal 7 where there are too many, nothing and refusal 6 where there is no room, or all of them
 abbrev pub stepsAnswer : List ℕ → ℕ → Written
 stepsAnswer text room = written (countTest (length (textWords text))) (textSteps text) room
 

@@ -1,5 +1,6 @@
 // A plan's steps from text: a word for each step, add(J,K) or subtract(J,K).
 use plan_writing::put;
+use rules::PLAN_STEPS;
 use rules::Refusal;
 use rules::STEP_BYTES;
 use rules::Written;
@@ -12,9 +13,6 @@ ghost use lib.ListN.{length, take};
 ghost use Rattle.decimal.specs.Decimal.{decimalValue};
 ghost use Rattle.step_reading.specs.Fields.{asStep};
 ghost use Rattle.step_text.specs.Steps.{positionDigits, stepIn, begins, wordStep, stepsAnswer, stepsBuffer};
-
-// Of this many steps the bytes can still be counted.
-const MOST_WORDS: usize = usize::MAX / STEP_BYTES;
 
 // A position has two bytes.
 const POSITIONS: usize = 65536;
@@ -141,7 +139,7 @@ pub fn read_steps(text: &[u8], out: &mut [u8]) -> Written
     ensures buffer { λ r. ⌜ now (out .exit) ≡ stepsBuffer (now (text .entry)) (now (out .entry)) ⌝ }
 {
     let words = word_count(text);
-    if MOST_WORDS < words {
+    if PLAN_STEPS < words {
         return Written::Refused(Refusal::PlanLength);
     }
     if out.len() < STEP_BYTES * words {

@@ -3,10 +3,10 @@ use mathlib.Core.Path.{_≡_, refl, sym, ap, _∙_}
 use Prim.Native.Nat.{ℕ, _≤_, _<_, _*_, _-_, _^_}
 use native.Mathlib.Omega.{arith}
 use lib.ListN.{length}
-use Rattle.rules.specs.Limits.{stepBytes}
+use Rattle.rules.specs.Limits.{stepBytes, planSteps}
 use Rattle.rules.proofs.Returns.{returns-refused, returns-written}
 use Rattle.text_words.specs.Words.{textWords}
-use Rattle.step_text.specs.Steps.{textSteps, mostWords}
+use Rattle.step_text.specs.Steps.{textSteps}
 use Rattle.step_reading.specs.Fields.{asStep}
 use Rattle.step_text.proofs.Written.{Underway, length-steps, counted, too-many, start, finish, step-more}
 use borrow.Author.Needs.{needs}
@@ -25,7 +25,7 @@ word-count-requires c κs = search needs
 returns : tie.Need-returns Inv-loop μ-loop
 returns c =
     let text = c .before .before .before .before .args .text .now in
-    let many : mostWords < length (textWords text) = rw (c .before .word-count .ensures) at (c .if1 .taken) in
+    let many : planSteps < length (textWords text) = rw (c .before .word-count .ensures) at (c .if1 .taken) in
     rw (too-many (length (textWords text)) many) (refl, refl)
 
 mul-if2 : tie.Need-mul-if2 Inv-loop μ-loop

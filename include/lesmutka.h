@@ -411,10 +411,9 @@ lesmutka_length lesmutka_read_digits(const uint8_t *text, size_t text_length, ui
  *  is written as a step whose operation is 0x02, which lesmutka_check refuses with its place.
  *
  *  Returns: the length of the plan, the bytes written: LESMUTKA_STEP_BYTES for each word.
- *           Refused: 6; nothing is written.
+ *           Refused: 7 for more words than LESMUTKA_PLAN_STEPS, then 6; nothing is written.
  *  In:      text: the text, text_length bytes; no zero byte behind it.
- *  Out:     out: room for the plan, out_length bytes. LESMUTKA_STEP_BYTES *
- *                LESMUTKA_TEXT_ROOM(text_length) is always enough.
+ *  Out:     out: room for the plan, out_length bytes. LESMUTKA_PLAN_ROOM is always enough.
  */
 lesmutka_length lesmutka_read_steps(const uint8_t *text, size_t text_length, uint8_t *out,
                                     size_t out_length);

@@ -378,6 +378,15 @@ static void words_as_text(void) {
         if (room <= ROOM)
             EXPECT(lesmutka_read_steps((const uint8_t *)text, length, lent, room).length == room);
     }
+    /* As many words as a plan has steps, and one more. */
+    static uint8_t steps_text[2 * (LESMUTKA_PLAN_STEPS + 1)], plan[LESMUTKA_PLAN_ROOM + LESMUTKA_STEP_BYTES];
+    for (size_t i = 0; i < sizeof steps_text; i++)
+        steps_text[i] = i % 2 == 0 ? 'x' : ' ';
+    memset(plan, 0xa5, sizeof plan);
+    lesmutka_length most = lesmutka_read_steps(steps_text, sizeof steps_text, plan, sizeof plan);
+    EXPECT(most.refusal == LESMUTKA_PLAN_LENGTH && most.place == 0 && most.length == 0 && plan[0] == 0xa5);
+    most = lesmutka_read_steps(steps_text, sizeof steps_text - 2, plan, sizeof plan);
+    EXPECT(most.refusal == 0 && most.length == LESMUTKA_PLAN_ROOM && plan[LESMUTKA_PLAN_ROOM] == 0xa5);
     EXPECT(lesmutka_read_digits(NULL, 0, NULL, 0).refusal == 0);
     EXPECT(lesmutka_read_steps(NULL, 0, NULL, 0).refusal == 0);
 }

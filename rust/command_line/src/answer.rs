@@ -141,11 +141,11 @@ impl Desk {
             }
             Request::Check { number, file } => {
                 let number = read_number(number, &mut self.number)?;
-                let plan = plans::read(file)?;
-                Ok(about(
-                    number,
-                    lesmutka::check(number, &plan, &mut self.space).map(Answer::Accepted),
-                ))
+                let counts = match plans::read(file)? {
+                    Ok(plan) => lesmutka::check(number, &plan, &mut self.space),
+                    Err(refusal) => Err(refusal),
+                };
+                Ok(about(number, counts.map(Answer::Accepted)))
             }
             Request::Show { .. } => unreachable!("`show` is answered by lines of its own"),
         }

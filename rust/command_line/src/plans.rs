@@ -1,5 +1,6 @@
 //! Plans as files hold them: their bytes, or their steps as text.
 use crate::answer::{is_standard, Fault, Shown};
+use lesmutka::Refusal;
 use std::ffi::OsStr;
 use std::fs::File;
 use std::io::{self, Read};
@@ -11,8 +12,9 @@ const MOST: u64 = 1 << 20;
 /// The operation that the library's reader gives a word that is no step.
 const NO_STEP: u8 = 2;
 
-/// The bytes of the plan in a file, or on standard input.
-pub fn read(file: &OsStr) -> Result<Vec<u8>, Fault> {
+/// The bytes of the plan in a file, or on standard input; a refusal if a text has more steps than a
+/// plan.
+pub fn read(file: &OsStr) -> Result<Result<Vec<u8>, Refusal>, Fault> {
     let mut bytes = Vec::new();
     let done = match is_standard(file) {
         true => io::stdin().lock().take(MOST).read_to_end(&mut bytes),
@@ -27,7 +29,7 @@ pub fn read(file: &OsStr) -> Result<Vec<u8>, Fault> {
     }
     match text_of(&bytes) {
         Some(text) => steps_of(text),
-        None => Ok(bytes),
+        None => Ok(Ok(bytes)),
     }
 }
 
@@ -44,7 +46,7 @@ fn text_of(bytes: &[u8]) -> Option<&str> {
 
 /// The bytes of the steps in a text, by the library's reader: step after step, or a line that `plan`
 /// printed.
-fn steps_of(text: &str) -> Result<Vec<u8>, Fault> {
+fn steps_of(text: &str) -> Result<Result<Vec<u8>, Refusal>, Fault> {
     let lines = text.lines().map(|line| line.split('#').next().unwrap_or(""));
     let text = lines.collect::<Vec<&str>>().join("\n");
     let steps = match text.trim_start().starts_with('{') {
@@ -65,14 +67,14 @@ fn steps_of(text: &str) -> Result<Vec<u8>, Fault> {
                 "the plan has no steps; an empty one is `none`".to_string(),
             ))
         }
-        Some("none") if words().count() == 1 => return Ok(Vec::new()),
+        Some("none") if words().count() == 1 => return Ok(Ok(Vec::new())),
         Some(_) => {}
     }
-    let mut bytes = vec![0; lesmutka::STEP_BYTES * lesmutka::text_room(steps.len())];
-    let length = lesmutka::read_steps(steps.as_bytes(), &mut bytes)
-        .expect("there is room for every text of this length")
-        .len();
-    bytes.truncate(length);
+    let mut room = [0; lesmutka::PLAN_ROOM];
+    let bytes = match lesmutka::read_steps(steps.as_bytes(), &mut room) {
+        Ok(bytes) => bytes,
+        Err(refusal) => return Ok(Err(refusal)),
+    };
     // What the reader took for no step is told by its word, which says more than the call's refusal.
     let mut read = bytes.chunks_exact(lesmutka::STEP_BYTES).zip(words());
     match read.find(|(bytes, _)| bytes[0] == NO_STEP) {
@@ -80,7 +82,7 @@ fn steps_of(text: &str) -> Result<Vec<u8>, Fault> {
             "no step of a plan, which is add(J,K) or subtract(J,K)",
             word.as_bytes(),
         )),
-        None => Ok(bytes),
+        None => Ok(Ok(bytes.to_vec())),
     }
 }
 

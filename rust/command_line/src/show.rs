@@ -10,7 +10,10 @@ use std::os::unix::ffi::OsStrExt;
 /// Puts the steps of a plan with their values, down to the first that is not sound.
 pub fn show(file: &OsStr, dot: bool, json: bool, desk: &mut Desk, out: &mut Vec<u8>) -> Result<Status, Fault> {
     let plan = plans::read(file)?;
-    let shown = Shown::new(&plan, &mut desk.space);
+    let shown = match &plan {
+        Ok(plan) => Shown::new(plan, &mut desk.space),
+        Err(refusal) => Shown::nothing(*refusal),
+    };
     let status = match shown.refusal {
         Some(_) => Status::Refused,
         None => Status::Answered,
@@ -18,7 +21,10 @@ pub fn show(file: &OsStr, dot: bool, json: bool, desk: &mut Desk, out: &mut Vec<
     if json {
         let mut fields = Fields::new(None, Some("show"), status);
         fields.file = Some(file.as_bytes());
-        fields.steps = Some(&plan[..lesmutka::STEP_BYTES * shown.steps.len()]);
+        fields.steps = plan
+            .as_ref()
+            .ok()
+            .map(|plan| &plan[..lesmutka::STEP_BYTES * shown.steps.len()]);
         fields.values = Some(shown.values);
         fields.counts = shown.counts;
         fields.refusal = shown.refusal;
@@ -44,6 +50,16 @@ struct Shown<'a> {
 }
 
 impl<'a> Shown<'a> {
+    /// A plan that is refused before its first step.
+    fn nothing(refusal: Refusal) -> Shown<'a> {
+        Shown {
+            steps: Vec::new(),
+            values: Vec::new(),
+            counts: None,
+            refusal: Some(refusal),
+        }
+    }
+
     fn new(plan: &[u8], space: &'a mut [u8]) -> Shown<'a> {
         // Whatever the number is, the check leaves the records of all sound steps. A plan that is
         // refused for its length leaves none.
@@ -56,14 +72,7 @@ impl<'a> Shown<'a> {
             Some(Refusal::MalformedStep { step } | Refusal::ValueIsZero { step } | Refusal::ValueTooLarge { step }) => {
                 step - 1
             }
-            Some(_) => {
-                return Shown {
-                    steps: Vec::new(),
-                    values: Vec::new(),
-                    counts: None,
-                    refusal,
-                }
-            }
+            Some(refusal) => return Shown::nothing(refusal),
         };
         let end: Vec<u8> = match records(space, sound).next_back() {
             Some(end) if !end.is_negative => end.size.to_vec(),

@@ -427,7 +427,10 @@ fn decimal(rng: &mut Rng) -> Tally {
 /// Words that are nearly digits or steps, with blanks between them, and room for about as many bytes as
 /// they take.
 fn words_of(rng: &mut Rng, word: fn(&mut Rng) -> Vec<u8>, bytes: usize) -> (Vec<u8>, usize) {
-    let count = rng.below(12);
+    let count = match rng.one_in(100) {
+        true => rng.between(limits::PLAN_STEPS, limits::PLAN_STEPS + 60),
+        false => rng.below(12),
+    };
     let mut text = Vec::new();
     for _ in 0..count {
         let blanks = if rng.one_in(8) { rng.below(3) } else { 1 };
@@ -548,7 +551,7 @@ fn main() {
     hexadecimal(rng).print(&[4]);
     decimal(rng).print(&[4]);
     read_digits(rng).print(&[6]);
-    read_steps(rng).print(&[6]);
+    read_steps(rng).print(&[6, 7]);
     words(rng).print(&[6]);
     println!("recoders put together by hand: {}", by_hand(rng));
     println!("differential: no difference");

@@ -265,12 +265,12 @@ pub fn read_digits<'a>(text: &[u8], out: &'a mut [i8]) -> Result<&'a [i8], Refus
 ///
 /// # Errors
 ///
-/// Refusal: 6. [`STEP_BYTES`] times [`text_room`] of the text's length is always enough.
+/// Refusals: 7 for more words than [`PLAN_STEPS`], then 6. [`PLAN_ROOM`] is always enough.
 ///
 /// ```
-/// use lesmutka::{read_steps, text_room, STEP_BYTES};
+/// use lesmutka::{read_steps, PLAN_ROOM};
 ///
-/// let mut room = [0; STEP_BYTES * text_room(17)];
+/// let mut room = [0; PLAN_ROOM];
 /// assert_eq!(read_steps(b"add(0,0) add(1,0)", &mut room)?, [0, 0, 0, 0, 0, 0, 1, 0, 0, 0]);
 /// # Ok::<(), lesmutka::Refusal>(())
 /// ```

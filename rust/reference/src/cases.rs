@@ -154,6 +154,7 @@ pub fn requests() -> String {
     requests.texts();
     requests.digit_texts();
     requests.step_texts();
+    requests.most_words();
     requests.words();
     requests.unanswered();
     requests.families();
@@ -423,6 +424,16 @@ impl Requests {
             "add(0,0) x add(0,0)",
         ] {
             self.words_into("steps", STEP_BYTES, text);
+        }
+    }
+
+    /// As many words as a plan has steps, and one more, into enough room and into none.
+    fn most_words(&mut self) {
+        self.title("The most words that are read as steps, and one more");
+        for words in [PLAN_STEPS, PLAN_STEPS + 1] {
+            for room in [PLAN_ROOM + STEP_BYTES, 0] {
+                self.line("steps", room, "x ".repeat(words).as_bytes(), "");
+            }
         }
     }
 

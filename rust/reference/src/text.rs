@@ -1,6 +1,7 @@
 //! Numbers, digits and steps from text, and the words of refusals (docs/RULES.md, "Text").
 
-use crate::limits::STEP_BYTES;
+use crate::limits::{PLAN_STEPS, STEP_BYTES};
+use crate::refusal::PLAN_LENGTH;
 use crate::{output, Refusal};
 
 /// The number of a hexadecimal text, with 0x in front or without: as many bytes as its digits take,
@@ -74,9 +75,13 @@ pub fn read_digits(text: &[u8], out: &mut [u8]) -> Result<usize, Refusal> {
     Ok(out.len())
 }
 
-/// The bytes of a text's steps; operation 2 for a word that is none.
+/// The bytes of a text's steps; operation 2 for a word that is none. Refusal 7 if there are more words
+/// than a plan has steps.
 pub fn read_steps(text: &[u8], out: &mut [u8]) -> Result<usize, Refusal> {
     let words = words_of(text);
+    if words.clone().count() > PLAN_STEPS {
+        return Err(Refusal::new(PLAN_LENGTH, 0));
+    }
     let out = output(out, STEP_BYTES * words.clone().count())?;
     for (bytes, word) in out.chunks_mut(STEP_BYTES).zip(words) {
         bytes.copy_from_slice(&step(word).unwrap_or([2, 0, 0, 0, 0]));

@@ -4,14 +4,15 @@ use mathlib.Core.List.{List, [], _∷_, _++_, map, append-assoc, append-nil}
 use Prim.Native.Nat.{ℕ, _+_, _-_, _*_, _<_, _≤_}
 use native.Mathlib.Omega.{arith}
 use borrow.Author.Tests.{lt-ltb, le-ltb}
-use lib.ListN.{length, take, drop, length-append, length-drop, length-map, take-append-drop, drop-of-length-le}
+use lib.ListN.{length, take, drop, length-append, length-drop, length-map, take-append-drop}
 use lib.Seq.{take-at, drop-at, drop-drop, length-take-le}
 use Rattle.rules.specs.Limits.{stepBytes, planSteps}
 use Rattle.rules.specs.declared.Refusal.the-variants.{PlanLength}
 use Rattle.rules.specs.declared.Verdict.the-variants.{Passed, Failed}
 use Rattle.chains.specs.Steps.{Step, stepBytesOf, planBytesOf}
 use Rattle.chains.proofs.Bytes.{length-plan}
-use Rattle.text_words.specs.Words.{ended, wordsAfter, textWords}
+use Rattle.text_words.specs.Words.{ended, textWords}
+use Rattle.text_words.proofs.Words.{next-is-first}
 use Rattle.step_text.specs.Steps.{wordStep, textSteps, countTest}
 
 -- a step for each word
@@ -35,11 +36,6 @@ length-step s = refl
 first-step : (text word rest : List ℕ) → textWords text ≡ word ∷ textWords rest → textSteps text ≡ stepBytesOf (wordStep word) ++ textSteps rest
 unfolding textSteps planBytesOf
 first-step text word rest e = ap (λ (words : List (List ℕ)). planBytesOf (map wordStep words)) e
-
--- behind the end there is no word
-none-left : (text : List ℕ) (from : ℕ) → from ≡ length text → length (textWords (drop from text)) ≡ 0
-unfolding wordsAfter
-none-left text from e = rw (drop-of-length-le text {i = from} (omega arith))
 
 -- what is written of the first n words, and what is left to read
 pub record Underway (text lent : List ℕ) (from n : ℕ) (out : List ℕ) : Type 0 where
@@ -76,14 +72,7 @@ module _ (text lent : List ℕ) (from n : ℕ) (out : List ℕ) (u : Underway te
   module _ (less : n < length (textWords text)) (first last : ℕ) (ordered : first ≤ last) (inside : last ≤ length text)
       (next : textWords (drop from text) ≡ ended (take (last - first) (drop first text)) ++ textWords (drop last text)) (empty : first ≡ last → last ≡ length text) where
     found : textWords (drop from text) ≡ take (last - first) (drop first text) ∷ textWords (drop last text)
-    found = go (take (last - first) (drop first text)) refl next
-      where
-        go : (w : List ℕ) → take (last - first) (drop first text) ≡ w → textWords (drop from text) ≡ ended w ++ textWords (drop last text) → textWords (drop from text) ≡ w ∷ textWords (drop last text)
-        go [] e f =
-            let size : length (take (last - first) (drop first text)) ≡ last - first = length-take-le (last - first) (drop first text) (omega (arith, length-drop first text)) in
-            let end : last ≡ length text = empty (omega (arith, ap length e)) in
-            absurd (omega (arith, u .words, ap length f, none-left text last end))
-        go (c ∷ w) e f = f
+    found = next-is-first text from first last ordered inside empty next (omega (arith, u .words))
 
     pub step-more : (s : Step) → s ≡ wordStep (take (last - first) (drop first text)) → {out' : List ℕ} → out' ≡ take (stepBytes * n) out ++ (stepBytesOf s ++ drop (stepBytes * n + stepBytes) out)
         → Underway text lent last (n + 1) out'

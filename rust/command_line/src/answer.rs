@@ -1,61 +1,9 @@
 //! Requests into answers, by the calls of the library.
+use crate::fault::{Fault, Shown};
 use crate::files;
 use crate::plans;
-use crate::print::Status;
-use crate::request::{Choice, Request};
+use crate::request::{is_blank, is_standard, Request};
 use lesmutka::{sys, Counts, Refusal, Value};
-use std::ffi::OsStr;
-use std::fmt;
-
-/// Why there is no answer: the request is no request, or a file or the system failed.
-#[derive(Debug)]
-pub enum Fault {
-    Malformed(String),
-    Failed(String),
-}
-
-impl Fault {
-    /// A request with this word at fault.
-    pub fn malformed(what: &str, word: &[u8]) -> Fault {
-        Fault::Malformed(format!("{}: `{}`", what, Shown(word)))
-    }
-
-    pub fn status(&self) -> Status {
-        match self {
-            Fault::Malformed(_) => Status::Malformed,
-            Fault::Failed(_) => Status::Failed,
-        }
-    }
-}
-
-impl fmt::Display for Fault {
-    fn fmt(&self, f: &mut fmt::Formatter<'_>) -> fmt::Result {
-        match self {
-            Fault::Malformed(what) | Fault::Failed(what) => f.write_str(what),
-        }
-    }
-}
-
-/// A word as it is shown: one line, of which no byte reaches a terminal as a control character, and
-/// not more than can be read.
-pub struct Shown<'a>(pub &'a [u8]);
-
-impl fmt::Display for Shown<'_> {
-    fn fmt(&self, f: &mut fmt::Formatter<'_>) -> fmt::Result {
-        const MOST: usize = 80;
-        let text = String::from_utf8_lossy(self.0);
-        for c in text.chars().take(MOST) {
-            match c.is_control() {
-                true => write!(f, "{}", c.escape_default())?,
-                false => write!(f, "{}", c)?,
-            }
-        }
-        match text.chars().nth(MOST) {
-            Some(_) => f.write_str("..."),
-            None => Ok(()),
-        }
-    }
-}
 
 /// What a call answered.
 pub enum Answer<'a> {
@@ -64,13 +12,25 @@ pub enum Answer<'a> {
     Counts(Counts),
     Plan(Counts, &'a [u8]),
     Accepted(Counts),
-    Refused(Refusal),
+    Refused(Refused),
 }
 
-/// An answer, with the number that it is about as it was read.
+/// A refusal and, where a word is behind it, that word.
+pub struct Refused {
+    pub refusal: Refusal,
+    pub word: Option<Vec<u8>>,
+}
+
+impl<'a> From<Refusal> for Answer<'a> {
+    fn from(refusal: Refusal) -> Answer<'a> {
+        Answer::Refused(Refused { refusal, word: None })
+    }
+}
+
+/// What a request came to, with the number that it is about as it was read.
 pub struct Answered<'a> {
     pub number: Option<&'a [u8]>,
-    pub answer: Answer<'a>,
+    pub outcome: Result<Answer<'a>, Fault>,
 }
 
 /// The buffers that the calls are lent, used again from request to request.
@@ -95,79 +55,83 @@ impl Desk {
         }
     }
 
-    /// The answer of the call that a request asks for. A plan that is asked for in a file is written
-    /// there before the answer comes back.
-    pub fn answer(&mut self, request: &Request) -> Result<Answered<'_>, Fault> {
-        match request {
-            Request::Recode { number } => {
-                let number = read_number(number, &mut self.number)?;
-                Ok(about(
-                    number,
-                    lesmutka::recode(number, &mut self.digits).map(Answer::Digits),
-                ))
-            }
+    /// What a request comes to. A plan that is asked for in a file is written there before the answer
+    /// comes back.
+    pub fn answer(&mut self, request: &Request) -> Answered<'_> {
+        let word = match request {
+            Request::Recode { number }
+            | Request::Forecast { number, .. }
+            | Request::Plan { number, .. }
+            | Request::Check { number, .. } => number,
             Request::Clean { digits } => {
-                let digits = read_digits(digits, &mut self.digits_in);
-                Ok(alone(lesmutka::clean(digits, &mut self.digits).map(Answer::Digits)))
+                let read = read_digits(digits, &mut self.digits_in);
+                let answer = lesmutka::clean(read, &mut self.digits).map(Answer::Digits);
+                return Answered {
+                    number: None,
+                    outcome: Ok(answer.unwrap_or_else(|refusal| refused_digits(refusal, digits))),
+                };
             }
             Request::ReadBack { digits } => {
-                let digits = read_digits(digits, &mut self.digits_in);
-                Ok(alone(lesmutka::read_back(digits, &mut self.size).map(Answer::Value)))
+                let read = read_digits(digits, &mut self.digits_in);
+                let answer = lesmutka::read_back(read, &mut self.size).map(Answer::Value);
+                return Answered {
+                    number: None,
+                    outcome: Ok(answer.unwrap_or_else(|refusal| refused_digits(refusal, digits))),
+                };
             }
-            Request::Forecast { number, choice } => {
-                let number = read_number(number, &mut self.number)?;
-                let Choice { method, width } = *choice;
-                let counts = Counts::try_from(sys::forecast(number, method, width));
-                Ok(about(number, counts.map(Answer::Counts)))
+            Request::Show { .. } => {
+                return Answered {
+                    number: None,
+                    outcome: Err(Fault::word("it stands on the command line alone", b"show")),
+                }
+            }
+        };
+        let number = match read_number(word, &mut self.number) {
+            Ok(number) => number,
+            Err(fault) => {
+                return Answered {
+                    number: None,
+                    outcome: Err(fault),
+                }
+            }
+        };
+        let outcome = match request {
+            Request::Forecast { choice, .. } => {
+                let answer = sys::forecast(number, choice.method.value, choice.width.value);
+                Ok(Counts::try_from(answer).map_or_else(Answer::from, Answer::Counts))
             }
             Request::Plan {
-                number,
-                choice,
-                file,
-                force,
+                choice, file, force, ..
             } => {
-                let number = read_number(number, &mut self.number)?;
-                let Choice { method, width } = *choice;
-                let counts = match Counts::try_from(sys::plan(number, method, width, &mut self.plan)) {
-                    Ok(counts) => counts,
-                    Err(refusal) => return Ok(about(number, Err(refusal))),
-                };
-                let plan = &self.plan[..lesmutka::STEP_BYTES * counts.total()];
-                match file {
-                    Some(file) if !is_standard(file) => files::write(file, plan, *force)?,
-                    _ => {}
+                let answer = sys::plan(number, choice.method.value, choice.width.value, &mut self.plan);
+                match (Counts::try_from(answer), file) {
+                    (Err(refusal), _) => Ok(Answer::from(refusal)),
+                    (Ok(counts), file) => {
+                        let plan = &self.plan[..lesmutka::STEP_BYTES * counts.total()];
+                        match file {
+                            Some(file) if !is_standard(file) => files::write(file, plan, *force),
+                            _ => Ok(()),
+                        }
+                        .map(|()| Answer::Plan(counts, plan))
+                    }
                 }
-                Ok(about(number, Ok(Answer::Plan(counts, plan))))
             }
-            Request::Check { number, file } => {
-                let number = read_number(number, &mut self.number)?;
-                let counts = match plans::read(file)? {
-                    Ok(plan) => lesmutka::check(number, &plan, &mut self.space),
-                    Err(refusal) => Err(refusal),
-                };
-                Ok(about(number, counts.map(Answer::Accepted)))
-            }
-            Request::Show { .. } => unreachable!("`show` is answered by lines of its own"),
+            Request::Check { file, .. } => plans::read(file).map(|plan| match plan {
+                Ok(plan) => match lesmutka::check(number, &plan.bytes, &mut self.space) {
+                    Ok(counts) => Answer::Accepted(counts),
+                    Err(refusal) => Answer::Refused(Refused {
+                        refusal,
+                        word: plan.word(refusal),
+                    }),
+                },
+                Err(refusal) => Answer::from(refusal),
+            }),
+            _ => Ok(lesmutka::recode(number, &mut self.digits).map_or_else(Answer::from, Answer::Digits)),
+        };
+        Answered {
+            number: Some(number),
+            outcome,
         }
-    }
-}
-
-/// Whether a file stands for standard input or output.
-pub fn is_standard(file: &OsStr) -> bool {
-    file == "-"
-}
-
-fn about<'a>(number: &'a [u8], answer: Result<Answer<'a>, Refusal>) -> Answered<'a> {
-    Answered {
-        number: Some(number),
-        ..alone(answer)
-    }
-}
-
-fn alone(answer: Result<Answer<'_>, Refusal>) -> Answered<'_> {
-    Answered {
-        number: None,
-        answer: answer.unwrap_or_else(Answer::Refused),
     }
 }
 
@@ -178,21 +142,13 @@ fn read_number<'a>(word: &[u8], bytes: &'a mut Vec<u8>) -> Result<&'a [u8], Faul
     if bytes.len() < room {
         bytes.resize(room, 0);
     }
-    if is_hexadecimal(word) {
+    if word.starts_with(b"0x") || word.starts_with(b"0X") {
         return match lesmutka::hexadecimal(word, bytes) {
             Some(number) => Ok(number),
-            None => Err(Fault::malformed("no hexadecimal number", word)),
+            None => Err(Fault::word("no hexadecimal number", word)),
         };
     }
-    match lesmutka::decimal(word, bytes) {
-        Ok(number) => Ok(number),
-        Err(_) => Err(no_number(word)),
-    }
-}
-
-/// Whether a word begins as a hexadecimal number does.
-fn is_hexadecimal(word: &[u8]) -> bool {
-    word.starts_with(b"0x") || word.starts_with(b"0X")
+    lesmutka::decimal(word, bytes).map_err(|_| no_number(word))
 }
 
 /// What to do about a word that is no number.
@@ -206,7 +162,7 @@ fn no_number(word: &[u8]) -> Fault {
             shown, shown
         ))
     } else {
-        Fault::malformed("no number, which is decimal, or hexadecimal with 0x", word)
+        Fault::word("no number, which is decimal, or hexadecimal with 0x", word)
     }
 }
 
@@ -219,4 +175,17 @@ fn read_digits<'a>(words: &[&[u8]], digits: &'a mut Vec<i8>) -> &'a [i8] {
         digits.resize(room, 0);
     }
     lesmutka::read_digits(&text, digits).expect("there is room for every text of this length")
+}
+
+/// A refusal of digits, with the word at its place, which counts from the last.
+fn refused_digits<'a>(refusal: Refusal, words: &[&[u8]]) -> Answer<'a> {
+    let all = words.iter().flat_map(|word| word.split(|&byte| is_blank(byte)));
+    let word = match refusal {
+        Refusal::NotADigit { place } => all.filter(|word| !word.is_empty()).rev().nth(place),
+        _ => None,
+    };
+    Answer::Refused(Refused {
+        refusal,
+        word: word.map(<[u8]>::to_vec),
+    })
 }

@@ -1,12 +1,16 @@
 //! Requests from standard input, one a line.
-use crate::answer::{is_standard, Desk, Fault};
+use crate::answer::Desk;
+use crate::fault::Fault;
 use crate::print::{Form, Status};
-use crate::request::{Request, Words};
+use crate::request::{is_blank, is_standard, Request, Words};
 use crate::{complain, put_all};
 use std::io::{self, Read, Write};
 
 /// The most bytes of a line. All that a call takes fits into it.
 pub const LINE_BYTES: usize = 8192;
+
+/// What a line may have besides: a byte order mark in front, a carriage return behind.
+const MARKS: usize = 4;
 
 /// Answers the lines of standard input. What was read is answered before more is read, so that an
 /// answer comes as soon as its line is there.
@@ -92,8 +96,7 @@ impl Batch {
     }
 
     fn keep(&mut self, part: &[u8]) {
-        // A byte more, for the carriage return of a line that is as long as it may be.
-        match self.begun.len() + part.len() > LINE_BYTES + 1 {
+        match self.begun.len() + part.len() > LINE_BYTES + MARKS {
             true => self.too_long = true,
             false => self.begun.extend_from_slice(part),
         }
@@ -110,16 +113,26 @@ impl Batch {
     /// Answers a line, unless it has no words. None is a line that is too long to be kept.
     fn answer(&mut self, line: Option<&[u8]>) {
         self.line += 1;
-        let form = Form::new(self.json, Some(self.line));
-        let answered = match line.map(|line| trimmed(line, self.line == 1)) {
-            Some(line) if line.len() <= LINE_BYTES => answer(line, self.force, &mut self.desk, &form, &mut self.out),
-            _ => Err(Fault::Malformed(format!("a line has at most {} bytes", LINE_BYTES))),
+        let line = line.map(|line| trimmed(line, self.line == 1));
+        let all: Vec<&[u8]> = line.map_or(Vec::new(), words_of);
+        if line.is_some() && all.is_empty() {
+            return;
+        }
+        let form = Form {
+            json: self.json,
+            line: Some(self.line),
         };
-        let status = match answered {
-            Ok(Some(status)) => status,
-            Ok(None) => return,
+        let mut words = Words::new(&all);
+        let verb = words.verb().map(|verb| verb.name);
+        let is_kept = line.map_or(false, |line| line.len() <= LINE_BYTES);
+        let request = match is_kept {
+            true => request(&mut words, self.force),
+            false => Err(Fault::Malformed(format!("a line has at most {} bytes", LINE_BYTES))),
+        };
+        let status = match request {
+            Ok(request) => form.answer(&request, &self.desk.answer(&request), &mut self.out),
             Err(fault) => {
-                form.fault(&fault, &mut self.out);
+                form.fault(verb, &fault, &mut self.out);
                 fault.status()
             }
         };
@@ -164,37 +177,34 @@ fn trimmed(line: &[u8], first: bool) -> &[u8] {
     }
 }
 
-/// Answers a line; no status if it has no words.
-fn answer(line: &[u8], force: bool, desk: &mut Desk, form: &Form, out: &mut Vec<u8>) -> Result<Option<Status>, Fault> {
-    let words: Vec<&[u8]> = line
-        .split(|byte| byte.is_ascii_whitespace())
+/// The words of a line, down to one that begins with #.
+fn words_of(line: &[u8]) -> Vec<&[u8]> {
+    line.split(|&byte| is_blank(byte))
         .filter(|word| !word.is_empty())
         .take_while(|word| word[0] != b'#')
-        .collect();
-    let verb = match words.first() {
-        Some(verb) => *verb,
-        None => return Ok(None),
-    };
-    if matches!(verb, b"show" | b"methods" | b"batch" | b"-" | b"help") {
-        return Err(Fault::malformed("it stands on the command line alone", verb));
-    }
-    let mut words = Words::new(&words)?;
+        .collect()
+}
+
+/// The request of a line's words. Where a plan goes into a file, `force` of the whole batch counts too.
+fn request<'a>(words: &'a mut Words<'a>, force: bool) -> Result<Request<'a>, Fault> {
     if words.json || words.dot || words.help || words.version {
         return Err(Fault::Malformed(
             "of the options a line takes --force alone".to_string(),
         ));
     }
-    // That of the whole batch is for the lines that can have it.
-    words.force |= force && verb == b"plan" && words.plain.contains(&&b"to"[..]);
-    let request = Request::new(&words)?;
-    match &request {
-        Request::Plan { file: Some(file), .. } | Request::Check { file, .. } if is_standard(file) => {
-            return Err(Fault::Malformed(
-                "`-` is no file here, since standard input holds the requests".to_string(),
-            ));
+    if let Some(&verb) = words.plain.first() {
+        if matches!(verb, b"show" | b"methods" | b"batch" | b"-" | b"help") {
+            return Err(Fault::word("it stands on the command line alone", verb));
         }
-        _ => {}
     }
-    let answer = desk.answer(&request)?;
-    Ok(Some(form.answer(&request, &answer, out)))
+    let mut request = Request::new(words)?;
+    if let Request::Plan { force: own, .. } = &mut request {
+        *own |= force;
+    }
+    match request.file() {
+        Some(file) if is_standard(file) => Err(Fault::Malformed(
+            "`-` is no file here, since standard input holds the requests".to_string(),
+        )),
+        _ => Ok(request),
+    }
 }

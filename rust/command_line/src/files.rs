@@ -1,5 +1,6 @@
 //! Files that appear whole or not at all.
-use crate::answer::{Fault, Shown};
+use crate::fault::{Fault, Shown};
+use crate::signals;
 use std::ffi::OsStr;
 use std::fs::{self, OpenOptions};
 use std::io::{self, Write};
@@ -17,6 +18,8 @@ pub fn write(file: &OsStr, bytes: &[u8], force: bool) -> Result<(), Fault> {
         Ok(_) if !force => return Err(failed("it is there already; --force replaces it")),
         _ => {}
     }
+    // Declared before the new file, which is then gone when signals come again.
+    let _held = signals::Held::new();
     let new = NewFile::create(&path, bytes).map_err(|error| failed(&error.to_string()))?;
     let placed = match force {
         true => fs::rename(&new.0, &path),

@@ -1,26 +1,36 @@
 //! What the program says about itself.
-use crate::answer::Fault;
-use crate::request::VERBS;
+use crate::fault::Fault;
+use crate::request::{Verb, VERBS};
 use std::io::Write;
 
-const WORDS: &str = "\
-NUMBER: decimal, or hexadecimal with 0x. What is written with 0x goes to the
-        call byte for byte, so leading zeros count.
-DIGITS: 0, 1 or -1 each, most significant first; the last has place 0.
-METHOD: a name or a number; `lesmutka methods` lists them.
-WIDTH:  the bits of a window.
-FILE:   a plan's bytes, or its steps as text, as `plan` prints them.
-        - is standard input, or for `plan ... to -` standard output.
-";
+/// The words of a request, by the name that its form has for them.
+const WORDS: [(&str, &str); 5] = [
+    (
+        "NUMBER",
+        "decimal, or hexadecimal with 0x. What is written with 0x goes to the\n        \
+         call byte for byte, so leading zeros count.",
+    ),
+    (
+        "DIGITS",
+        "0, 1 or -1 each, most significant first; the last has place 0.",
+    ),
+    ("METHOD", "a name or a number; `lesmutka methods` lists them."),
+    ("WIDTH", "the bits of a window."),
+    (
+        "FILE",
+        "a plan: its bytes, or its steps as text, as `plan` prints them.\n        \
+         - is standard input, or for `plan ... to -` standard output.",
+    ),
+];
 
-const OPTIONS: &str = "\
---json     one object a line, the same fields everywhere
---force    plan ... to FILE replaces a file that is there
---dot      show: the chain as a graph for Graphviz
---help -h  this text, or that of a request
---version  the version of the library that is linked
---         no word behind it is an option
-";
+const OPTIONS: [(&str, &str); 6] = [
+    ("--json", "one object a line, the same fields everywhere"),
+    ("--force", "plan ... to FILE replaces a file that is there"),
+    ("--dot", "show: the chain as a graph for Graphviz"),
+    ("--help", "or -h: this text, or that of a request"),
+    ("--version", "the version of the library that is linked"),
+    ("--", "no word behind it is an option"),
+];
 
 const STATUS: &str = "\
 Exit status: 0 answered, 1 refused, 2 malformed request, 3 a file or the
@@ -34,41 +44,54 @@ all lines; --force may also stand on a line. A closing line on standard error
 says how many requests there were.
 ";
 
-/// The forms of all requests.
-pub fn summary(out: &mut Vec<u8>) {
+fn put_words(out: &mut Vec<u8>, is_meant: impl Fn(&str) -> bool) {
+    for (name, about) in WORDS.iter().filter(|(name, _)| is_meant(name)) {
+        let _ = writeln!(out, "{:<7} {}", format!("{}:", name), about);
+    }
+}
+
+fn put_options(out: &mut Vec<u8>, is_meant: impl Fn(&str) -> bool) {
+    for (name, about) in OPTIONS.iter().filter(|(name, _)| is_meant(name)) {
+        let _ = writeln!(out, "{:<10} {}", name, about);
+    }
+}
+
+/// All requests.
+fn put_summary(out: &mut Vec<u8>) {
     let _ = writeln!(out, "usage: lesmutka REQUEST [OPTIONS]\n");
     for verb in &VERBS {
         let _ = writeln!(out, "  {}\n      {}", verb.form(), verb.about);
     }
     let _ = writeln!(out, "  help [REQUEST]\n      this text, or that of a request\n");
-    let _ = writeln!(out, "{}\n{}\n{}", WORDS, OPTIONS, STATUS.trim_end());
+    put_words(out, |_| true);
+    out.push(b'\n');
+    put_options(out, |_| true);
+    let _ = write!(out, "\n{}", STATUS);
 }
 
 /// What is asked about: a request, or all of them.
-pub fn about(words: &[&[u8]], out: &mut Vec<u8>) -> Result<(), Fault> {
+pub fn put_help(words: &[&[u8]], out: &mut Vec<u8>) -> Result<(), Fault> {
     let verb = match words {
         [] | [b"help"] => {
-            summary(out);
+            put_summary(out);
             return Ok(());
         }
-        [b"-"] => b"batch",
-        [verb, ..] => *verb,
-    };
-    let verb = match VERBS.iter().find(|known| known.name.as_bytes() == verb) {
-        Some(known) => known,
-        None => return Err(Fault::malformed("no such request", verb)),
+        [verb] => Verb::named(verb).ok_or_else(|| Fault::word("no such request", verb))?,
+        [_, more, ..] => return Err(Fault::word("too many words", more)),
     };
     let _ = writeln!(out, "usage: lesmutka {}\n", verb.form());
-    let _ = writeln!(out, "{}{}.", verb.about[..1].to_uppercase(), &verb.about[1..]);
-    match verb.name {
-        "batch" => out.extend_from_slice(format!("\n{}", BATCH).as_bytes()),
-        "methods" => {}
-        _ => out.extend_from_slice(format!("\n{}", WORDS).as_bytes()),
+    let _ = writeln!(out, "{}{}.\n", verb.about[..1].to_uppercase(), &verb.about[1..]);
+    if verb.name == "batch" {
+        let _ = writeln!(out, "{}", BATCH);
     }
+    put_words(out, |name| verb.words.contains(name));
+    put_options(out, |name| {
+        name == "--json" || (name != "--" && verb.words.contains(name))
+    });
     Ok(())
 }
 
-pub fn version(out: &mut Vec<u8>) {
+pub fn put_version(out: &mut Vec<u8>) {
     let version = lesmutka::version();
     let (major, minor, patch) = (version / 10000, version / 100 % 100, version % 100);
     let _ = writeln!(out, "lesmutka {}.{}.{}", major, minor, patch);

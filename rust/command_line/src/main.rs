@@ -5,15 +5,20 @@
 //! all other words stand in lists and are compared whole.
 mod answer;
 mod batch;
+mod choice;
+mod fault;
 mod files;
 mod help;
+mod json;
 mod plans;
 mod print;
 mod request;
 mod show;
+mod signals;
 mod steps;
 
-use answer::{Desk, Fault};
+use answer::Desk;
+use fault::Fault;
 use print::{Form, Status};
 use request::{Request, Words};
 use std::env;
@@ -22,10 +27,19 @@ use std::os::unix::ffi::OsStringExt;
 use std::process;
 
 fn main() {
+    signals::ignore_file_size();
     let arguments: Vec<Vec<u8>> = env::args_os().skip(1).map(|word| word.into_vec()).collect();
-    let words: Vec<&[u8]> = arguments.iter().map(|word| word.as_slice()).collect();
+    let all: Vec<&[u8]> = arguments.iter().map(|word| word.as_slice()).collect();
+    let words = Words::new(&all);
     let mut out = Vec::new();
-    let status = run(&words, &mut out).unwrap_or_else(|fault| complain(&fault));
+    // A fault is told on standard error and, with --json, as an object too.
+    let status = run(&words, &mut out).unwrap_or_else(|fault| {
+        if words.json && out.is_empty() {
+            let form = Form { json: true, line: None };
+            form.fault(words.verb().map(|verb| verb.name), &fault, &mut out);
+        }
+        complain(&fault)
+    });
     let status = match put_all(&out) {
         Ok(_) => status,
         Err(fault) => status.max(complain(&fault)),
@@ -34,47 +48,56 @@ fn main() {
 }
 
 /// Answers the words of the command line.
-fn run(words: &[&[u8]], out: &mut Vec<u8>) -> Result<Status, Fault> {
-    let words = Words::new(words)?;
+fn run(words: &Words, out: &mut Vec<u8>) -> Result<Status, Fault> {
     match words.plain.as_slice() {
-        plain if words.help => help::about(plain, out)?,
-        _ if words.version => help::version(out),
-        [] => {
-            let mut summary = Vec::new();
-            help::summary(&mut summary);
-            let _ = io::stderr().write_all(&summary);
-            return Ok(Status::Malformed);
+        plain if words.help => help::put_help(plain, out)?,
+        _ if words.version => {
+            words.check_length(0)?;
+            help::put_version(out);
         }
-        [b"help", about @ ..] => help::about(about, out)?,
-        [b"methods"] => print::methods(words.json, out),
-        [b"batch" | b"-"] => return Ok(batch::run(&words)),
-        _ => return Ok(one(&words, out)),
+        [b"help", about @ ..] => help::put_help(about, out)?,
+        [b"methods"] => {
+            words.check_options(false, false)?;
+            print::put_methods(words.json, out);
+        }
+        [b"batch" | b"-"] => {
+            words.check_options(true, false)?;
+            return Ok(batch::run(words));
+        }
+        _ => return answer(words, out),
     }
     Ok(Status::Answered)
 }
 
-/// Answers one request. A fault is told on standard error and, with --json, as an object too.
-fn one(words: &Words, out: &mut Vec<u8>) -> Status {
-    answered(words, out).unwrap_or_else(|fault| {
-        if words.json {
-            Form::new(true, None).fault(&fault, out);
-        }
-        complain(&fault)
-    })
-}
-
-fn answered(words: &Words, out: &mut Vec<u8>) -> Result<Status, Fault> {
+/// Answers one request.
+fn answer(words: &Words, out: &mut Vec<u8>) -> Result<Status, Fault> {
     let mut desk = Desk::new();
     let request = Request::new(words)?;
     if let Request::Show { file, dot } = request {
         return show::show(file, dot, words.json, &mut desk, out);
     }
-    let status = Form::new(words.json, None).answer(&request, &desk.answer(&request)?, out);
-    if status == Status::Refused && request.is_to_standard_output() {
-        let _ = io::stderr().write_all(out);
-        out.clear();
+    let form = Form {
+        json: words.json,
+        line: None,
+    };
+    let answered = desk.answer(&request);
+    let status = form.answer(&request, &answered, out);
+    match answered.outcome {
+        Err(fault) => {
+            // In words it is told on standard error alone.
+            if !words.json {
+                out.clear();
+            }
+            Err(fault)
+        }
+        Ok(_) => {
+            if status == Status::Refused && request.is_to_standard_output() {
+                let _ = io::stderr().write_all(out);
+                out.clear();
+            }
+            Ok(status)
+        }
     }
-    Ok(status)
 }
 
 /// Tells a fault in one line on standard error.

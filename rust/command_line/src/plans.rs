@@ -1,101 +1,167 @@
 //! Plans as files hold them: their bytes, or their steps as text.
-use crate::answer::{is_standard, Fault, Shown};
-use lesmutka::Refusal;
+use crate::fault::{Fault, Shown};
+use crate::request::{is_blank, is_standard};
+use lesmutka::{Refusal, PLAN_ROOM, STEP_BYTES};
 use std::ffi::OsStr;
 use std::fs::File;
 use std::io::{self, Read};
 use std::os::unix::ffi::OsStrExt;
 
-/// More than any plan has, in bytes or as text. A longer one is refused for its length all the same.
-const MOST: u64 = 1 << 20;
+/// More bytes than any plan has, as bytes or as text with many comments.
+const MOST: usize = 1 << 20;
 
 /// The operation that the library's reader gives a word that is no step.
 const NO_STEP: u8 = 2;
 
-/// The bytes of the plan in a file, or on standard input; a refusal if a text has more steps than a
-/// plan.
-pub fn read(file: &OsStr) -> Result<Result<Vec<u8>, Refusal>, Fault> {
-    let mut bytes = Vec::new();
-    let done = match is_standard(file) {
-        true => io::stdin().lock().take(MOST).read_to_end(&mut bytes),
-        false => File::open(file).and_then(|opened| opened.take(MOST).read_to_end(&mut bytes)),
-    };
-    if let Err(error) = done {
+/// A plan as it was read, with the text of its steps if it was text.
+pub struct Plan {
+    pub bytes: Vec<u8>,
+    text: Option<String>,
+}
+
+impl Plan {
+    /// The word at a step that is refused because its word is no step.
+    pub fn word(&self, refusal: Refusal) -> Option<Vec<u8>> {
+        let step = match refusal {
+            Refusal::MalformedStep { step } => step - 1,
+            _ => return None,
+        };
+        let word = words(self.text.as_ref()?).nth(step)?;
+        Some(word.to_vec()).filter(|_| self.bytes.get(STEP_BYTES * step) == Some(&NO_STEP))
+    }
+}
+
+/// The plan in a file, or on standard input; a refusal if a text has more steps than a plan.
+pub fn read(file: &OsStr) -> Result<Result<Plan, Refusal>, Fault> {
+    let bytes = all_of(file).map_err(|error| {
         let name = match is_standard(file) {
             true => "standard input".to_string(),
             false => Shown(file.as_bytes()).to_string(),
         };
-        return Err(Fault::Failed(format!("cannot read {}: {}", name, error)));
-    }
+        Fault::Failed(format!("cannot read {}: {}", name, error))
+    })?;
     match text_of(&bytes) {
+        Some(_) if bytes.len() > MOST => Err(Fault::Malformed(format!(
+            "the plan's text has more than {} bytes",
+            MOST
+        ))),
         Some(text) => steps_of(text),
-        None => Ok(Ok(bytes)),
+        // One that is longer than was read is refused for its length all the same.
+        None => Ok(Ok(Plan { bytes, text: None })),
     }
+}
+
+/// The bytes of a file, but for those past the limit and one more.
+fn all_of(file: &OsStr) -> io::Result<Vec<u8>> {
+    let mut bytes = Vec::new();
+    let most = MOST as u64 + 1;
+    match is_standard(file) {
+        true => io::stdin().lock().take(most).read_to_end(&mut bytes)?,
+        false => File::open(file)?.take(most).read_to_end(&mut bytes)?,
+    };
+    Ok(bytes)
 }
 
 /// The text that a file holds, if it is one. A plan's first byte is 0 or 1, which no text has.
 fn text_of(bytes: &[u8]) -> Option<&str> {
     let text = std::str::from_utf8(bytes).ok()?;
     let text = text.strip_prefix('\u{feff}').unwrap_or(text);
-    let is_text = |c: char| !c.is_control() || c.is_ascii_whitespace();
+    let is_text = |c: char| !c.is_control() || (c.is_ascii() && is_blank(c as u8));
     match !text.is_empty() && text.chars().all(is_text) {
         true => Some(text),
         false => None,
     }
 }
 
-/// The bytes of the steps in a text, by the library's reader: step after step, or a line that `plan`
-/// printed.
-fn steps_of(text: &str) -> Result<Result<Vec<u8>, Refusal>, Fault> {
-    let lines = text.lines().map(|line| line.split('#').next().unwrap_or(""));
-    let text = lines.collect::<Vec<&str>>().join("\n");
+fn words(text: &str) -> impl Iterator<Item = &[u8]> {
+    text.as_bytes()
+        .split(|&byte| is_blank(byte))
+        .filter(|word| !word.is_empty())
+}
+
+/// The steps in a text, by the library's reader: word after word, or a line that `plan` printed.
+fn steps_of(text: &str) -> Result<Result<Plan, Refusal>, Fault> {
+    let text = without_comments(text);
     let steps = match text.trim_start().starts_with('{') {
         true => steps_of_object(&text)?,
         false => match text.split_once("steps:") {
-            Some((_, steps)) => steps.to_string(),
-            None => text,
+            Some((before, steps)) if is_answer(before) => steps.to_string(),
+            _ => text,
         },
     };
-    let words = || {
-        steps
-            .split(|c: char| c.is_ascii_whitespace())
-            .filter(|word| !word.is_empty())
-    };
-    match words().next() {
+    match words(&steps).next() {
         None => {
             return Err(Fault::Malformed(
                 "the plan has no steps; an empty one is `none`".to_string(),
             ))
         }
-        Some("none") if words().count() == 1 => return Ok(Ok(Vec::new())),
+        Some(b"none") if words(&steps).count() == 1 => {
+            return Ok(Ok(Plan {
+                bytes: Vec::new(),
+                text: None,
+            }))
+        }
         Some(_) => {}
     }
-    let mut room = [0; lesmutka::PLAN_ROOM];
-    let bytes = match lesmutka::read_steps(steps.as_bytes(), &mut room) {
-        Ok(bytes) => bytes,
-        Err(refusal) => return Ok(Err(refusal)),
-    };
-    // What the reader took for no step is told by its word, which says more than the call's refusal.
-    let mut read = bytes.chunks_exact(lesmutka::STEP_BYTES).zip(words());
-    match read.find(|(bytes, _)| bytes[0] == NO_STEP) {
-        Some((_, word)) => Err(Fault::malformed(
-            "no step of a plan, which is add(J,K) or subtract(J,K)",
-            word.as_bytes(),
-        )),
-        None => Ok(Ok(bytes.to_vec())),
-    }
+    let mut room = [0; PLAN_ROOM];
+    Ok(lesmutka::read_steps(steps.as_bytes(), &mut room).map(|bytes| Plan {
+        bytes: bytes.to_vec(),
+        text: Some(steps.clone()),
+    }))
 }
 
-/// The steps of a JSON object that `plan` printed, with blanks between them.
+/// A text without what stands behind a word that begins with #, to the end of its line.
+fn without_comments(text: &str) -> String {
+    let line = |line: &str| -> String {
+        let is_start = |&(at, _): &(usize, &str)| at == 0 || is_blank(line.as_bytes()[at - 1]);
+        match line.match_indices('#').find(is_start) {
+            Some((at, _)) => line[..at].to_string(),
+            None => line.to_string(),
+        }
+    };
+    text.lines().map(line).collect::<Vec<String>>().join("\n")
+}
+
+/// Whether this is what `plan` prints before `steps:`, or nothing.
+fn is_answer(before: &str) -> bool {
+    let before = before.trim();
+    before.is_empty() || (before.ends_with("subtractions;") && !before.contains('\n'))
+}
+
+/// The steps of the JSON object that `plan` printed, with blanks between them.
 fn steps_of_object(text: &str) -> Result<String, Fault> {
-    let list = text
-        .split_once("\"steps\"")
-        .and_then(|(_, rest)| rest.trim_start().strip_prefix(':')?.trim_start().strip_prefix('['))
-        .and_then(|rest| rest.split_once(']'));
-    match list {
-        Some((list, _)) if list.trim().is_empty() => Ok("none".to_string()),
-        // Every second part between quotes is a step; the others are commas and blanks.
-        Some((list, _)) => Ok(list.split('"').skip(1).step_by(2).collect::<Vec<&str>>().join(" ")),
-        None => Err(Fault::Malformed("the object has no steps".to_string())),
+    let no_steps = || Fault::Malformed("no object of a plan, which has one list of steps".to_string());
+    let (_, rest) = text.split_once("\"steps\"").ok_or_else(no_steps)?;
+    let list = rest
+        .trim_start()
+        .strip_prefix(':')
+        .and_then(|rest| rest.trim_start().strip_prefix('['));
+    let (list, rest) = list.and_then(|list| list.split_once(']')).ok_or_else(no_steps)?;
+    let is_one = !rest.contains("\"steps\"") && rest.trim_end().ends_with('}');
+    if !is_one {
+        return Err(no_steps());
+    }
+    if list.trim().is_empty() {
+        return Ok("none".to_string());
+    }
+    // Between the quotes stand steps and, in their turn, commas.
+    let parts: Vec<&str> = list.split('"').map(str::trim).collect();
+    let is_list = parts.len() % 2 == 1
+        && parts[0].is_empty()
+        && parts[parts.len() - 1].is_empty()
+        && parts[1..parts.len() - 1]
+            .iter()
+            .skip(1)
+            .step_by(2)
+            .all(|comma| *comma == ",");
+    match is_list {
+        true => Ok(parts
+            .iter()
+            .skip(1)
+            .step_by(2)
+            .copied()
+            .collect::<Vec<&str>>()
+            .join(" ")),
+        false => Err(no_steps()),
     }
 }

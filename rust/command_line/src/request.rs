@@ -1,70 +1,91 @@
 //! Words into requests.
-use crate::answer::{is_standard, Fault};
-use lesmutka::Method;
+use crate::choice::Choice;
+use crate::fault::{Fault, Shown};
 use std::ffi::OsStr;
 use std::os::unix::ffi::OsStrExt;
 
-/// A request: its first word, the form of the words behind it, and what it is about.
+/// A request: its first word, the form of the words behind it, how many words it has at most, and what
+/// it is about.
 pub struct Verb {
     pub name: &'static str,
-    form: &'static str,
+    pub words: &'static str,
+    most: usize,
     pub about: &'static str,
 }
 
 impl Verb {
-    /// The whole form.
+    /// The verb that a word is; `-` stands for batch.
+    pub fn named(word: &[u8]) -> Option<&'static Verb> {
+        let word = if word == b"-" { b"batch" } else { word };
+        VERBS.iter().find(|verb| verb.name.as_bytes() == word)
+    }
+
     pub fn form(&self) -> String {
-        format!("{} {}", self.name, self.form).trim_end().to_string()
+        format!("{} {}", self.name, self.words).trim_end().to_string()
     }
 }
 
-pub const VERBS: [Verb; 9] = [
+pub static VERBS: [Verb; 9] = [
     Verb {
         name: "recode",
-        form: "NUMBER",
+        words: "NUMBER",
+        most: 2,
         about: "the canonical digits of a number, its non-adjacent form (NAF)",
     },
     Verb {
         name: "clean",
-        form: "DIGITS...",
+        words: "DIGITS...",
+        most: usize::MAX,
         about: "the canonical digits of the value of a digit string",
     },
     Verb {
         name: "read-back",
-        form: "DIGITS...",
+        words: "DIGITS...",
+        most: usize::MAX,
         about: "the value of a digit string",
     },
     Verb {
         name: "forecast",
-        form: "NUMBER METHOD [WIDTH]",
+        words: "NUMBER METHOD [WIDTH]",
+        most: 4,
         about: "how many steps of each kind the plan for a number has",
     },
     Verb {
         name: "plan",
-        form: "NUMBER METHOD [WIDTH] [to FILE] [--force]",
+        words: "NUMBER METHOD [WIDTH] [to FILE] [--force]",
+        most: 6,
         about: "the plan for a number by a method, printed or written to a file",
     },
     Verb {
         name: "check",
-        form: "NUMBER FILE",
+        words: "NUMBER FILE",
+        most: 3,
         about: "whether a plan is sound and ends at the number",
     },
     Verb {
         name: "show",
-        form: "FILE [--dot]",
+        words: "FILE [--dot]",
+        most: 2,
         about: "the steps of a plan with their values",
     },
     Verb {
         name: "methods",
-        form: "",
+        words: "",
+        most: 1,
         about: "the methods and the widths that they take",
     },
     Verb {
         name: "batch",
-        form: "",
+        words: "[--force]",
+        most: 1,
         about: "requests from standard input, one a line; `lesmutka -` is the same",
     },
 ];
+
+/// What separates words: the blanks of the library's readers.
+pub fn is_blank(byte: u8) -> bool {
+    byte == b' ' || (b'\t'..=b'\r').contains(&byte)
+}
 
 /// The words without the options, and the options.
 #[derive(Default)]
@@ -75,36 +96,53 @@ pub struct Words<'a> {
     pub dot: bool,
     pub help: bool,
     pub version: bool,
+    unknown: Option<&'a [u8]>,
 }
 
 impl<'a> Words<'a> {
     /// Behind `--` no word is an option.
-    pub fn new(words: &[&'a [u8]]) -> Result<Words<'a>, Fault> {
-        let mut sorted = Words::default();
+    pub fn new(all: &[&'a [u8]]) -> Words<'a> {
+        let mut words = Words::default();
         let mut options = true;
-        for &word in words {
+        for &word in all {
             match word {
                 b"--" if options => options = false,
-                b"-h" | b"--help" if options => sorted.help = true,
-                b"--version" if options => sorted.version = true,
-                b"--json" if options => sorted.json = true,
-                b"--force" if options => sorted.force = true,
-                b"--dot" if options => sorted.dot = true,
-                _ if options && word.starts_with(b"--") => {
-                    return Err(Fault::malformed("no such option", word));
-                }
-                _ => sorted.plain.push(word),
+                b"-h" | b"--help" if options => words.help = true,
+                b"--version" if options => words.version = true,
+                b"--json" if options => words.json = true,
+                b"--force" if options => words.force = true,
+                b"--dot" if options => words.dot = true,
+                _ if options && word.starts_with(b"--") => words.unknown = words.unknown.or(Some(word)),
+                _ => words.plain.push(word),
             }
         }
-        Ok(sorted)
+        words
     }
-}
 
-/// A method and a width as they were asked for; 0 if there is no width.
-#[derive(Clone, Copy)]
-pub struct Choice {
-    pub method: u32,
-    pub width: u32,
+    /// The verb, if the first word is one.
+    pub fn verb(&self) -> Option<&'static Verb> {
+        self.plain.first().and_then(|word| Verb::named(word))
+    }
+
+    /// No option is there that is none, or that this has no use for.
+    pub fn check_options(&self, force: bool, dot: bool) -> Result<(), Fault> {
+        match self.unknown {
+            Some(word) => Err(Fault::word("no such option", word)),
+            None if self.force && !force => {
+                Err(Fault::Malformed("--force is for `plan ... to FILE` alone".to_string()))
+            }
+            None if self.dot && !dot => Err(Fault::Malformed("--dot is for `show` alone".to_string())),
+            None => Ok(()),
+        }
+    }
+
+    /// There are at most this many words.
+    pub fn check_length(&self, most: usize) -> Result<(), Fault> {
+        match self.plain.get(most) {
+            Some(word) => Err(Fault::word("too many words", word)),
+            None => Ok(()),
+        }
+    }
 }
 
 /// What is asked for. Numbers and digits are still words.
@@ -120,11 +158,11 @@ pub enum Request<'a> {
     },
     Forecast {
         number: &'a [u8],
-        choice: Choice,
+        choice: Choice<'a>,
     },
     Plan {
         number: &'a [u8],
-        choice: Choice,
+        choice: Choice<'a>,
         file: Option<&'a OsStr>,
         force: bool,
     },
@@ -140,64 +178,74 @@ pub enum Request<'a> {
 
 impl<'a> Request<'a> {
     pub fn new(words: &'a Words<'a>) -> Result<Request<'a>, Fault> {
-        let (verb, rest) = match words.plain.split_first() {
-            Some((verb, rest)) => (*verb, rest),
-            None => return Err(Fault::Malformed("no request".to_string())),
-        };
-        let request = match (verb, rest) {
-            (b"recode", [number]) => Request::Recode { number },
-            (b"clean", digits) => Request::Clean { digits },
-            (b"read-back", digits) => Request::ReadBack { digits },
-            (b"forecast", [number, choice @ ..]) if !choice.is_empty() => Request::Forecast {
-                number,
-                choice: choice_of(choice)?,
-            },
-            (b"plan", [number, choice @ .., to, file]) if !choice.is_empty() && *to == b"to" => Request::Plan {
-                number,
-                choice: choice_of(choice)?,
-                file: Some(file_of(file)?),
-                force: words.force,
-            },
-            (b"plan", [number, choice @ ..]) if !choice.is_empty() => Request::Plan {
-                number,
-                choice: choice_of(choice)?,
-                file: None,
-                force: false,
-            },
-            (b"check", [number, file]) => Request::Check {
-                number,
-                file: file_of(file)?,
-            },
-            (b"show", [file]) => Request::Show {
-                file: file_of(file)?,
-                dot: words.dot,
-            },
-            _ => return Err(no_request(verb)),
-        };
-        match request.misplaced(words) {
-            Some(what) => Err(Fault::Malformed(what.to_string())),
-            None => Ok(request),
+        let request = Request::read(words)?;
+        let to_file = matches!(request, Request::Plan { file: Some(_), .. });
+        words.check_options(to_file, matches!(request, Request::Show { .. }))?;
+        if words.dot && words.json {
+            return Err(Fault::Malformed(
+                "--dot and --json are two forms of one answer".to_string(),
+            ));
         }
+        if words.json && request.is_to_standard_output() {
+            let what = "with `to -` standard output holds the plan's bytes, and no JSON";
+            return Err(Fault::Malformed(what.to_string()));
+        }
+        Ok(request)
     }
 
-    /// An option that the request does not have.
-    fn misplaced(&self, words: &Words) -> Option<&'static str> {
-        if words.force && !matches!(self, Request::Plan { file: Some(_), .. }) {
-            Some("--force is for `plan ... to FILE` alone")
-        } else if words.dot && !matches!(self, Request::Show { .. }) {
-            Some("--dot is for `show` alone")
-        } else if words.dot && words.json {
-            Some("--dot and --json are two forms of one answer")
-        } else if words.json && self.is_to_standard_output() {
-            Some("with `to -` standard output holds the plan's bytes, and no JSON")
-        } else {
-            None
+    fn read(words: &'a Words<'a>) -> Result<Request<'a>, Fault> {
+        match words.plain.as_slice() {
+            [b"recode", number] => Ok(Request::Recode { number }),
+            [b"clean", digits @ ..] => Ok(Request::Clean { digits }),
+            [b"read-back", digits @ ..] => Ok(Request::ReadBack { digits }),
+            [b"forecast", number, choice @ ..] if !choice.is_empty() => Ok(Request::Forecast {
+                number,
+                choice: Choice::read(choice)?,
+            }),
+            [b"plan", number, rest @ ..] if !rest.is_empty() => {
+                let to = rest.iter().position(|&word| word == b"to");
+                Ok(Request::Plan {
+                    number,
+                    choice: Choice::read(&rest[..to.unwrap_or(rest.len())])?,
+                    file: match to {
+                        Some(to) => Some(file_behind_to(&rest[to + 1..])?),
+                        None => None,
+                    },
+                    force: words.force,
+                })
+            }
+            [b"check", number, file] => Ok(Request::Check {
+                number,
+                file: file_of(file)?,
+            }),
+            [b"show", file] => Ok(Request::Show {
+                file: file_of(file)?,
+                dot: words.dot,
+            }),
+            plain => Err(no_request(plain)),
         }
     }
 
     /// Whether standard output is for a plan's bytes.
     pub fn is_to_standard_output(&self) -> bool {
         matches!(self, Request::Plan { file: Some(file), .. } if is_standard(file))
+    }
+
+    /// The method that is asked for, if one is.
+    pub fn choice(&self) -> Option<Choice<'a>> {
+        match self {
+            Request::Forecast { choice, .. } | Request::Plan { choice, .. } => Some(*choice),
+            _ => None,
+        }
+    }
+
+    /// The file that is written or read, if one is.
+    pub fn file(&self) -> Option<&'a OsStr> {
+        match self {
+            Request::Plan { file, .. } => *file,
+            Request::Check { file, .. } | Request::Show { file, .. } => Some(file),
+            _ => None,
+        }
     }
 
     pub fn verb(&self) -> &'static str {
@@ -213,14 +261,34 @@ impl<'a> Request<'a> {
     }
 }
 
-/// A verb that is none, or one with the wrong words behind it.
-fn no_request(verb: &[u8]) -> Fault {
-    match VERBS.iter().find(|known| known.name.as_bytes() == verb) {
-        Some(known) => Fault::Malformed(format!("the form is: {}", known.form())),
+/// Whether a file stands for standard input or output.
+pub fn is_standard(file: &OsStr) -> bool {
+    file == "-"
+}
+
+/// Words that are no request: none, a verb that is none, or the wrong words behind one.
+fn no_request(words: &[&[u8]]) -> Fault {
+    let first = match words.first() {
+        Some(first) => first,
+        None => return Fault::Malformed("no request; `lesmutka help` lists them".to_string()),
+    };
+    match Verb::named(first) {
+        Some(verb) => Fault::Malformed(match words.get(verb.most) {
+            Some(word) => format!("too many words: `{}`; the form is: {}", Shown(word), verb.form()),
+            None => format!("words are missing; the form is: {}", verb.form()),
+        }),
         None => {
-            let names: Vec<&str> = VERBS.iter().map(|known| known.name).collect();
-            Fault::malformed(&format!("no such request ({})", names.join(", ")), verb)
+            let names: Vec<&str> = VERBS.iter().map(|verb| verb.name).collect();
+            Fault::word(&format!("no such request ({})", names.join(", ")), first)
         }
+    }
+}
+
+fn file_behind_to<'a>(words: &[&'a [u8]]) -> Result<&'a OsStr, Fault> {
+    match words {
+        [file] => file_of(file),
+        [] => Err(Fault::Malformed("the file is missing behind `to`".to_string())),
+        [_, more, ..] => Err(Fault::word("too many words", more)),
     }
 }
 
@@ -228,55 +296,5 @@ fn file_of(word: &[u8]) -> Result<&OsStr, Fault> {
     match word.is_empty() {
         true => Err(Fault::Malformed("the name of the file is empty".to_string())),
         false => Ok(OsStr::from_bytes(word)),
-    }
-}
-
-/// A method by its name or number, and a width if there is one.
-fn choice_of(words: &[&[u8]]) -> Result<Choice, Fault> {
-    let (method, width) = match words {
-        [method] => (*method, None),
-        [method, width] => (*method, Some(*width)),
-        [_, _, more, ..] => return Err(Fault::malformed("a method has one width and no more words", more)),
-        [] => return Err(Fault::Malformed("no method".to_string())),
-    };
-    let named = Method::ALL
-        .iter()
-        .find(|choice| choice.name().as_bytes().eq_ignore_ascii_case(method));
-    let method = match named {
-        Some(choice) => choice.number(),
-        None => {
-            small(method).ok_or_else(|| Fault::malformed(&format!("no such method ({})", method_names()), method))?
-        }
-    };
-    let width = match width {
-        Some(word) => small(word).ok_or_else(|| Fault::malformed("no width, which is a decimal number", word))?,
-        None => 0,
-    };
-    Ok(Choice { method, width })
-}
-
-/// The names of the methods, each once.
-pub fn method_names() -> String {
-    let mut names: Vec<&str> = Method::ALL.iter().map(|choice| choice.name()).collect();
-    names.dedup();
-    names.join(", ")
-}
-
-/// A decimal number. One above 32 bits becomes the highest of 32 bits, which is no method and no width
-/// either.
-fn small(word: &[u8]) -> Option<u32> {
-    let mut room = [0; 64];
-    match lesmutka::decimal(word, &mut room) {
-        Ok(bytes) => match bytes {
-            [] => Some(0),
-            [a] => Some(u32::from(*a)),
-            [a, b] => Some(u32::from_le_bytes([*a, *b, 0, 0])),
-            [a, b, c] => Some(u32::from_le_bytes([*a, *b, *c, 0])),
-            [a, b, c, d] => Some(u32::from_le_bytes([*a, *b, *c, *d])),
-            _ => Some(u32::MAX),
-        },
-        // Digits alone, more than there is room for.
-        Err(digits) if digits == word.len() && digits > 0 => Some(u32::MAX),
-        Err(_) => None,
     }
 }

@@ -179,6 +179,53 @@ fn a_file_that_cannot_be_written_whole() {
     assert_eq!(folder.read("old"), b"old");
 }
 
+/// A name that is no UTF-8 can be told apart in JSON: its bytes are lone surrogates.
+#[test]
+fn names_that_are_no_text() {
+    use std::ffi::OsStr;
+    use std::os::unix::ffi::OsStrExt;
+    let folder = Folder::new();
+    let mut command = common::program();
+    command
+        .args(["plan", "3", "1", "--json", "to"])
+        .arg(OsStr::from_bytes(b"a\xff\xfe\"\xc3\xa9"));
+    let ended = common::ended(command.current_dir(folder.path()), b"");
+    assert!(
+        ended.text().contains("\"file\":\"a\\udcff\\udcfe\\\"\u{e9}\""),
+        "{}",
+        ended.text()
+    );
+}
+
+/// A signal while a file is written: the file is there whole, or not at all, and no other is left.
+#[test]
+fn signals() {
+    use std::io::Write;
+    let folder = Folder::new();
+    for i in 0..20 {
+        let mut child = common::started(common::program().args(["batch", "--force"]).current_dir(folder.path()));
+        let mut stdin = child.stdin.take().expect("standard input");
+        let writer = std::thread::spawn(move || {
+            let _ = stdin.write_all("plan 3 1 to x\n".repeat(100_000).as_bytes());
+        });
+        std::thread::sleep(std::time::Duration::from_millis(10 + i));
+        let name = ["-INT", "-TERM", "-HUP"][i as usize % 3];
+        let sent = Command::new("kill")
+            .args([name, &child.id().to_string()])
+            .status()
+            .expect("kill");
+        assert!(sent.success());
+        assert_eq!(
+            child.wait().expect("the program ends").code(),
+            None,
+            "ended by the signal"
+        );
+        writer.join().expect("its input was written");
+        assert!(folder.names().iter().all(|name| name == "x"), "{:?}", folder.names());
+    }
+    assert_eq!(folder.read("x"), three());
+}
+
 /// A link stays, and what it points to is written.
 #[test]
 fn links() {
@@ -240,6 +287,8 @@ fn what_plan_prints_is_taken_back() {
     }
 }
 
+const NO_OBJECT: &str = "no object of a plan, which has one list of steps";
+
 #[test]
 fn plans_as_text() {
     let folder = Folder::new();
@@ -258,25 +307,46 @@ fn plans_as_text() {
             text
         );
     }
-    for (text, word) in [
-        ("add(0,0) ad(1,0)", "ad(1,0)"),
-        ("add(0,0", "add(0,0"),
-        ("add(0,65536)", "add(0,65536)"),
-        ("add(0,-1)", "add(0,-1)"),
-        ("add(0,0x1)", "add(0,0x1)"),
-        ("add(0,)", "add(0,)"),
-        ("none none", "none"),
-        ("a plan", "a"),
+    // A word that is no step is one that the check refuses, and is named.
+    for (text, step, word) in [
+        ("add(0,0) ad(1,0)", 2, "ad(1,0)"),
+        ("add(0,0", 1, "add(0,0"),
+        ("add(0,65536)", 1, "add(0,65536)"),
+        ("add(0,-1)", 1, "add(0,-1)"),
+        ("add(0,0x1)", 1, "add(0,0x1)"),
+        ("add(0,)", 1, "add(0,)"),
+        ("none none", 1, "none"),
+        ("a plan", 1, "a"),
+        ("add(0,0) junk steps: add(1,0)", 2, "junk"),
+        ("add(0,0)#1", 1, "add(0,0)#1"),
     ] {
+        let refused = format!(
+            "refused 9, place {}: this step has an unknown operation, or a position that is not below its own; it is `{}`\n",
+            step, word
+        );
         let ended = run(&folder, &["check", "3", "-"], text.as_bytes());
-        assert_eq!((ended.status, ended.text().as_str()), (2, ""), "{}", text);
-        assert!(ended.err.ends_with(&format!(": `{}`\n", word)), "{}", ended.err);
+        assert_eq!(
+            (ended.status, ended.text()),
+            (1, format!("0x03: {}", refused)),
+            "{}",
+            text
+        );
+        let ended = run(&folder, &["show", "-"], text.as_bytes());
+        assert!(
+            ended.status == 1 && ended.text().ends_with(&refused),
+            "{}",
+            ended.text()
+        );
     }
     for (text, told) in [
         ("\n", "the plan has no steps; an empty one is `none`"),
         ("# nothing", "the plan has no steps; an empty one is `none`"),
-        ("{\"steps\":null}", "the object has no steps"),
-        ("{}", "the object has no steps"),
+        ("{\"steps\":null}", NO_OBJECT),
+        ("{}", NO_OBJECT),
+        ("{\"steps\":[\"add(0,0)\" nonsense \"add(1,0)\"]}", NO_OBJECT),
+        ("{\"steps\":[\"add(0,0)\",]}", NO_OBJECT),
+        ("{\"steps\":[\"add(0,0)\"]} trailing", NO_OBJECT),
+        ("{\"steps\":[\"add(0,0)\"]}\n{\"steps\":[\"add(0,0)\"]}", NO_OBJECT),
     ] {
         let ended = run(&folder, &["check", "1", "-"], text.as_bytes());
         assert_eq!(
@@ -309,6 +379,13 @@ fn plans_as_text() {
             ended.text()
         );
     }
+    // Text that is longer than any plan's is not read in part.
+    let padded = format!("add(0,0)\n{}add(1,1)", " ".repeat(1 << 20));
+    for request in [&["check", "2", "-"][..], &["show", "-"]] {
+        let ended = run(&folder, request, padded.as_bytes());
+        assert_eq!((ended.status, ended.text().as_str()), (2, ""));
+        assert_eq!(ended.err, "lesmutka: the plan's text has more than 1048576 bytes\n");
+    }
     // A position that the plan does not have, and more steps than a plan has.
     let ended = run(&folder, &["check", "3", "-"], b"add(0,0) add(2,0)");
     assert!(
@@ -327,9 +404,9 @@ fn plans_as_text() {
 #[test]
 fn huge_plans() {
     let folder = Folder::new();
-    for byte in [0, b'a', 0xff] {
+    for (byte, status) in [(0, 1), (b'a', 2), (0xff, 1)] {
         let ended = run(&folder, &["check", "3", "-"], &vec![byte; 5 << 20]);
-        assert!(ended.status == 1 || ended.status == 2);
+        assert_eq!(ended.status, status, "{}", byte);
     }
     let ended = run(&folder, &["check", "3", "/dev/zero"], b"");
     assert!(
@@ -373,8 +450,8 @@ fn shown() {
         dot,
         "digraph plan {\n    node [shape=box];\n    0 [label=\"0: 0x01\"];\n    1 [label=\"1: 0x02\"];\n    \
          0 -> 1 [label=\"double\"];\n    2 [label=\"2: -0x01\"];\n    0 -> 2 [label=\"+\"];\n    \
-         1 -> 2 [label=\"-\", style=dashed];\n    3 [label=\"3: 0x03\"];\n    1 -> 3 [label=\"+\"];\n    \
-         2 -> 3 [label=\"-\", style=dashed];\n}\n"
+         1 -> 2 [label=\"-\", style=\"dashed\"];\n    3 [label=\"3: 0x03\"];\n    1 -> 3 [label=\"+\"];\n    \
+         2 -> 3 [label=\"-\", style=\"dashed\"];\n}\n"
     );
     // An end that is no number of a call has no counts.
     let ended = run(&folder, &["show", "-"], &steps(&[[0, 0, 0], [1, 0, 1]]));

@@ -121,7 +121,7 @@ fn random_and_damaged_lines() {
     let mut compared = 0;
     for ((number, answer), object) in answers.iter().zip(&objects) {
         assert_eq!(object.keys(), objects[0].keys());
-        assert_eq!(object.get("line"), &Json::Number(*number as i64));
+        assert_eq!(object.get("line"), &Json::Number(*number as i128));
         let status = match object.get("status") {
             Json::Text(status) => status.clone(),
             other => panic!("{:?}", other),
@@ -159,9 +159,9 @@ fn comments_blank_lines_and_line_ends() {
     assert_eq!(
         out,
         "3: 0x03: digits: 1 0 -1\n6: 0x01: digits: 1\n\
-         7: refused 4, place 0: the digit at this place is none of 0, 1, -1\n\
+         7: refused 4, place 0: the digit at this place is none of 0, 1, -1; it is `1#1`\n\
          8: malformed: no such request (recode, clean, read-back, forecast, plan, check, show, methods, batch): \
-         `\u{feff}recode`\n\
+         `\\u{feff}recode`\n\
          9: 0x01: digits: 1\n"
     );
     assert_eq!(status, 2);
@@ -216,11 +216,38 @@ fn what_a_line_cannot_ask_for() {
         "plan 3 naf to -",
         "recode 1 --force",
         "recode 1 --dot",
+        "-- show x",
+        "-- methods",
+        "--",
+        "--force",
+        "--force show x",
+        "--jason",
     ] {
         let (status, out, _) = batch(line.as_bytes());
         assert_eq!(status, 2, "{}", line);
         assert!(out.starts_with("1: malformed: "), "{}: {}", line, out);
     }
+}
+
+/// A failed request is still answered with its number, and a batch's --force is for plans into files
+/// alone.
+#[test]
+fn failures_name_the_number() {
+    let folder = Folder::new();
+    let lines = b"plan 43 naf to missing/x\ncheck 43 missing\ncheck 43 hello\nrecode 1\nplan 3 to x\n";
+    folder.write("hello", b"add(0,0) hello");
+    let ended = run(&folder, &["batch", "--force"], lines);
+    let missing = "No such file or directory (os error 2)";
+    assert_eq!(
+        ended.text(),
+        format!(
+            "1: 0x2b by naf: failed: cannot write missing/x: {}\n2: 0x2b: failed: cannot read missing: {}\n\
+             3: 0x2b: refused 9, place 2: this step has an unknown operation, or a position that is not below its own; \
+             it is `hello`\n4: 0x01: digits: 1\n5: malformed: the method is missing\n",
+            missing, missing
+        )
+    );
+    assert_eq!(ended.status, 3);
 }
 
 #[test]
@@ -232,6 +259,23 @@ fn long_lines() {
     for end in ["\n", "\r\n", ""] {
         let (status, out, _) = batch(format!("{}{}", exact, end).as_bytes());
         assert_eq!((status, out), (0, format!("1: {}", zero)));
+    }
+    // A byte order mark in front, wherever the pipe is cut.
+    let marked = format!("\u{feff}{}\r\n", exact);
+    for cut in [0, 1, 5, 4000, 8190] {
+        let mut child = started(program().arg("-"));
+        let mut stdin = child.stdin.take().expect("standard input");
+        stdin.write_all(&marked.as_bytes()[..cut]).expect("a part");
+        std::thread::sleep(std::time::Duration::from_millis(20));
+        stdin.write_all(&marked.as_bytes()[cut..]).expect("the rest");
+        drop(stdin);
+        let output = child.wait_with_output().expect("the program ends");
+        assert_eq!(
+            String::from_utf8_lossy(&output.stdout),
+            format!("1: {}", zero),
+            "cut at {}",
+            cut
+        );
     }
     for more in [1, 2, 100_000, 1_000_000] {
         let line = format!("{}{}", exact, "0".repeat(more));

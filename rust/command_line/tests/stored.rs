@@ -93,7 +93,7 @@ fn as_json() {
     assert_eq!(objects.len(), ANSWERS.lines().count());
     for (i, (object, answer)) in objects.iter().zip(ANSWERS.lines()).enumerate() {
         assert_eq!(object.keys(), objects[0].keys());
-        assert_eq!(object.get("line"), &Json::Number(i as i64 + 1));
+        assert_eq!(object.get("line"), &Json::Number(i as i128 + 1));
         assert_eq!(in_words(object), answer);
     }
 }

@@ -43,7 +43,11 @@ fn help_and_version() {
     assert_eq!(asked(&["--version"]), (0, text.clone(), String::new()));
     assert_eq!(text, format!("lesmutka {}\n", env!("CARGO_PKG_VERSION")));
     let (status, out, err) = asked(&[]);
-    assert_eq!((status, out.as_str(), err), (2, "", help));
+    assert_eq!((status, out.as_str()), (2, ""));
+    assert_eq!(err, "lesmutka: no request; `lesmutka help` lists them\n");
+    assert!(asked(&["help", "plan"]).1.contains("\n--force"));
+    assert!(!asked(&["help", "plan"]).1.contains("--dot"));
+    assert!(asked(&["help", "show"]).1.contains("\n--dot"));
 }
 
 #[test]
@@ -60,64 +64,73 @@ fn methods() {
     for (object, (method, width)) in objects.iter().zip(choices) {
         let name = ["binary", "fixed", "sliding", "naf"][method as usize - 1];
         assert_eq!(object.get("method"), &Json::Text(name.to_string()));
-        assert_eq!(object.get("width"), &Json::Number(i64::from(width)));
+        assert_eq!(object.get("width"), &Json::Number(i128::from(width)));
     }
 }
 
 /// What is malformed is told in one line that names the word at fault, and nothing is answered.
 #[test]
 fn malformed_requests() {
+    const REQUESTS: &str = "(recode, clean, read-back, forecast, plan, check, show, methods, batch)";
+    const METHODS: &str = "(binary, fixed, sliding, naf)";
     const NO_NUMBER: &str = "no number, which is decimal, or hexadecimal with 0x: ";
-    for (words, told) in [
-        (
-            &["rekode", "43"][..],
-            "no such request (recode, clean, read-back, forecast, plan, check, show, methods, batch): `rekode`",
-        ),
-        (
-            &["recode", "2b"],
-            "no decimal number: `2b`; if it is hexadecimal, write 0x2b",
-        ),
-        (
-            &["recode", "2B"],
-            "no decimal number: `2B`; if it is hexadecimal, write 0x2B",
-        ),
-        (&["recode", "2g"], &format!("{}`2g`", NO_NUMBER)),
-        (&["recode", "-1"], &format!("{}`-1`", NO_NUMBER)),
-        (&["recode", "1.5"], &format!("{}`1.5`", NO_NUMBER)),
-        (&["recode", "1 "], &format!("{}`1 `", NO_NUMBER)),
-        (&["recode", "0x"], "no hexadecimal number: `0x`"),
-        (&["recode", "0x2g"], "no hexadecimal number: `0x2g`"),
-        (&["recode", "0x0x2"], "no hexadecimal number: `0x0x2`"),
-        (&["recode", "\u{0663}"], &format!("{}`\u{0663}`", NO_NUMBER)),
+    let told = |words: &[&str], told: String| {
+        let folder = Folder::new();
+        let ended = run(&folder, words, b"");
+        assert_eq!(ended.err, format!("lesmutka: {}\n", told), "{:?}", words);
+        assert_eq!(ended.status, 2, "{:?}", words);
+        assert_eq!(ended.out.is_empty(), !words.contains(&"--json"), "{:?}", words);
+        assert_eq!(folder.names(), Vec::<String>::new(), "{:?}", words);
+    };
+    for verb in ["rekode", "", "re\u{202e}code"] {
+        let shown = verb.replace('\u{202e}', "\\u{202e}");
+        told(&[verb, "43"], format!("no such request {}: `{}`", REQUESTS, shown));
+    }
+    for word in ["2b", "2B", "abc"] {
+        let advice = format!("no decimal number: `{}`; if it is hexadecimal, write 0x{}", word, word);
+        told(&["recode", word], advice);
+    }
+    for word in ["2g", "-1", "1.5", "1 ", "1_000", "\u{0663}", "g"] {
+        for words in [&["recode", word][..], &["forecast", word, "naf"], &["check", word, "x"]] {
+            told(words, format!("{}`{}`", NO_NUMBER, word));
+        }
+    }
+    told(&["recode", "4\x1b3"], format!("{}`4\\u{{1b}}3`", NO_NUMBER));
+    told(
+        &["recode", &"z".repeat(1000)],
+        format!("{}`{}...`", NO_NUMBER, "z".repeat(80)),
+    );
+    for word in ["0x", "0x2g", "0x0x2", "0X-1"] {
+        told(&["recode", word], format!("no hexadecimal number: `{}`", word));
+    }
+    for word in ["x", "to1", "", "0x4", "-4", "4.0"] {
+        told(&["plan", "3", word], format!("no such method {}: `{}`", METHODS, word));
+        told(
+            &["plan", "3", "fixed", word],
+            format!("no width, which is a decimal number: `{}`", word),
+        );
+    }
+    for (words, what) in [
+        (&["recode"][..], "words are missing; the form is: recode NUMBER"),
+        (&["recode", "4", "3"], "too many words: `3`; the form is: recode NUMBER"),
         (&["recode", ""], "the number is empty"),
-        (&["recode", "4\x1b3"], &format!("{}`4\\u{{1b}}3`", NO_NUMBER)),
-        (&["recode"], "the form is: recode NUMBER"),
-        (&["recode", "4", "3"], "the form is: recode NUMBER"),
+        (&["plan", "", "2", "4", "to", "x"], "the number is empty"),
         (
             &["plan", "3"],
-            "the form is: plan NUMBER METHOD [WIDTH] [to FILE] [--force]",
-        ),
-        (&["plan", "3", "x"], "no such method (binary, fixed, sliding, naf): `x`"),
-        (&["plan", "3", "1", "x"], "no width, which is a decimal number: `x`"),
-        (
-            &["plan", "3", "fixed", "0x2"],
-            "no width, which is a decimal number: `0x2`",
+            "words are missing; the form is: plan NUMBER METHOD [WIDTH] [to FILE] [--force]",
         ),
         (
             &["plan", "3", "2", "1", "1"],
             "a method has one width and no more words: `1`",
         ),
-        (&["plan", "3", "1", "to"], "no width, which is a decimal number: `to`"),
         (
-            &["plan", "3", "1", "into", "x"],
-            "a method has one width and no more words: `x`",
+            &["plan", "3", "1", "2", "into", "x"],
+            "a method has one width and no more words: `into`",
         ),
-        (
-            &["plan", "3", "to", "x"],
-            "no such method (binary, fixed, sliding, naf): `to`",
-        ),
+        (&["plan", "3", "1", "to"], "the file is missing behind `to`"),
+        (&["plan", "3", "to", "x"], "the method is missing"),
+        (&["plan", "3", "naf", "to", "x", "y"], "too many words: `y`"),
         (&["plan", "3", "1", "to", ""], "the name of the file is empty"),
-        (&["plan", "", "2", "4", "to", "x"], "the number is empty"),
         (
             &["plan", "3", "1", "to", "-", "--json"],
             "with `to -` standard output holds the plan's bytes, and no JSON",
@@ -127,42 +140,43 @@ fn malformed_requests() {
             "--force is for `plan ... to FILE` alone",
         ),
         (&["plan", "3", "1", "--dot"], "--dot is for `show` alone"),
-        (&["forecast", "3"], "the form is: forecast NUMBER METHOD [WIDTH]"),
         (
-            &["forecast", "3", ""],
-            "no such method (binary, fixed, sliding, naf): ``",
+            &["forecast", "3"],
+            "words are missing; the form is: forecast NUMBER METHOD [WIDTH]",
         ),
-        (&["check", "3"], "the form is: check NUMBER FILE"),
+        (
+            &["forecast", "3", "1", "to", "x"],
+            "a method has one width and no more words: `x`",
+        ),
+        (&["check", "3"], "words are missing; the form is: check NUMBER FILE"),
         (&["check", "3", ""], "the name of the file is empty"),
-        (&["check", "3", "x", "y"], "the form is: check NUMBER FILE"),
-        (&["check", "g", "x"], &format!("{}`g`", NO_NUMBER)),
-        (&["show"], "the form is: show FILE [--dot]"),
+        (
+            &["check", "3", "x", "y"],
+            "too many words: `y`; the form is: check NUMBER FILE",
+        ),
+        (&["show"], "words are missing; the form is: show FILE [--dot]"),
+        (
+            &["show", "x", "y"],
+            "too many words: `y`; the form is: show FILE [--dot]",
+        ),
         (
             &["show", "x", "--dot", "--json"],
             "--dot and --json are two forms of one answer",
         ),
-        (&["methods", "x"], "the form is: methods"),
-        (&["batch", "x"], "the form is: batch"),
-        (
-            &["-", "x"],
-            "no such request (recode, clean, read-back, forecast, plan, check, show, methods, batch): `-`",
-        ),
+        (&["methods", "x"], "too many words: `x`; the form is: methods"),
+        (&["methods", "--force"], "--force is for `plan ... to FILE` alone"),
+        (&["batch", "x"], "too many words: `x`; the form is: batch [--force]"),
+        (&["-", "x"], "too many words: `x`; the form is: batch [--force]"),
+        (&["batch", "--dot"], "--dot is for `show` alone"),
         (&["help", "me"], "no such request: `me`"),
+        (&["help", "plan", "show"], "too many words: `show`"),
+        (&["--version", "x"], "too many words: `x`"),
         (&["recode", "1", "--jason"], "no such option: `--jason`"),
-        (
-            &["", "1"],
-            "no such request (recode, clean, read-back, forecast, plan, check, show, methods, batch): ``",
-        ),
+        (&["recode", "1", "--json", "--jason"], "no such option: `--jason`"),
+        (&["--json"], "no request; `lesmutka help` lists them"),
     ] {
-        let folder = Folder::new();
-        let ended = run(&folder, words, b"");
-        assert_eq!(ended.err, format!("lesmutka: {}\n", told), "{:?}", words);
-        assert_eq!(ended.status, 2, "{:?}", words);
-        assert_eq!(ended.out.is_empty(), !words.contains(&"--json"), "{:?}", words);
-        assert_eq!(folder.names(), Vec::<String>::new(), "{:?}", words);
+        told(words, what.to_string());
     }
-    let long = asked(&["recode", &"z".repeat(1000)]).2;
-    assert_eq!(long, format!("lesmutka: {}`{}...`\n", NO_NUMBER, "z".repeat(80)));
 }
 
 /// With --json a fault is an object too.
@@ -176,12 +190,55 @@ fn faults_as_json() {
         assert_eq!(ended, status);
         let object = Json::read(out.trim_end());
         assert_eq!(object.get("status"), &Json::Text(name.to_string()));
+        assert_eq!(object.get("request"), &Json::Text(words[0].to_string()));
         let message = match object.get("message") {
             Json::Text(message) => message.clone(),
             other => panic!("{:?}", other),
         };
         assert_eq!(err, format!("lesmutka: {}\n", message));
     }
+}
+
+/// What is known of a request that failed is in its object.
+#[test]
+fn failures_as_json() {
+    let object = Json::read(
+        asked(&["plan", "43", "sliding", "3", "to", "missing/x", "--json"])
+            .1
+            .trim_end(),
+    );
+    assert_eq!(object.get("status"), &Json::Text("failed".to_string()));
+    assert_eq!(object.get("number"), &Json::Text("0x2b".to_string()));
+    assert_eq!(object.get("method"), &Json::Text("sliding".to_string()));
+    assert_eq!(object.get("width"), &Json::Number(3));
+    assert_eq!(object.get("file"), &Json::Text("missing/x".to_string()));
+    assert_eq!(object.get("steps"), &Json::Null);
+}
+
+/// A method or a width of more than 32 bits is shown as it was written.
+#[test]
+fn large_methods_and_widths() {
+    let refused = "refused 3, place 0: no such method, or a width that it does not allow";
+    let methods = "the methods are binary (1), fixed (2), sliding (3), naf (4)";
+    let widths = "sliding takes a width from 1 to 6";
+    for number in ["4294967295", "4294967300", "99999999999999999999999"] {
+        let out = asked(&["forecast", "43", number]).1;
+        assert_eq!(out, format!("0x2b by {}: {}; {}\n", number, refused, methods));
+        let out = asked(&["forecast", "43", "sliding", number]).1;
+        assert_eq!(out, format!("0x2b by sliding {}: {}; {}\n", number, refused, widths));
+    }
+    assert_eq!(
+        asked(&["forecast", "43", "0004"]).1,
+        asked(&["forecast", "43", "NAF"]).1
+    );
+    let out = asked(&[
+        "forecast",
+        "43",
+        "3",
+        "000000000000000000000000000000000000000000000000007",
+    ])
+    .1;
+    assert_eq!(out, format!("0x2b by sliding 7: {}; {}\n", refused, widths));
 }
 
 /// Behind `--` no word is an option.

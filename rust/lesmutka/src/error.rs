@@ -8,3 +8,4 @@ use std::error::Error;
 impl Error for crate::Refusal {}
 impl Error for crate::ParseMethodError {}
 impl Error for crate::ParseStepError {}
+impl Error for crate::NotDecimal {}

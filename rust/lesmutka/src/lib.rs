@@ -40,11 +40,25 @@ pub use plans::{Counts, ParseStepError, Plan, Step, Steps};
 pub use refusal::Refusal;
 pub use values::{records, Records, Value};
 
+use core::fmt;
 use core::slice;
 
 /// The version of the library that this crate is written for: 10000 times the major, 100 times the
 /// minor, and the patch.
-pub const VERSION: u32 = 200;
+pub const VERSION: u32 = 10000 * number(env!("CARGO_PKG_VERSION_MAJOR"))
+    + 100 * number(env!("CARGO_PKG_VERSION_MINOR"))
+    + number(env!("CARGO_PKG_VERSION_PATCH"));
+
+/// The number of a few digits.
+const fn number(digits: &str) -> u32 {
+    let mut number = 0;
+    let mut i = 0;
+    while i < digits.len() {
+        number = 10 * number + (digits.as_bytes()[i] - b'0') as u32;
+        i += 1;
+    }
+    number
+}
 
 /// The most bytes of a number.
 pub const NUMBER_BYTES: usize = 32;
@@ -221,21 +235,38 @@ pub fn hexadecimal<'a>(text: &[u8], out: &'a mut [u8]) -> Option<&'a [u8]> {
 ///
 /// # Errors
 ///
-/// How many digits come before the first byte that is none: the text's length, where the text is
-/// empty or the room is too small.
+/// The text is empty, has a byte that is no digit, or the room is too small.
 ///
 /// ```
-/// use lesmutka::{decimal, text_room};
+/// use lesmutka::{decimal, text_room, NotDecimal};
 ///
 /// let mut room = [0; text_room(3)];
 /// assert_eq!(decimal(b"299", &mut room), Ok(&[0x2b, 0x01][..]));
-/// assert_eq!(decimal(b"29x", &mut room), Err(2));
+/// assert_eq!(decimal(b"29x", &mut room), Err(NotDecimal { digits: 2 }));
 /// ```
-pub fn decimal<'a>(text: &[u8], out: &'a mut [u8]) -> Result<&'a [u8], usize> {
+pub fn decimal<'a>(text: &[u8], out: &'a mut [u8]) -> Result<&'a [u8], NotDecimal> {
     let answer = sys::decimal(text, out);
     match answer.is_number {
-        0 => Err(answer.place),
+        0 => Err(NotDecimal { digits: answer.place }),
         _ => Ok(&out[..answer.length]),
+    }
+}
+
+/// The text is no decimal number, or the room for it is too small.
+#[derive(Clone, Copy, Debug, PartialEq, Eq)]
+pub struct NotDecimal {
+    /// How many digits come before the first byte that is none: the text's length, if it is empty or
+    /// the room is too small.
+    pub digits: usize,
+}
+
+impl fmt::Display for NotDecimal {
+    fn fmt(&self, f: &mut fmt::Formatter<'_>) -> fmt::Result {
+        write!(
+            f,
+            "no decimal number, or too little room for it; {} digits come first",
+            self.digits
+        )
     }
 }
 
@@ -259,9 +290,9 @@ pub fn read_digits<'a>(text: &[u8], out: &'a mut [i8]) -> Result<&'a [i8], Refus
     Ok(&out[..length])
 }
 
-/// Reads a plan: words as [`Step`] prints them, the first step first, with blanks between them. Writes
-/// the bytes of the steps and hands them back. Any other word becomes a step of an unknown operation,
-/// so that [`check`] refuses it with its place.
+/// Reads a plan: words as [`Step`] prints them, the first step first, with blanks between them;
+/// positions may have zeros in front. Writes the bytes of the steps and hands them back. Any other word
+/// becomes a step of an unknown operation, so that [`check`] refuses it with its place.
 ///
 /// # Errors
 ///

@@ -5,8 +5,8 @@ use core::str::FromStr;
 
 /// How to plan.
 ///
-/// It prints as its name, then its width if it has one, and is read from that; the number may stand
-/// in place of the name. Blanks separate the two, and a width left out is 0.
+/// It prints as its name, then its width if it has one, and is read from that, in capitals or not; the
+/// number may stand in place of the name. Blanks separate the two, and a width left out is 0.
 ///
 /// ```
 /// use lesmutka::Method;
@@ -116,7 +116,10 @@ impl FromStr for Method {
 fn read(text: &str) -> Option<Method> {
     let mut words = text.split_ascii_whitespace();
     let first = words.next()?;
-    let number = match Method::ALL.iter().find(|method| method.name() == first) {
+    let number = match Method::ALL
+        .iter()
+        .find(|method| method.name().eq_ignore_ascii_case(first))
+    {
         Some(method) => method.number(),
         None => small(first)?,
     };

@@ -47,11 +47,18 @@ pub enum Refusal {
         /// How many steps there are.
         steps: usize,
     },
+    /// Any other, of a library that is newer than this crate.
+    Other {
+        /// Its number.
+        number: usize,
+        /// Its place.
+        place: usize,
+    },
 }
 
 impl Refusal {
     /// The number of the refusal (docs/RULES.md, 6.1).
-    pub const fn number(self) -> u8 {
+    pub const fn number(self) -> usize {
         match self {
             Refusal::NumberTooLong => 1,
             Refusal::NumberIsZero => 2,
@@ -65,13 +72,14 @@ impl Refusal {
             Refusal::ValueIsZero { .. } => 10,
             Refusal::ValueTooLarge { .. } => 11,
             Refusal::WrongEnd { .. } => 12,
+            Refusal::Other { number, .. } => number,
         }
     }
 
     /// The place of the refusal: a digit's place, the bytes needed, a step, how many steps; else 0.
     pub const fn place(self) -> usize {
         match self {
-            Refusal::NotADigit { place } => place,
+            Refusal::NotADigit { place } | Refusal::Other { place, .. } => place,
             Refusal::RoomTooSmall { needed } => needed,
             Refusal::MalformedStep { step } | Refusal::ValueIsZero { step } | Refusal::ValueTooLarge { step } => step,
             Refusal::WrongEnd { steps } => steps,
@@ -97,6 +105,7 @@ impl Refusal {
             Refusal::ValueIsZero { .. } => "the value at this step is zero",
             Refusal::ValueTooLarge { .. } => "the value at this step is too large",
             Refusal::WrongEnd { .. } => "the last value, at this position, is not the number",
+            Refusal::Other { .. } => "no such refusal",
         }
     }
 
@@ -116,7 +125,7 @@ impl Refusal {
             10 => Refusal::ValueIsZero { step: place },
             11 => Refusal::ValueTooLarge { step: place },
             12 => Refusal::WrongEnd { steps: place },
-            _ => unreachable!("the library gives no other refusal"),
+            number => Refusal::Other { number, place },
         })
     }
 }

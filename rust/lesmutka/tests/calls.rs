@@ -519,6 +519,7 @@ fn a_method_as_text() {
         ("  sliding \t 4 ", Method::SlidingWindows(4)),
         ("naf", Method::Naf),
         ("naf 0", Method::Naf),
+        ("NAF", Method::Naf),
         ("4", Method::Naf),
     ] {
         assert_eq!(text.parse(), Ok(method), "{:?}", text);
@@ -536,7 +537,6 @@ fn a_method_as_text() {
         "5",
         "257",
         "4294967297",
-        "NAF",
         "nafs",
         "naf 1",
         "binary 1",
@@ -644,7 +644,12 @@ fn reading_decimal() {
         ("2b", Err(1)),
     ] {
         let mut room = [7; 4];
-        assert_eq!(decimal(text.as_bytes(), &mut room), answer, "{:?}", text);
+        assert_eq!(
+            decimal(text.as_bytes(), &mut room).map_err(|e| e.digits),
+            answer,
+            "{:?}",
+            text
+        );
         // The room that the text needs is written, the rest stays.
         let mut left = [7; 4];
         if let Ok(bytes) = answer {
@@ -656,11 +661,53 @@ fn reading_decimal() {
     let mut room = [7; 2];
     assert_eq!(decimal(b"1234", &mut room), Ok(&[0xd2, 4][..]));
     let mut room = [7; 1];
-    assert_eq!(decimal(b"123", &mut room), Err(3));
-    assert_eq!(decimal(b"00000", &mut room), Err(5));
-    assert_eq!(decimal(b"12345x", &mut room), Err(5));
+    assert_eq!(decimal(b"123", &mut room), Err(NotDecimal { digits: 3 }));
+    assert_eq!(decimal(b"00000", &mut room), Err(NotDecimal { digits: 5 }));
+    assert_eq!(decimal(b"12345x", &mut room), Err(NotDecimal { digits: 5 }));
     assert_eq!(room, [7]);
-    assert_eq!(decimal(b"", &mut []), Err(0));
+    assert_eq!(decimal(b"", &mut []), Err(NotDecimal { digits: 0 }));
+}
+
+/// A refusal that this crate does not know, of a library that is newer.
+#[test]
+fn other_refusals() {
+    let answer = sys::Counts {
+        refusal: 77,
+        place: 5,
+        doublings: 0,
+        additions: 0,
+        subtractions: 0,
+    };
+    let refusal = Counts::try_from(answer).unwrap_err();
+    assert_eq!(refusal, Refusal::Other { number: 77, place: 5 });
+    assert_eq!(refusal.to_string(), "refused 77, place 5: no such refusal");
+}
+
+#[test]
+fn digits_and_steps_from_text() {
+    let mut room = [7; 4];
+    assert_eq!(read_digits(b" 1 0\t-1 ", &mut room), Ok(&[-1, 0, 1][..]));
+    assert_eq!(room, [-1, 0, 1, 7]);
+    assert_eq!(read_digits(b"2 -0 11 x", &mut room), Ok(&[2, 2, 2, 2][..]));
+    assert_eq!(
+        read_digits(b"1 1 1 1 1", &mut room),
+        Err(Refusal::RoomTooSmall { needed: 5 })
+    );
+    let mut room = [7; 11];
+    assert_eq!(
+        read_steps(b"add(0,0)\nsubtract(258,65535)", &mut room),
+        Ok(&[0, 0, 0, 0, 0, 1, 2, 1, 255, 255][..])
+    );
+    assert_eq!(room[10], 7);
+    assert_eq!(read_steps(b"add(0,65536)", &mut room), Ok(&[2, 0, 0, 0, 0][..]));
+    assert_eq!(
+        read_steps(b"add(0,0) x add(0,0)", &mut room),
+        Err(Refusal::RoomTooSmall { needed: 15 })
+    );
+    assert_eq!(
+        read_steps(&b"x ".repeat(PLAN_STEPS + 1), &mut room),
+        Err(Refusal::PlanLength)
+    );
 }
 
 #[test]

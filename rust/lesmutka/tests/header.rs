@@ -81,7 +81,7 @@ fn header_name(name: &str) -> String {
 #[test]
 fn refusals_agree() {
     for (i, refusal) in refusals().iter().enumerate() {
-        assert_eq!(refusal.number() as usize, i + 1);
+        assert_eq!(refusal.number(), i + 1);
         assert_eq!(enumerator(&header_name(&format!("{:?}", refusal))), i as u32 + 1);
     }
 }
@@ -132,7 +132,7 @@ fn linked_words(refusal: usize) -> String {
 fn linked_words_agree() {
     assert_eq!(linked_words(0), "not refused");
     for refusal in refusals() {
-        assert_eq!(linked_words(refusal.number().into()), refusal.message());
+        assert_eq!(linked_words(refusal.number()), refusal.message());
     }
     for number in [13, 14, 256, 257, usize::MAX] {
         assert_eq!(linked_words(number), "no such refusal");
@@ -171,6 +171,6 @@ fn header_words_agree() {
     let words = header_words();
     assert_eq!(words[0], "not refused");
     for refusal in refusals() {
-        assert_eq!(words[refusal.number() as usize], refusal.message());
+        assert_eq!(words[refusal.number()], refusal.message());
     }
 }

@@ -159,26 +159,29 @@ pub fn shown(bytes: &[u8]) -> String {
 
 const METHODS: [(&str, u32); 4] = [("binary", 1), ("fixed", 2), ("sliding", 3), ("naf", 4)];
 
-/// A method or a width; one that has no room is the highest.
-fn small(word: &str) -> u32 {
+/// A method or a width, and its digits; one that has no room is the highest.
+fn small(word: &str) -> (u32, &str) {
     assert!(word.chars().all(|c| c.is_ascii_digit()), "{}", word);
-    word.parse().unwrap_or(u32::MAX)
+    let digits = word.trim_start_matches('0');
+    (
+        word.parse().unwrap_or(u32::MAX),
+        if digits.is_empty() { "0" } else { digits },
+    )
 }
 
 /// A method and a width, and how an answer names them.
 fn choice(words: &[&str]) -> (u32, u32, String) {
-    let method = match METHODS.iter().find(|(name, _)| *name == words[0]) {
-        Some((_, number)) => *number,
+    let (method, name) = match METHODS.iter().find(|(name, _)| *name == words[0]) {
+        Some((name, number)) => (*number, *name),
         None => small(words[0]),
     };
-    let width = words.get(1).map_or(0, |word| small(word));
-    let name = match METHODS.iter().find(|(_, number)| *number == method) {
-        Some((name, _)) => name.to_string(),
-        None => method.to_string(),
-    };
-    match width {
-        0 => (method, width, name),
-        _ => (method, width, format!("{} {}", name, width)),
+    let name = METHODS
+        .iter()
+        .find(|(_, number)| *number == method)
+        .map_or(name, |(name, _)| name);
+    match words.get(1).map_or((0, "0"), |word| small(word)) {
+        (0, _) => (method, 0, name.to_string()),
+        (width, digits) => (method, width, format!("{} {}", name, digits)),
     }
 }
 
@@ -222,6 +225,11 @@ pub fn step_words(plan: &[u8]) -> String {
 
 /// A refusal, and what is allowed where it says that something is not.
 fn refused(refusal: Refusal, method: Option<u32>) -> String {
+    refused_word(refusal, method, None)
+}
+
+/// The same, with the word behind it.
+fn refused_word(refusal: Refusal, method: Option<u32>, word: Option<&str>) -> String {
     let said = format!(
         "refused {}, place {}: {}",
         refusal.number,
@@ -241,9 +249,15 @@ fn refused(refusal: Refusal, method: Option<u32>) -> String {
             STEP_BYTES, PLAN_STEPS
         ),
         (11, _) => format!("a size is below 2^{}", VALUE_BITS),
-        _ => return said,
+        _ => return word.map_or(said.clone(), |word| format!("{}; it is `{}`", said, word)),
     };
     format!("{}; {}", said, hint)
+}
+
+/// A refusal of digits, which names the word at its place.
+fn refused_digits(refusal: Refusal, words: &[&str]) -> String {
+    let word = words.iter().rev().nth(refusal.place).filter(|_| refusal.number == 4);
+    refused_word(refusal, None, word.copied())
 }
 
 /// The answer to a request that is well formed, by `reference`; a plan may go into a file.
@@ -252,14 +266,14 @@ pub fn expected(words: &[&str], files: &mut HashMap<String, Vec<u8>>) -> String 
     match words[0] {
         "clean" => match clean(&digit_bytes(&words[1..]), &mut out) {
             Ok(length) => digits(&out[..length]),
-            Err(refusal) => refused(refusal, None),
+            Err(refusal) => refused_digits(refusal, &words[1..]),
         },
         "read-back" => match read_back(&digit_bytes(&words[1..]), &mut out) {
             Ok((sign, length)) => {
                 let minus = if sign == 1 { "-" } else { "" };
                 format!("value: {}{}", minus, shown(&out[..length]))
             }
-            Err(refusal) => refused(refusal, None),
+            Err(refusal) => refused_digits(refusal, &words[1..]),
         },
         "recode" => {
             let number = number(words[1]);
@@ -313,7 +327,7 @@ pub fn expected(words: &[&str], files: &mut HashMap<String, Vec<u8>>) -> String 
 #[derive(Clone, Debug, PartialEq)]
 pub enum Json {
     Null,
-    Number(i64),
+    Number(i128),
     Text(String),
     List(Vec<Json>),
     Object(Vec<(String, Json)>),
@@ -359,7 +373,14 @@ impl Json {
                 let end = rest
                     .find(|c: char| c != '-' && !c.is_ascii_digit())
                     .unwrap_or(rest.len());
-                let number = rest[..end].parse().expect("a number");
+                let digits = rest[..end].strip_prefix('-').unwrap_or(&rest[..end]);
+                assert!(
+                    !digits.is_empty() && (digits == "0" || !digits.starts_with('0')),
+                    "no number: {}",
+                    rest
+                );
+                // One that has no room here is still a number.
+                let number = rest[..end].parse().unwrap_or(i128::MAX);
                 *rest = &rest[end..];
                 Json::Number(number)
             }

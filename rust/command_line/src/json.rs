@@ -1,0 +1,189 @@
+//! Answers as JSON: objects that all have the same fields, one a line.
+use crate::answer::{Answer, Answered, Refused};
+use crate::choice::Choice;
+use crate::print::{put_bytes, put_digits, put_method, put_number, put_value, reason, Status};
+use crate::request::Request;
+use crate::steps::{put_steps, Frame};
+use lesmutka::{Counts, Value};
+use std::io::Write;
+use std::os::unix::ffi::OsStrExt;
+
+/// The fields of every object, in this order. What does not apply is null.
+pub struct Fields<'a> {
+    line: Option<u64>,
+    request: Option<&'a str>,
+    status: Status,
+    pub number: Option<&'a [u8]>,
+    pub choice: Option<Choice<'a>>,
+    pub digits: Option<&'a [i8]>,
+    pub value: Option<Value<'a>>,
+    pub counts: Option<Counts>,
+    pub steps: Option<&'a [u8]>,
+    pub values: Option<&'a [Value<'a>]>,
+    pub file: Option<&'a [u8]>,
+    pub refused: Option<&'a Refused>,
+    pub message: Option<String>,
+}
+
+impl<'a> Fields<'a> {
+    pub fn new(line: Option<u64>, request: Option<&'a str>, status: Status) -> Fields<'a> {
+        Fields {
+            line,
+            request,
+            status,
+            number: None,
+            choice: None,
+            digits: None,
+            value: None,
+            counts: None,
+            steps: None,
+            values: None,
+            file: None,
+            refused: None,
+            message: None,
+        }
+    }
+
+    /// What a request came to.
+    pub fn of(line: Option<u64>, request: &'a Request, answered: &'a Answered, status: Status) -> Fields<'a> {
+        let mut fields = Fields::new(line, Some(request.verb()), status);
+        fields.number = answered.number;
+        fields.choice = request.choice();
+        fields.file = request.file().map(|file| file.as_bytes());
+        match &answered.outcome {
+            Ok(Answer::Digits(digits)) => fields.digits = Some(digits),
+            Ok(Answer::Value(value)) => fields.value = Some(*value),
+            Ok(Answer::Counts(counts)) | Ok(Answer::Accepted(counts)) => fields.counts = Some(*counts),
+            Ok(Answer::Plan(counts, plan)) => {
+                fields.counts = Some(*counts);
+                // A plan that was written to a file is there.
+                fields.steps = Some(*plan).filter(|_| fields.file.is_none());
+            }
+            Ok(Answer::Refused(refused)) => fields.refused = Some(refused),
+            Err(fault) => fields.message = Some(fault.to_string()),
+        }
+        fields
+    }
+
+    pub fn put(&self, out: &mut Vec<u8>) {
+        out.extend_from_slice(b"{\"line\":");
+        put_or_null(self.line, out, put_number);
+        out.extend_from_slice(b",\"request\":");
+        put_or_null(self.request, out, put_text);
+        out.extend_from_slice(b",\"status\":");
+        put_text(self.status.name(), out);
+        out.extend_from_slice(b",\"number\":");
+        put_or_null(self.number, out, |number, out| {
+            in_quotes(out, |out| put_bytes(number, out))
+        });
+        out.extend_from_slice(b",\"method\":");
+        put_or_null(self.choice, out, |choice, out| {
+            in_quotes(out, |out| put_method(choice, out))
+        });
+        out.extend_from_slice(b",\"width\":");
+        put_or_null(self.choice, out, |choice, out| match choice.width.large() {
+            Some(digits) => out.extend_from_slice(digits),
+            None => put_number(u64::from(choice.width.value), out),
+        });
+        out.extend_from_slice(b",\"digits\":");
+        put_or_null(self.digits, out, |digits, out| {
+            in_list(out, |out| put_digits(digits, b",", out))
+        });
+        out.extend_from_slice(b",\"value\":");
+        put_or_null(self.value, out, |value, out| {
+            in_quotes(out, |out| put_value(value, out))
+        });
+        let counts = self.counts.as_ref();
+        out.extend_from_slice(b",\"doublings\":");
+        put_or_null(counts.map(|counts| counts.doublings as u64), out, put_number);
+        out.extend_from_slice(b",\"additions\":");
+        put_or_null(counts.map(|counts| counts.additions as u64), out, put_number);
+        out.extend_from_slice(b",\"subtractions\":");
+        put_or_null(counts.map(|counts| counts.subtractions as u64), out, put_number);
+        out.extend_from_slice(b",\"steps\":");
+        put_or_null(self.steps, out, |plan, out| {
+            in_list(out, |out| put_steps(plan, &Frame::new(b",\"", b"\""), out))
+        });
+        out.extend_from_slice(b",\"values\":");
+        put_or_null(self.values, out, |values, out| {
+            in_list(out, |out| {
+                for value in values {
+                    out.push(b',');
+                    in_quotes(out, |out| put_value(*value, out));
+                }
+            })
+        });
+        out.extend_from_slice(b",\"file\":");
+        put_or_null(self.file, out, put_bytes_as_text);
+        let refusal = self.refused.map(|refused| refused.refusal);
+        out.extend_from_slice(b",\"refusal\":");
+        put_or_null(refusal.map(|refusal| refusal.number() as u64), out, put_number);
+        out.extend_from_slice(b",\"place\":");
+        put_or_null(refusal.map(|refusal| refusal.place() as u64), out, put_number);
+        out.extend_from_slice(b",\"message\":");
+        let reason = self.refused.map(|refused| reason(refused, self.choice));
+        put_or_null(reason.as_deref().or(self.message.as_deref()), out, put_text);
+        out.extend_from_slice(b"}\n");
+    }
+}
+
+fn put_or_null<T>(field: Option<T>, out: &mut Vec<u8>, put: impl FnOnce(T, &mut Vec<u8>)) {
+    match field {
+        Some(field) => put(field, out),
+        None => out.extend_from_slice(b"null"),
+    }
+}
+
+fn in_quotes(out: &mut Vec<u8>, put: impl FnOnce(&mut Vec<u8>)) {
+    out.push(b'"');
+    put(out);
+    out.push(b'"');
+}
+
+/// A list whose elements each have a comma in front; the first comma becomes the bracket.
+fn in_list(out: &mut Vec<u8>, put: impl FnOnce(&mut Vec<u8>)) {
+    let start = out.len();
+    put(out);
+    match out.get_mut(start) {
+        Some(comma) => *comma = b'[',
+        None => out.push(b'['),
+    }
+    out.push(b']');
+}
+
+fn put_text(text: &str, out: &mut Vec<u8>) {
+    in_quotes(out, |out| put_escaped(text, out));
+}
+
+fn put_escaped(text: &str, out: &mut Vec<u8>) {
+    for c in text.chars() {
+        match c {
+            '"' => out.extend_from_slice(b"\\\""),
+            '\\' => out.extend_from_slice(b"\\\\"),
+            c if c.is_control() => {
+                let _ = write!(out, "\\u{:04x}", u32::from(c));
+            }
+            c => out.extend_from_slice(c.encode_utf8(&mut [0; 4]).as_bytes()),
+        }
+    }
+}
+
+/// Bytes that need not be UTF-8, such as the name of a file. A byte that is none of a character becomes
+/// a lone surrogate, U+DC00 and the byte, as Python reads and writes such names.
+fn put_bytes_as_text(bytes: &[u8], out: &mut Vec<u8>) {
+    in_quotes(out, |out| {
+        let mut rest = bytes;
+        while !rest.is_empty() {
+            let valid = match std::str::from_utf8(rest) {
+                Ok(text) => text,
+                Err(error) => std::str::from_utf8(&rest[..error.valid_up_to()]).unwrap_or(""),
+            };
+            put_escaped(valid, out);
+            rest = &rest[valid.len()..];
+            if let Some((byte, behind)) = rest.split_first() {
+                let _ = write!(out, "\\udc{:02x}", byte);
+                rest = behind;
+            }
+        }
+    });
+}

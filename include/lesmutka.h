@@ -48,8 +48,8 @@
  *
  * Needs
  *
- *   Target     x86-64 with the System V ABI, 64-bit pointers and ELF objects: Linux, the BSDs. Not
- *              Windows, macOS or x32.
+ *   Target     x86-64 with the System V ABI, 64-bit pointers and ELF objects, such as Linux. Not
+ *              Windows, macOS, UEFI or x32.
  *   Linking    liblesmutka.a, which `rt staticlib lesmutka` writes to target/staticlib/; after
  *              `./install PREFIX`, what `pkg-config --cflags --libs lesmutka` says. It calls memcpy
  *              and memset and nothing else, is position independent, and has a section for each
@@ -117,8 +117,7 @@
 #define LESMUTKA_H
 
 /* Elsewhere the answers would be handed over in another way, or the archive could not be linked. */
-#if !defined(__x86_64__) || defined(__ILP32__) || defined(_WIN32) || defined(__CYGWIN__) || \
-    defined(__APPLE__)
+#if !defined(__x86_64__) || !defined(__ELF__) || defined(__ILP32__) || defined(_WIN32)
 #error "Lesmutka is only for x86-64 with the System V ABI and 64-bit pointers, on an ELF system."
 #endif
 
@@ -371,7 +370,7 @@ lesmutka_counts lesmutka_check(const uint8_t *number, size_t number_length, cons
  *           Where the text is no number, all fields are 0 and nothing is written: it has no digit,
  *           or a byte that is no hexadecimal digit, or the number needs more bytes than lent.
  *           The place is always 0.
- *  In:      text: the text, text_length bytes; no zero byte behind it.
+ *  In:      text: the text, text_length bytes; it need not end in a zero byte.
  *  Out:     out: room for the number, out_length bytes. LESMUTKA_TEXT_ROOM(text_length) is always
  *                enough.
  */
@@ -385,8 +384,8 @@ lesmutka_parsed lesmutka_hexadecimal(const uint8_t *text, size_t text_length, ui
  *           Where the text is no number, is_number and length are 0, nothing is written, and the
  *           place is how many digits come before the first byte that is none. It is text_length
  *           where all bytes are digits, but there are none or out is too short.
- *  In:      text: the text, text_length bytes; no zero byte behind it. The time grows with the
- *                 square of its length, so limit that where others choose the text.
+ *  In:      text: the text, text_length bytes; it need not end in a zero byte. The time grows with
+ *                 the square of its length, so limit that where others choose the text.
  *  Out:     out: room for the number, out_length bytes, at least LESMUTKA_TEXT_ROOM(text_length).
  *                That many bytes are written: the number, then zeros. Bytes past these stay.
  */
@@ -399,7 +398,7 @@ lesmutka_parsed lesmutka_decimal(const uint8_t *text, size_t text_length, uint8_
  *
  *  Returns: the length of the string, the bytes written: one for each word.
  *           Refused: 6; nothing is written.
- *  In:      text: the text, text_length bytes; no zero byte behind it.
+ *  In:      text: the text, text_length bytes; it need not end in a zero byte.
  *  Out:     out: room for the digits, out_length bytes. LESMUTKA_TEXT_ROOM(text_length) is always
  *                enough.
  */
@@ -412,7 +411,7 @@ lesmutka_length lesmutka_read_digits(const uint8_t *text, size_t text_length, ui
  *
  *  Returns: the length of the plan, the bytes written: LESMUTKA_STEP_BYTES for each word.
  *           Refused: 7 for more words than LESMUTKA_PLAN_STEPS, then 6; nothing is written.
- *  In:      text: the text, text_length bytes; no zero byte behind it.
+ *  In:      text: the text, text_length bytes; it need not end in a zero byte.
  *  Out:     out: room for the plan, out_length bytes. LESMUTKA_PLAN_ROOM is always enough.
  */
 lesmutka_length lesmutka_read_steps(const uint8_t *text, size_t text_length, uint8_t *out,
@@ -433,7 +432,7 @@ uint32_t lesmutka_version(void);
 /** Write a refusal in plain words, for languages that cannot read this header. The words are those
  *  of lesmutka_words.
  *
- *  Returns: the length of the words, the bytes written; no zero byte is behind them.
+ *  Returns: the length of the words, the bytes written; no zero byte is added.
  *           Refused: 6; nothing is written.
  *  In:      refusal: the refusal of an answer, or any other number.
  *  Out:     out: room for the words, out_length bytes. LESMUTKA_WORDS_ROOM is always enough.

@@ -25,7 +25,7 @@ const REQUESTS: [(&str, Request); 5] = [
     ("recode 0x..", |number| format!("recode {}", hexadecimal(number))),
 ];
 
-fn hexadecimal(number: &[u8]) -> String {
+pub fn hexadecimal(number: &[u8]) -> String {
     let digits: String = number.iter().rev().map(|byte| format!("{:02x}", byte)).collect();
     format!("0x{}", digits)
 }

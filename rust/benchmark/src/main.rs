@@ -213,6 +213,7 @@ fn main() {
     let strings = &strings(rng, 256);
     let longest: &Vec<Vec<u8>> = &numbers.iter().map(|number| longest(number)).collect();
     let texts: &Vec<String> = &numbers.iter().map(|number| lines::decimal(number)).collect();
+    let hexadecimals: &Vec<String> = &numbers.iter().map(|number| lines::hexadecimal(number)).collect();
     const ROOM: usize = lesmutka::PLAN_ROOM;
     const SPACE: usize = lesmutka::work_space(lesmutka::PLAN_STEPS);
 
@@ -274,6 +275,12 @@ fn main() {
         move |i| keep(reference::check(&numbers[i], &longest[i], &mut b)),
     ));
 
+    let (mut a, mut b) = (vec![0; ROOM], vec![0; ROOM]);
+    jobs.push(Job::new(
+        "hexadecimal text read",
+        move |i| keep(sys::hexadecimal(hexadecimals[i].as_bytes(), &mut a)),
+        move |i| keep(reference::text::hexadecimal(hexadecimals[i].as_bytes(), &mut b)),
+    ));
     let (mut a, mut b) = (vec![0; ROOM], vec![0; ROOM]);
     jobs.push(Job::new(
         "decimal text read",

@@ -42,10 +42,14 @@ pub fn decimal(text: &[u8], out: &mut [u8]) -> Result<usize, usize> {
     }
     let number = &mut out[..length];
     number.fill(0);
-    for digit in text {
-        let mut carry = u32::from(digit - b'0');
+    // As many digits at a time as leave a byte's product and carry within a word.
+    for digits in text.chunks(16) {
+        let power = 10u64.pow(digits.len() as u32);
+        let mut carry = digits
+            .iter()
+            .fold(0, |value, digit| 10 * value + u64::from(digit - b'0'));
         for byte in number.iter_mut() {
-            carry += 10 * u32::from(*byte);
+            carry += power * u64::from(*byte);
             *byte = carry as u8;
             carry >>= 8;
         }

@@ -3,7 +3,7 @@
  *
  * Recoding of a number into its non-adjacent form (NAF), cleaning and reading back of signed digit
  * strings, planning of addition-subtraction chains by several methods, the check of such a plan,
- * and the reading of numbers from text.
+ * and the reading of numbers, digits and steps from text.
  *
  * Every function of the library is proved: whatever bytes it is handed, it returns, it touches
  * only what it was lent, and its answer and every byte that it leaves are those of a written
@@ -101,7 +101,8 @@
  *    6  LESMUTKA_ROOM_TOO_SMALL              output needs more bytes than lent         bytes needed
  *    7  LESMUTKA_PLAN_LENGTH                 plan bytes not a multiple of              0
  *                                            LESMUTKA_STEP_BYTES, or more than
- *                                            LESMUTKA_PLAN_ROOM
+ *                                            LESMUTKA_PLAN_ROOM; text of more
+ *                                            words than LESMUTKA_PLAN_STEPS
  *    8  LESMUTKA_WORK_SPACE_TOO_SHORT        work space shorter than                   0
  *                                            LESMUTKA_WORK_SPACE(r)
  *    9  LESMUTKA_MALFORMED_STEP              unknown operation, or j or k not below i  i
@@ -150,9 +151,9 @@ extern "C" {
 #define LESMUTKA_READ_BACK_ROOM (LESMUTKA_STRING_DIGITS / 8)
 #define LESMUTKA_PLAN_ROOM (LESMUTKA_STEP_BYTES * LESMUTKA_PLAN_STEPS)
 
-/* Room that is enough for the number that a text of this many digits stands for. The argument is
+/* Room that is enough for the number or the digits of a text of this many bytes. The argument is
  * evaluated twice. */
-#define LESMUTKA_TEXT_ROOM(digits) ((size_t)(digits) / 2 + (size_t)(digits) % 2)
+#define LESMUTKA_TEXT_ROOM(length) ((size_t)(length) / 2 + (size_t)(length) % 2)
 
 /* The longest words of a refusal. */
 #define LESMUTKA_WORDS_ROOM 75

@@ -1,4 +1,4 @@
--- The limits by name (docs/RULES.md, 8.1), all but the widths of windows, which stand in methods. The constants of src/lib.rt are the same, as `current` shows; docs/ARCHITECTURE.md, "How to change a limit", names the other files that have them.
+-- The limits by name (docs/RULES.md, 8.1), all but the widths of windows, which stand in methods, and the room for words; and the version (9.8). The constants of src/lib.rt are the same, as `current` and `lesmutka_version` show; docs/ARCHITECTURE.md, "How to change a limit", names the other files that have them.
 use Prim.Native.Nat.{ℕ, _+_, _*_, _/_, _^_}
 use Rattle.rules.specs.declared.Limits.{Limits}
 

@@ -69,7 +69,7 @@ pub enum Refusal {
     StringTooLong,
     // Output needs this many bytes, more than lent.
     RoomTooSmall(usize),
-    // Plan bytes not a whole number of steps, or too many.
+    // Plan bytes not a whole number of steps, or too many; text of too many steps.
     PlanLength,
     // Work space too short for the plan.
     WorkSpaceTooShort,

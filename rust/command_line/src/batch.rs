@@ -110,11 +110,12 @@ impl Batch {
         self.begun = line;
     }
 
-    /// Answers a line, unless it has no words. None is a line that is too long to be kept.
+    /// Answers a line, unless it has no words. None is a line that was too long to be kept.
     fn answer(&mut self, line: Option<&[u8]>) {
         self.line += 1;
         let line = line.map(|line| trimmed(line, self.line == 1));
-        let all: Vec<&[u8]> = line.map_or(Vec::new(), words_of);
+        let line = line.filter(|line| line.len() <= LINE_BYTES);
+        let all = line.map_or(Vec::new(), words_of);
         if line.is_some() && all.is_empty() {
             return;
         }
@@ -124,10 +125,9 @@ impl Batch {
         };
         let mut words = Words::new(&all);
         let verb = words.verb().map(|verb| verb.name);
-        let is_kept = line.map_or(false, |line| line.len() <= LINE_BYTES);
-        let request = match is_kept {
-            true => request(&mut words, self.force),
-            false => Err(Fault::Malformed(format!("a line has at most {} bytes", LINE_BYTES))),
+        let request = match line {
+            Some(_) => request(&mut words, self.force),
+            None => Err(Fault::Malformed(format!("a line has at most {} bytes", LINE_BYTES))),
         };
         let status = match request {
             Ok(request) => form.answer(&request, &self.desk.answer(&request), &mut self.out),

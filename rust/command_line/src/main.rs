@@ -2,7 +2,7 @@
 //!
 //! A request is taken apart by [`request`], answered by [`answer`] and printed by [`print`]. What a
 //! person types reaches a call only through the library's proved readers of numbers, digits and steps;
-//! all other words stand in lists and are compared whole.
+//! all other words stand in lists and are compared whole, names of methods in capitals or not.
 mod answer;
 mod batch;
 mod choice;
@@ -49,6 +49,7 @@ fn main() {
 
 /// Answers the words of the command line.
 fn run(words: &Words, out: &mut Vec<u8>) -> Result<Status, Fault> {
+    words.check_unknown()?;
     match words.plain.as_slice() {
         plain if words.help => help::put_help(plain, out)?,
         _ if words.version => {
@@ -106,8 +107,7 @@ fn complain(fault: &Fault) -> Status {
     fault.status()
 }
 
-/// Writes to standard output; false if its reader has gone away, who wants no more, and no word about
-/// it.
+/// Writes to standard output; false if it is a pipe that nobody reads any more, which is no fault.
 fn put_all(out: &[u8]) -> Result<bool, Fault> {
     let mut stdout = io::stdout().lock();
     match stdout.write_all(out).and_then(|()| stdout.flush()) {

@@ -119,7 +119,7 @@ fn without_comments(text: &str) -> String {
             None => line.to_string(),
         }
     };
-    text.lines().map(line).collect::<Vec<String>>().join("\n")
+    text.split(['\n', '\r']).map(line).collect::<Vec<String>>().join("\n")
 }
 
 /// Whether this is what `plan` prints before `steps:`, or nothing.
@@ -144,17 +144,15 @@ fn steps_of_object(text: &str) -> Result<String, Fault> {
     if list.trim().is_empty() {
         return Ok("none".to_string());
     }
-    // Between the quotes stand steps and, in their turn, commas.
-    let parts: Vec<&str> = list.split('"').map(str::trim).collect();
-    let is_list = parts.len() % 2 == 1
-        && parts[0].is_empty()
-        && parts[parts.len() - 1].is_empty()
-        && parts[1..parts.len() - 1]
-            .iter()
-            .skip(1)
-            .step_by(2)
-            .all(|comma| *comma == ",");
-    match is_list {
+    // Between the quotes stand steps, each one word, and in their turn commas.
+    let parts: Vec<&str> = list.split('"').collect();
+    let is_part = |(i, part): (usize, &&str)| match i {
+        _ if i % 2 == 1 => !part.is_empty() && part.bytes().all(|byte| !is_blank(byte)),
+        0 => part.trim().is_empty(),
+        _ if i == parts.len() - 1 => part.trim().is_empty(),
+        _ => part.trim() == ",",
+    };
+    match parts.len() % 2 == 1 && parts.iter().enumerate().all(is_part) {
         true => Ok(parts
             .iter()
             .skip(1)

@@ -124,15 +124,23 @@ impl<'a> Words<'a> {
         self.plain.first().and_then(|word| Verb::named(word))
     }
 
-    /// No option is there that is none, or that this has no use for.
-    pub fn check_options(&self, force: bool, dot: bool) -> Result<(), Fault> {
+    /// No option is there that is none.
+    pub fn check_unknown(&self) -> Result<(), Fault> {
         match self.unknown {
             Some(word) => Err(Fault::word("no such option", word)),
-            None if self.force && !force => {
-                Err(Fault::Malformed("--force is for `plan ... to FILE` alone".to_string()))
-            }
-            None if self.dot && !dot => Err(Fault::Malformed("--dot is for `show` alone".to_string())),
             None => Ok(()),
+        }
+    }
+
+    /// No option is there that is none, or that this has no use for.
+    pub fn check_options(&self, force: bool, dot: bool) -> Result<(), Fault> {
+        self.check_unknown()?;
+        if self.force && !force {
+            Err(Fault::Malformed("--force is for `plan ... to FILE` alone".to_string()))
+        } else if self.dot && !dot {
+            Err(Fault::Malformed("--dot is for `show` alone".to_string()))
+        } else {
+            Ok(())
         }
     }
 

@@ -31,6 +31,8 @@ impl<const N: usize> Part<N> {
     }
 }
 
+const _: () = assert!(PLAN_STEPS < 10_000, "positions have more than four digits");
+
 /// The positions of a plan in decimal.
 static POSITIONS: [Part<4>; PLAN_STEPS + 1] = positions();
 

@@ -70,6 +70,13 @@ fn damaged(rng: &mut Rng, line: &str) -> Vec<u8> {
     bytes
 }
 
+/// Whether a line has a word before a comment.
+fn has_words(line: &[u8]) -> bool {
+    let is_blank = |byte: &u8| *byte == b' ' || (9..=13).contains(byte);
+    let first = line.split(is_blank).find(|word| !word.is_empty());
+    first.map_or(false, |word| word[0] != b'#')
+}
+
 /// 100,000 lines: a third as they should be, whose answers are those of `reference`; a third damaged; a
 /// third of random bytes. Each line with words has one answer, behind its number, and the run ends
 /// with a status, not a panic.
@@ -132,6 +139,13 @@ fn random_and_damaged_lines() {
         }
         *statuses.entry(status).or_default() += 1;
     }
+    assert_eq!(
+        answers.len(),
+        input
+            .split(|&byte| byte == b'\n')
+            .filter(|line| has_words(line))
+            .count()
+    );
     assert_eq!(compared, wanted.iter().flatten().count());
     assert!(compared > LINES / 4);
     let count = |status: &str| statuses.get(status).copied().unwrap_or(0);
@@ -277,6 +291,12 @@ fn long_lines() {
             cut
         );
     }
+    // A comment is no exception, wherever it begins in what is read at a time.
+    for lines in [0, 20_000] {
+        let comment = format!("{}#{}\n", "\n".repeat(lines), "x".repeat(60_000));
+        let (status, out, _) = batch(comment.as_bytes());
+        assert_eq!((status, out), (2, format!("{}: {}", lines + 1, long)));
+    }
     for more in [1, 2, 100_000, 1_000_000] {
         let line = format!("{}{}", exact, "0".repeat(more));
         let (status, out, _) = batch(format!("recode 0\n{}\nrecode 0\n{}", line, line).as_bytes());
@@ -348,7 +368,7 @@ fn input_that_cannot_be_read_and_output_that_cannot_be_written() {
     }
 }
 
-/// Binary input, as a whole and as a plan.
+/// Binary input.
 #[test]
 fn binary_input() {
     let bytes = Rng::new(7).bytes(1 << 20);

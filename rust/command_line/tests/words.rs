@@ -173,6 +173,8 @@ fn malformed_requests() {
         (&["--version", "x"], "too many words: `x`"),
         (&["recode", "1", "--jason"], "no such option: `--jason`"),
         (&["recode", "1", "--json", "--jason"], "no such option: `--jason`"),
+        (&["--help", "--jason"], "no such option: `--jason`"),
+        (&["--version", "--jason"], "no such option: `--jason`"),
         (&["--json"], "no request; `lesmutka help` lists them"),
     ] {
         told(words, what.to_string());

@@ -92,8 +92,8 @@ pub const fn work_space(steps: usize) -> usize {
     RECORD_BYTES.saturating_mul(steps.saturating_add(1))
 }
 
-/// Room for every answer of [`hexadecimal`] and [`decimal`] to a text of this length: half of it,
-/// rounded up.
+/// Room for every answer of [`hexadecimal`], [`decimal`] and [`read_digits`] to a text of this length:
+/// half of it, rounded up.
 pub const fn text_room(length: usize) -> usize {
     length / 2 + length % 2
 }
@@ -255,8 +255,7 @@ pub fn decimal<'a>(text: &[u8], out: &'a mut [u8]) -> Result<&'a [u8], NotDecima
 /// The text is no decimal number, or the room for it is too small.
 #[derive(Clone, Copy, Debug, PartialEq, Eq)]
 pub struct NotDecimal {
-    /// How many digits come before the first byte that is none: the text's length, if it is empty or
-    /// the room is too small.
+    /// How many digits come before the first byte that is none: the text's length, if all are digits.
     pub digits: usize,
 }
 
@@ -310,13 +309,23 @@ pub fn read_steps<'a>(text: &[u8], out: &'a mut [u8]) -> Result<&'a [u8], Refusa
     Ok(&out[..length])
 }
 
-/// A decimal number of at most 10 digits, if it fits.
+/// A decimal number of at most 32 bits.
 fn small(text: &str) -> Option<u32> {
     let mut room = [0; text_room(10)];
-    let bytes = decimal(text.as_bytes(), &mut room).ok()?;
+    // Zeros in front would take room.
+    let digits = match text.trim_start_matches('0') {
+        "" if !text.is_empty() => "0",
+        digits => digits,
+    };
+    let bytes = decimal(digits.as_bytes(), &mut room).ok()?;
     let mut number = [0; 4];
     number.get_mut(..bytes.len())?.copy_from_slice(bytes);
     Some(u32::from_le_bytes(number))
+}
+
+/// What separates words, as the library's readers take it.
+fn is_blank(byte: u8) -> bool {
+    byte == b' ' || (b'\t'..=b'\r').contains(&byte)
 }
 
 /// The limits that the linked library keeps; they equal the constants of this crate.

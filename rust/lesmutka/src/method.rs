@@ -1,5 +1,5 @@
 //! The methods, by name and by number.
-use crate::{small, Refusal, FIXED_WINDOW_BITS, SLIDING_WINDOW_BITS};
+use crate::{is_blank, small, Refusal, FIXED_WINDOW_BITS, SLIDING_WINDOW_BITS};
 use core::fmt;
 use core::str::FromStr;
 
@@ -114,7 +114,8 @@ impl FromStr for Method {
 }
 
 fn read(text: &str) -> Option<Method> {
-    let mut words = text.split_ascii_whitespace();
+    let is_apart = |c: char| c.is_ascii() && is_blank(c as u8);
+    let mut words = text.split(is_apart).filter(|word| !word.is_empty());
     let first = words.next()?;
     let number = match Method::ALL
         .iter()

@@ -1,5 +1,5 @@
 //! A plan: its steps, and their counts.
-use crate::{small, sys, Refusal, STEP_BYTES};
+use crate::{is_blank, sys, Refusal, STEP_BYTES};
 use core::fmt;
 use core::iter::{FusedIterator, Sum};
 use core::ops::{Add, AddAssign};
@@ -143,32 +143,19 @@ impl fmt::Display for Step {
     }
 }
 
-/// Reads what a step prints, and nothing else.
+/// Reads what a step prints, by [`crate::read_steps`]; positions may have zeros in front.
 impl FromStr for Step {
     type Err = ParseStepError;
 
     fn from_str(text: &str) -> Result<Step, ParseStepError> {
-        read(text).ok_or(ParseStepError(()))
+        let mut bytes = [0; STEP_BYTES];
+        // Blanks around the one word would be passed over.
+        let is_word = !text.bytes().any(is_blank);
+        match sys::read_steps(text.as_bytes(), &mut bytes).length {
+            STEP_BYTES if is_word => Step::from_bytes(bytes).ok_or(ParseStepError(())),
+            _ => Err(ParseStepError(())),
+        }
     }
-}
-
-fn read(text: &str) -> Option<Step> {
-    let (name, positions) = text.strip_suffix(')')?.split_once('(')?;
-    let (j, k) = positions.split_once(',')?;
-    let (j, k) = (position(j)?, position(k)?);
-    match name {
-        "add" => Some(Step::Add(j, k)),
-        "subtract" => Some(Step::Subtract(j, k)),
-        _ => None,
-    }
-}
-
-fn position(text: &str) -> Option<u16> {
-    // No step prints a zero before another digit.
-    if text.len() > 1 && text.starts_with('0') {
-        return None;
-    }
-    small(text)?.try_into().ok()
 }
 
 /// The text is no step.

@@ -60,7 +60,7 @@ pub struct Counts {
     pub subtractions: usize,
 }
 
-/// What a reader of text answers.
+/// What a reader of a number answers.
 #[repr(C)]
 #[derive(Clone, Copy, Debug, PartialEq, Eq)]
 pub struct Parsed {
@@ -137,9 +137,9 @@ extern "C" {
     pub fn lesmutka_hexadecimal(text: *const u8, text_length: usize, out: *mut u8, out_length: usize) -> Parsed;
     /// Reads a decimal number. Nothing is written where the text is none.
     pub fn lesmutka_decimal(text: *const u8, text_length: usize, out: *mut u8, out_length: usize) -> Parsed;
-    /// Reads a digit string from text.
+    /// Reads a digit string from text. Refused: 6.
     pub fn lesmutka_read_digits(text: *const u8, text_length: usize, out: *mut u8, out_length: usize) -> Length;
-    /// Reads the steps of a plan from text.
+    /// Reads the steps of a plan from text. Refused: 7, 6.
     pub fn lesmutka_read_steps(text: *const u8, text_length: usize, out: *mut u8, out_length: usize) -> Length;
     /// Writes a refusal in plain words. Refused: 6.
     pub fn lesmutka_write_words(refusal: usize, out: *mut u8, out_length: usize) -> Length;

@@ -43,7 +43,7 @@ pub fn ended(command: &mut Command, input: &[u8]) -> Ended {
     let mut child = started(command);
     let mut stdin = child.stdin.take().expect("standard input");
     let input = input.to_vec();
-    // The program may end before it has read all, which is its own affair.
+    // The program may end before it has read all.
     let writer = thread::spawn(move || {
         let _ = stdin.write_all(&input);
     });

@@ -1,18 +1,18 @@
 -- The bytes of a hexadecimal number have its value. Assumes nothing.
 use mathlib.Core.Path.{_≡_, refl, ap, _∙_}
 use mathlib.Core.List.{List, [], _∷_, _++_}
-use Prim.Native.Nat.{ℕ, zero, suc, _+_, _-_, _*_, _%_, _^_, _<_, _≤_}
+use Prim.Native.Nat.{ℕ, zero, suc, _+_, _-_, _*_, _/_, _%_, _^_, _<_, _≤_}
 use native.Mathlib.Nat.{pow-suc, mul-add, mul-assoc, mul-comm, mul-zero, add-zero, add-suc}
 use native.Mathlib.Omega.{arith}
-use borrow.Author.Tests.{lt-ltb, le-ltb}
-use lib.ListN.{length, getD, take, drop, drop-of-length-le}
+use borrow.Author.Tests.{lt-ltb, le-ltb, le-leb, lt-leb, ltb-true, ltb-false}
+use lib.ListN.{length, getD, set, take, drop, drop-of-length-le}
 use lib.Seq.{drop-cons, take-append-seam}
 use native.Mathlib.Numerals.{add-one}
-use mathlib.Core.Bool.{Bool, true, false, cond}
-use lib.Dec.{eqb, ltb}
+use mathlib.Core.Bool.{Bool, true, false, cond, _&&_, _||_}
+use lib.Dec.{eqb, ltb, leb}
 use Rattle.integers.specs.Positional.{positional, bytesValue}
 use Rattle.integers.specs.Tabulate.{tabulate}
-use Rattle.integers.proofs.Tabulate.{length-tabulate, tabulate-same, positional-tabulate}
+use Rattle.integers.proofs.Tabulate.{length-tabulate, tabulate-same, tabulate-more, positional-tabulate}
 use Rattle.hexadecimal.specs.Hex.{digitValue, placeValue, byteAt, hexValue, isHex, byteCount, parsed, parsedBuffer}
 use Rattle.hexadecimal.specs.declared.Parsed.{Parsed}
 use Rattle.hexadecimal.specs.declared.Parsed.the-variants.{Bytes, NotHex}
@@ -100,6 +100,27 @@ parsed-value text bytes n e =
     let m = parsed-count text (length bytes) n e in
     rw (e, ← m) (front-value text (drop (byteCount text) bytes))
 
+-- ---- the tests and sums of the code
+
+below : {A : Type 0} (c n : ℕ) → (c < n → A) → (n ≤ c → A) → A
+below {A} c n f g = go (ltb c n) refl
+  where
+    go : (b : Bool) → ltb c n ≡ b → A
+    go true e = f (ltb-true c n e)
+    go false e = g (ltb-false c n e)
+
+-- a digit by its ranges, and its value by its halves
+pub digit-law : (c : ℕ) → (leb 48 c && leb c 57 || leb 65 c && leb c 70 || leb 97 c && leb c 102 ≡ leb (digitValue c) 15) × (digitValue c ≤ 15 → c % 16 + c / 64 * 9 ≡ digitValue c)
+unfolding digitValue
+digit-law c =
+    below c 48 (λ h. simp (lt-ltb c 48 h, lt-leb 48 c h, lt-leb 65 c (omega arith), lt-leb 97 c (omega arith)) (refl, λ d. absurd (omega arith)))
+    (λ a. below c 58 (λ h. simp (le-ltb c 48 a, le-leb 48 c a, le-leb c 57 (omega arith), le-leb (c - 48) 15 (omega arith)) (refl, λ d. omega arith))
+    (λ b. below c 65 (λ h. simp (le-ltb c 48 a, le-leb 48 c a, lt-leb c 57 (omega arith), lt-ltb c 65 h, lt-leb 65 c h, lt-leb 97 c (omega arith)) (refl, λ d. absurd (omega arith)))
+    (λ d. below c 71 (λ h. simp (le-ltb c 48 a, le-leb 48 c a, lt-leb c 57 b, le-ltb c 65 d, le-leb 65 c d, le-leb c 70 (omega arith), le-leb (c - 65 + 10) 15 (omega arith)) (refl, λ v. omega arith))
+    (λ e. below c 97 (λ h. simp (le-ltb c 48 a, le-leb 48 c a, lt-leb c 57 b, le-ltb c 65 d, le-leb 65 c d, lt-leb c 70 e, lt-ltb c 97 h, lt-leb 97 c h) (refl, λ v. absurd (omega arith)))
+    (λ f. below c 103 (λ h. simp (le-ltb c 48 a, le-leb 48 c a, lt-leb c 57 b, le-ltb c 65 d, le-leb 65 c d, lt-leb c 70 e, le-ltb c 97 f, le-leb 97 c f, le-leb c 102 (omega arith), le-leb (c - 97 + 10) 15 (omega arith)) (refl, λ v. omega arith))
+    (λ g. simp (le-ltb c 48 a, le-leb 48 c a, lt-leb c 57 b, le-ltb c 65 d, le-leb 65 c d, lt-leb c 70 e, le-ltb c 97 f, le-leb 97 c f, lt-leb c 102 g) (refl, λ v. absurd (omega arith))))))))
+
 -- one digit more, or a byte that is none
 pub digit-passed : (text : List ℕ) (i : ℕ) → i < length text → digitValue (getD text i 0) ≤ 15 → isHex (drop i text) ≡ isHex (drop (i + 1) text)
 unfolding isHex
@@ -112,3 +133,44 @@ not-digit text i h d = rw (drop-cons text i 0) (simp (lt-ltb 15 (digitValue (get
 pub all-passed : (text : List ℕ) (i : ℕ) → length text ≤ i → isHex (drop i text) ≡ true
 unfolding isHex
 all-passed text i h = rw (drop-of-length-le text {i = i} h)
+
+-- the same beside what was found before
+pub next-tested : (text : List ℕ) (i : ℕ) (all : Bool) → i < length text → (all && isHex (drop i text)) ≡ (all && leb (digitValue (getD text i 0)) 15 && isHex (drop (i + 1) text))
+next-tested text i false h = refl
+next-tested text i true h =
+    let d : ℕ = digitValue (getD text i 0) in
+    below 15 d (λ n. rw (not-digit text i h n, lt-leb d 15 n)) (λ y. rw (digit-passed text i h y, le-leb d 15 y))
+
+pub all-tested : (text : List ℕ) (i : ℕ) (all : Bool) → length text ≤ i → (all && isHex (drop i text)) ≡ all
+all-tested text i false h = refl
+all-tested text i true h = all-passed text i h
+
+-- where all are digits, each is
+both : (none rest : Bool) → cond none false rest ≡ true → (none ≡ false) × (rest ≡ true)
+both true rest e = let z : _≡_ {A = ℕ} 0 1 = cc in absurd (omega arith)
+both false rest e = (refl, e)
+
+each : (text : List ℕ) (i : ℕ) → isHex text ≡ true → i < length text → digitValue (getD text i 0) ≤ 15
+unfolding isHex
+each [] i e h = absurd (omega arith)
+each (c ∷ text) zero e h = ltb-false 15 (digitValue c) (both (ltb 15 (digitValue c)) (isHex text) e .0)
+each (c ∷ text) (suc i) e h = each text i (both (ltb 15 (digitValue c)) (isHex text) e .1) (omega arith)
+
+-- the digit at a place
+pub digit-here : (text : List ℕ) (place : ℕ) → isHex text ≡ true → place < length text
+    → (getD text (length text - 1 - place) 0 % 16 + getD text (length text - 1 - place) 0 / 64 * 9 ≡ placeValue text place) × (placeValue text place < 16)
+unfolding placeValue
+digit-here text place e h =
+    let d : ℕ = getD text (length text - 1 - place) 0 in
+    let small = each text (length text - 1 - place) e (omega arith) in
+    let law = digit-law d .1 small in
+    simp (lt-ltb place (length text) h) (omega arith, omega arith)
+
+-- the first of an odd number of digits is a byte
+pub odd-byte : (text : List ℕ) (k : ℕ) → length text ≡ 2 * k + 1 → placeValue text (2 * k) ≡ byteAt text k
+odd-byte text k h = omega (arith, above text (2 * k + 1) (omega arith))
+
+-- one byte more is written
+pub byte-more : (text bytes : List ℕ) (k : ℕ) {byte : ℕ} → byte ≡ byteAt text k → k < length bytes
+    → set (tabulate (byteAt text) k ++ drop k bytes) k byte ≡ tabulate (byteAt text) (k + 1) ++ drop (k + 1) bytes
+byte-more text bytes k e h = rw e (tabulate-more (byteAt text) bytes k h)

@@ -1,10 +1,12 @@
 // Numbers as people write them: hexadecimal digits, most significant first.
 ghost use mathlib.Core.Path.{_≡_};
+ghost use mathlib.Core.Bool.{true};
 ghost use mathlib.Core.List.{_++_};
-ghost use Prim.Native.Nat.{_*_, _≤_, _<_, _^_};
+ghost use Prim.Native.Nat.{_≤_, _<_};
+ghost use lib.Dec.{leb};
 ghost use lib.ListN.{length, drop};
 ghost use Rattle.integers.specs.Tabulate.{tabulate};
-ghost use Rattle.hexadecimal.specs.Hex.{digitValue, placeValue, byteAt, isHex, isPrefix, parsed, parsedBuffer, withoutPrefix};
+ghost use Rattle.hexadecimal.specs.Hex.{digitValue, placeValue, byteAt, byteCount, isHex, isPrefix, parsed, parsedBuffer, withoutPrefix};
 
 // What a word holds: a number in this many bytes, or something else.
 pub enum Parsed {
@@ -12,67 +14,54 @@ pub enum Parsed {
     NotHex,
 }
 
-// The value of a hexadecimal digit; 16 for any other byte.
-fn value_of(digit: u8) -> u8
-    ensures { λ r. ⌜ r ≡ digitValue digit ⌝ }
+// Whether a byte is a hexadecimal digit: three ranges, and no branch that digits decide.
+fn is_digit(byte: u8) -> bool
+    ensures { λ r. ⌜ r ≡ leb (digitValue byte) 15 ⌝ }
 {
-    if digit < b'0' {
-        return 16;
-    }
-    if digit <= b'9' {
-        return digit - b'0';
-    }
-    if digit < b'A' {
-        return 16;
-    }
-    if digit <= b'F' {
-        return digit - b'A' + 10;
-    }
-    if digit < b'a' {
-        return 16;
-    }
-    if digit <= b'f' {
-        return digit - b'a' + 10;
-    }
-    16
+    ((b'0' <= byte) & (byte <= b'9'))
+        | ((b'A' <= byte) & (byte <= b'F'))
+        | ((b'a' <= byte) & (byte <= b'f'))
 }
 
 // Whether all bytes are hexadecimal digits.
 fn is_hex(text: &[u8]) -> bool
     ensures { λ r. ⌜ r ≡ isHex (now (text .entry)) ⌝ }
 {
+    let mut all = true;
     let mut i = 0;
     while i < text.len() {
-        if 15 < value_of(text[i]) {
-            return false;
-        }
+        all = all & is_digit(text[i]);
         i += 1;
     }
-    true
+    all
 }
 
-// The value of the digit at a place, from the last on; 0 above the first.
+// The value of the digit at a place, from the last on: its low half, and nine more for a letter.
 fn digit_at(text: &[u8], place: usize) -> u8
+    requires { ⌜ isHex (now text) ≡ true ⌝ }
+    requires { ⌜ place < length (now text) ⌝ }
     ensures { λ r. ⌜ (r ≡ placeValue (now (text .entry)) place) × (r < 16) ⌝ }
 {
-    if place < text.len() {
-        return value_of(text[text.len() - 1 - place]) % 16;
-    }
-    0
+    let digit = text[text.len() - 1 - place];
+    digit % 16 + digit / 64 * 9
 }
 
-// Writes the n low bytes of the number, two digits a byte.
-fn write(text: &[u8], bytes: &mut [u8], n: usize)
-    requires { ⌜ n ≤ length (now bytes) ⌝ }
-    requires { ⌜ 2 * n ≤ 2 ^ 64 ⌝ }
-    ensures { λ _. ⌜ now (bytes .exit) ≡ tabulate (byteAt (now (text .entry))) n ++ drop n (now (bytes .entry)) ⌝ }
+// Writes the number, two digits a byte; of an odd number of digits the first has a byte of its own.
+fn write(text: &[u8], bytes: &mut [u8])
+    requires { ⌜ isHex (now text) ≡ true ⌝ }
+    requires { ⌜ byteCount (now text) ≤ length (now bytes) ⌝ }
+    ensures { λ _. ⌜ now (bytes .exit) ≡ tabulate (byteAt (now (text .entry))) (byteCount (now (text .entry))) ++ drop (byteCount (now (text .entry))) (now (bytes .entry)) ⌝ }
 {
+    let pairs = text.len() / 2;
     let mut k = 0;
-    while k < n {
+    while k < pairs {
         let low = digit_at(text, 2 * k);
         let high = digit_at(text, 2 * k + 1);
         bytes[k] = low + 16 * high;
         k += 1;
+    }
+    if text.len() % 2 == 1 {
+        bytes[pairs] = digit_at(text, 2 * pairs);
     }
 }
 
@@ -89,7 +78,7 @@ fn parse_digits(text: &[u8], bytes: &mut [u8]) -> Parsed
         return Parsed::NotHex;
     }
     if is_hex(text) {
-        write(text, bytes, n);
+        write(text, bytes);
         return Parsed::Bytes(n);
     }
     Parsed::NotHex

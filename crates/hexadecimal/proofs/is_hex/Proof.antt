@@ -1,34 +1,28 @@
--- `hexadecimal::is_hex` meets its contract: what is left of the text decides. Assumes nothing.
+-- `hexadecimal::is_hex` meets its contract: what is passed and what is left of the text decide. Assumes nothing.
 use mathlib.Core.Path.{_≡_, sym, _∙_}
-use Prim.Native.Nat.{_≤_, _<_, _-_}
-use lib.ListN.{length, getD, drop}
-use Rattle.hexadecimal.specs.Hex.{digitValue, isHex}
-use Rattle.hexadecimal.proofs.Value.{digit-passed, not-digit, all-passed}
+use mathlib.Core.Bool.{_&&_}
+use Prim.Native.Nat.{_≤_, _-_}
+use lib.ListN.{length, drop}
+use Rattle.hexadecimal.specs.Hex.{isHex}
+use Rattle.hexadecimal.proofs.Value.{next-tested, all-tested}
 use borrow.Author.Needs.{needs}
 use Rattle.hexadecimal.proofs.is_hex.Statement.{statement}
 use Rattle.hexadecimal.proofs.is_hex.Tie as tie
 
 abbrev Inv-loop : tie.InvT-loop
-Inv-loop text i₀ i = (i ≤ length text) × (isHex text ≡ isHex (drop i text))
+Inv-loop text all₀ i₀ all i = (i ≤ length text) × (isHex text ≡ (all && isHex (drop i text)))
 
 abbrev μ-loop : tie.MeasureT-loop
-μ-loop text i₀ i = length text - i
+μ-loop text all₀ i₀ all i = length text - i
 
 loop-holds : tie.Need-loop-holds Inv-loop μ-loop
 loop-holds c = search needs
 
-shared-slice-read-value-of : tie.Need-shared-slice-read-value-of Inv-loop μ-loop
-shared-slice-read-value-of c = search needs
+shared-slice-read-is-digit : tie.Need-shared-slice-read-is-digit Inv-loop μ-loop
+shared-slice-read-is-digit c = search needs
 
-value-of-requires : tie.Need-value-of-requires Inv-loop μ-loop
-value-of-requires c κs = search needs
-
-returns : tie.Need-returns Inv-loop μ-loop
-returns c =
-    let loop = c .before .before .before .before .loop in
-    let text = c .before .before .before .before .before .before .args .text .now in
-    let d : 15 < digitValue (getD text (loop .i) 0) = rw (c .before .value-of .ensures) at (c .if1 .taken) in
-    sym (loop .inv .1 ∙ not-digit text (loop .i) (search needs) d)
+is-digit-requires : tie.Need-is-digit-requires Inv-loop μ-loop
+is-digit-requires c κs = search needs
 
 add-i : tie.Need-add-i Inv-loop μ-loop
 add-i c = search needs
@@ -38,16 +32,15 @@ loop-less c = search needs
 
 loop-again : tie.Need-loop-again Inv-loop μ-loop
 loop-again c =
-    let loop = c .before .before .before .before .loop in
-    let text = c .before .before .before .before .before .before .args .text .now in
-    let d : digitValue (getD text (loop .i) 0) ≤ 15 = rw (c .before .value-of .ensures) at (c .if1 .left) in
-    (search needs, loop .inv .1 ∙ digit-passed text (loop .i) (search needs) d)
+    let loop = c .before .before .before .loop in
+    let text = c .before .before .before .before .before .args .text .now in
+    (search needs, rw (c .is-digit .ensures) (loop .inv .1 ∙ next-tested text (loop .i) (loop .all) (search needs)))
 
-returns-2 : tie.Need-returns-2 Inv-loop μ-loop
-returns-2 c =
+returns : tie.Need-returns Inv-loop μ-loop
+returns c =
     let loop = c .before .loop in
     let text = c .before .before .before .args .text .now in
-    sym (loop .inv .1 ∙ all-passed text (loop .i) (search needs))
+    sym (loop .inv .1 ∙ all-tested text (loop .i) (loop .all) (search needs))
 
 pub is-hex-spec : {M : Type 1} → statement M
 is-hex-spec =
@@ -56,10 +49,9 @@ is-hex-spec =
     Inv-loop
     μ-loop
     loop-holds
-    shared-slice-read-value-of
-    value-of-requires
-    returns
+    shared-slice-read-is-digit
+    is-digit-requires
     add-i
     loop-less
     loop-again
-    returns-2)
+    returns)

@@ -25,7 +25,7 @@ is-hex-requires : tie.Need-is-hex-requires
 is-hex-requires c κs = search needs
 
 write-requires : tie.Need-write-requires
-write-requires c κs = search needs
+write-requires c κs = (sym (c .before .before .is-hex .ensures) ∙ c .before .if3 .taken, search needs)
 
 same-length : tie.Need-same-length
 same-length c = search needs

@@ -58,7 +58,7 @@ part d n (t ∷ ts) (suc k) h =
 
 -- ---- of the refusals
 
-count : length texts ≡ 13
+pub count : length texts ≡ 13
 unfolding texts
 count = refl
 

@@ -1,3 +1,4 @@
 pub mod Fitted
 pub mod Memory
 pub mod Returns
+pub mod Untested

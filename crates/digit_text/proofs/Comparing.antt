@@ -1,10 +1,11 @@
 -- The test that two words are the same tells whether they are equal; the digit of a word by such tests. Assumes nothing.
-use mathlib.Core.Path.{_≡_, refl, ap}
-use mathlib.Core.Bool.{Bool, true, false, cond}
+use mathlib.Core.Path.{_≡_, refl, sym, ap, _∙_}
+use mathlib.Core.Logic.{_≢_}
+use mathlib.Core.Bool.{Bool, true, false, cond, true≢false}
 use mathlib.Core.List.{List, [], _∷_}
 use Prim.Native.Nat.{ℕ}
 use native.Mathlib.Omega.{arith}
-use borrow.Author.Tests.{eqb-true}
+use borrow.Author.Tests.{eqb-true, eq-eqb}
 use lib.Dec.{eqb}
 use lib.ListN.{length, getD}
 use Rattle.digit_text.specs.Digits.{same, zeroWord, oneWord, minusOneWord, wordDigit}
@@ -19,6 +20,14 @@ same-is (c ∷ a) (d ∷ b) e = go (eqb c d) refl e (same-is a b)
     go : (t : Bool) → eqb c d ≡ t → cond t (same a b) false ≡ true → (same a b ≡ true → a ≡ b) → c ∷ a ≡ d ∷ b
     go true t e rest = let first : c ≡ d = eqb-true c d t in let others : a ≡ b = rest e in cc
     go false t e rest = cc
+
+same-self : (a : List ℕ) → same a a ≡ true
+unfolding same
+same-self [] = refl
+same-self (c ∷ a) = rw (eq-eqb c c refl, same-self a)
+
+pub same-not : (a b : List ℕ) → same a b ≡ false → a ≢ b
+same-not a b e q = true≢false (sym (same-self b) ∙ ap (λ (l : List ℕ). same l b) (sym q) ∙ e)
 
 -- words of other lengths, or with another byte at a place, differ
 longer : (a b : List ℕ) → (length a ≡ length b → ⊥) → same a b ≡ false

@@ -1,13 +1,13 @@
 -- What every word is, and how many a text can have. Assumes nothing.
 use mathlib.Core.Path.{_≡_, refl, sym, ap, _∙_}
 use mathlib.Core.Bool.{Bool, true, false, cond}
-use mathlib.Core.List.{List, [], _∷_, _++_}
+use mathlib.Core.List.{List, [], _∷_, _++_, flatten, append-assoc, append-nil}
 use Prim.Native.Nat.{ℕ, zero, suc, _+_, _-_, _*_, _/_, _<_, _≤_}
 use native.Mathlib.Omega.{arith}
 use native.Mathlib.Decide.{decLt}
 use lib.ListN.{length, getD, take, drop, length-append}
 use Rattle.text_words.specs.Words.{isBlank, ended, wordsAfter, textWords}
-use Rattle.text_words.proofs.Passing.{first-word, none-left}
+use Rattle.text_words.proofs.Passing.{begun, first-word, none-left}
 
 -- ---- a word has a byte, and no blank
 
@@ -50,6 +50,55 @@ after word (c ∷ text) clear n h =
 
 pub is-word : (text : List ℕ) (n : ℕ) → n < length (textWords text) → IsWord (getD (textWords text) n [])
 is-word text n h = after [] text none n h
+
+-- ---- the words are the longest runs: without a blank it is all one word, and a blank parts words
+
+alone : (word text : List ℕ) → NoBlank text → wordsAfter word text ≡ ended (word ++ text)
+unfolding wordsAfter
+alone word [] clear = rw append-nil
+alone word (c ∷ text) clear = rw (clear zero (omega arith)) (alone (word ++ (c ∷ [])) text (λ i h. clear (suc i) (omega arith)) ∙ ap ended (append-assoc word (c ∷ []) text))
+
+pub word-alone : (word : List ℕ) → IsWord word → textWords word ≡ word ∷ []
+word-alone word (some, clear) = alone [] word clear ∙ begun word some
+
+apart : (word a b : List ℕ) (c : ℕ) → isBlank c ≡ true → wordsAfter word (a ++ (c ∷ b)) ≡ wordsAfter word a ++ textWords b
+unfolding wordsAfter
+apart word [] b c blank = rw blank
+apart word (d ∷ a) b c blank = go (isBlank d) (apart [] a b c blank) (apart (word ++ (d ∷ [])) a b c blank)
+  where
+    go : (t : Bool) → textWords (a ++ (c ∷ b)) ≡ textWords a ++ textWords b → wordsAfter (word ++ (d ∷ [])) (a ++ (c ∷ b)) ≡ wordsAfter (word ++ (d ∷ [])) a ++ textWords b
+        → cond t (ended word ++ textWords (a ++ (c ∷ b))) (wordsAfter (word ++ (d ∷ [])) (a ++ (c ∷ b))) ≡ cond t (ended word ++ textWords a) (wordsAfter (word ++ (d ∷ [])) a) ++ textWords b
+    go true new on = ap (λ (ws : List (List ℕ)). ended word ++ ws) new ∙ sym (append-assoc (ended word) (textWords a) (textWords b))
+    go false new on = on
+
+pub words-apart : (a b : List ℕ) (c : ℕ) → isBlank c ≡ true → textWords (a ++ (c ∷ b)) ≡ textWords a ++ textWords b
+words-apart = apart []
+
+-- ---- no byte but blanks is left out, and all stay in order
+
+-- the bytes of a text that are no blanks
+unfoldable pub letters : List ℕ → List ℕ
+letters [] = []
+letters (c ∷ text) = cond (isBlank c) (letters text) (c ∷ letters text)
+
+word-first : (word : List ℕ) (words : List (List ℕ)) → flatten (ended word ++ words) ≡ word ++ flatten words
+unfolding flatten
+word-first [] words = refl
+word-first (c ∷ word) words = refl
+
+kept : (word text : List ℕ) → flatten (wordsAfter word text) ≡ word ++ letters text
+unfolding wordsAfter letters flatten
+kept [] [] = refl
+kept (c ∷ word) [] = refl
+kept word (c ∷ text) = go (isBlank c) (kept [] text) (kept (word ++ (c ∷ [])) text)
+  where
+    go : (t : Bool) → flatten (textWords text) ≡ letters text → flatten (wordsAfter (word ++ (c ∷ [])) text) ≡ (word ++ (c ∷ [])) ++ letters text
+        → flatten (cond t (ended word ++ textWords text) (wordsAfter (word ++ (c ∷ [])) text)) ≡ word ++ cond t (letters text) (c ∷ letters text)
+    go true new on = word-first word (textWords text) ∙ ap (λ (l : List ℕ). word ++ l) new
+    go false new on = on ∙ append-assoc word (c ∷ []) (letters text)
+
+pub all-kept : (text : List ℕ) → flatten (textWords text) ≡ letters text
+all-kept = kept []
 
 -- ---- what `next_word` gives while a word is left is that word
 

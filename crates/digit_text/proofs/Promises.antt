@@ -1,11 +1,13 @@
 -- What the call promises of a text's digits. Assumes nothing.
-use mathlib.Core.Path.{_≡_, refl}
+use mathlib.Core.Path.{_≡_, refl, _∙_}
 use mathlib.Core.Logic.{_↔_, _⊎_, _≢_, inl, inr}
 use mathlib.Core.Bool.{Bool, true, false, cond}
-use mathlib.Core.List.{List, [], _∷_, _++_, map, reverseAux}
-use Prim.Native.Nat.{ℕ, zero, suc, _+_, _/_, _<_, _≤_}
+use mathlib.Core.List.{List, [], _∷_, _++_, map, reverse, reverseAux, reverse-cons}
+use Prim.Native.Nat.{ℕ, zero, suc, _+_, _-_, _/_, _<_, _≤_}
 use native.Mathlib.Omega.{arith}
-use lib.ListN.{length, getD, drop, List·getD-append}
+use native.Mathlib.Decide.{decLt}
+use lib.ListN.{length, getD, drop, length-map, length-reverse, List·getD-append}
+use lib.Seq.{getD-at}
 use Rattle.rules.specs.Outcome.{Outcome, refused, answered, writtenOutcome}
 use Rattle.rules.specs.declared.Written.the-variants.{Length}
 use Rattle.rules.proofs.Fitted.{fits}
@@ -19,6 +21,30 @@ use Rattle.digit_text.proofs.Filling.{as-many}
 -- a digit for each word
 pub digit-each : (text : List ℕ) → length (textDigits text) ≡ length (textWords text)
 digit-each = as-many
+
+-- the most significant first: the last word's digit stands at place 0
+reversed : (words : List (List ℕ)) (i : ℕ) → i < length words → getD (reverse (map wordDigit words)) i 0 ≡ wordDigit (getD words (length words - 1 - i) [])
+reversed [] i h = absurd (omega arith)
+reversed (word ∷ words) i h = rw (reverse-cons (wordDigit word) (map wordDigit words)) (go (decLt i (length words)) (λ l. reversed words i l))
+  where
+    before : List ℕ
+    before = reverse (map wordDigit words)
+
+    many : length before ≡ length words
+    many = length-reverse (map wordDigit words) ∙ length-map words wordDigit
+
+    go : Dec (i < length words) → (i < length words → getD before i 0 ≡ wordDigit (getD words (length words - 1 - i) []))
+        → getD (before ++ (wordDigit word ∷ [])) i 0 ≡ wordDigit (getD (word ∷ words) (suc (length words) - 1 - i) [])
+    go (yes l) rest =
+        let next : suc (length words) - 1 - i ≡ suc (length words - 1 - i) = omega arith in
+        rw next (List·getD-append before (wordDigit word ∷ []) 0 i (omega (arith, many)) ∙ rest l)
+    go (no l) rest =
+        let last : suc (length words) - 1 - i ≡ 0 = omega arith in
+        rw last (getD-at before (wordDigit word) [] 0 i (omega (arith, many)))
+
+pub digit-at : (text : List ℕ) (i : ℕ) → i < length (textWords text) → getD (textDigits text) i 0 ≡ wordDigit (getD (textWords text) (length (textWords text) - 1 - i) [])
+unfolding textDigits
+digit-at text = reversed (textWords text)
 
 -- ---- a word's byte is a digit's, and that digit's own word; or it is 2, and the word is no digit's
 

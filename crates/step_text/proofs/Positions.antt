@@ -10,7 +10,7 @@ use lib.Dec.{eqb, ltb}
 use lib.ListN.{length, getD, take, List·getD-eq-default}
 use Rattle.decimal.specs.Decimal.{leading, decimalValue}
 use Rattle.decimal.proofs.Digits.{digit-more, part-more, leading-within}
-use Rattle.step_text.specs.Steps.{positionDigits}
+use Rattle.step_text.specs.Steps.{positionLimit, positionDigits}
 
 -- one digit more
 pub value-more : (text : List ℕ) (i : ℕ) → i < length text → decimalValue (take (i + 1) text) ≡ decimalValue (take i text) * 10 + (getD text i 0 - 48)
@@ -26,9 +26,9 @@ value-grows text m n h k =
 
 module _ (text : List ℕ) (end i : ℕ) where
   -- the digits end with this byte
-  pub position-ends : leading text ≡ i → getD text i 0 ≡ end → decimalValue (take i text) < 2 ^ 16 → i ≡ positionDigits text end
+  pub position-ends : leading text ≡ i → getD text i 0 ≡ end → decimalValue (take i text) < positionLimit → i ≡ positionDigits text end
   unfolding positionDigits
-  position-ends l e v = rw l (simp (eq-eqb (getD text i 0) end e, lt-ltb (decimalValue (take i text)) (2 ^ 16) v))
+  position-ends l e v = rw l (simp (eq-eqb (getD text i 0) end e, lt-ltb (decimalValue (take i text)) positionLimit v))
 
   -- with another
   pub ends-otherwise : leading text ≡ i → (getD text i 0 ≡ end → ⊥) → 0 ≡ positionDigits text end
@@ -40,11 +40,11 @@ module _ (text : List ℕ) (end i : ℕ) where
   ends-nowhere l h some = ends-otherwise l (λ e. omega (arith, List·getD-eq-default text 0 {n = i} h))
 
   -- the first digits are too many
-  pub too-large : i ≤ leading text → 2 ^ 16 ≤ decimalValue (take i text) → 0 ≡ positionDigits text end
+  pub too-large : i ≤ leading text → positionLimit ≤ decimalValue (take i text) → 0 ≡ positionDigits text end
   unfolding positionDigits
   too-large h v =
-      let whole : 2 ^ 16 ≤ decimalValue (take (leading text) text) = omega (arith, value-grows text i (leading text) h (leading-within text)) in
-      simp (le-ltb (decimalValue (take (leading text) text)) (2 ^ 16) whole) (go (eqb (getD text (leading text) 0) end))
+      let whole : positionLimit ≤ decimalValue (take (leading text) text) = omega (arith, value-grows text i (leading text) h (leading-within text)) in
+      simp (le-ltb (decimalValue (take (leading text) text)) positionLimit whole) (go (eqb (getD text (leading text) 0) end))
     where
       go : (b : Bool) → _≡_ {A = ℕ} 0 (cond b 0 0)
       go true = refl
@@ -56,18 +56,18 @@ module _ (text : List ℕ) (end i : ℕ) where
 pub record Found (text : List ℕ) (end n : ℕ) : Type 0 where
   pub digits : leading text ≡ n
   pub behind : getD text n 0 ≡ end
-  pub small : decimalValue (take n text) < 2 ^ 16
+  pub small : decimalValue (take n text) < positionLimit
 
 pub position-is : (text : List ℕ) (end : ℕ) → (positionDigits text end ≡ 0 → ⊥) → Found text end (positionDigits text end)
 unfolding positionDigits
-position-is text end = go (eqb (getD text (leading text) 0) end) (ltb (decimalValue (take (leading text) text)) (2 ^ 16)) refl refl
+position-is text end = go (eqb (getD text (leading text) 0) end) (ltb (decimalValue (take (leading text) text)) positionLimit) refl refl
   where
-    go : (b small : Bool) → eqb (getD text (leading text) 0) end ≡ b → ltb (decimalValue (take (leading text) text)) (2 ^ 16) ≡ small
+    go : (b small : Bool) → eqb (getD text (leading text) 0) end ≡ b → ltb (decimalValue (take (leading text) text)) positionLimit ≡ small
         → (cond b (cond small (leading text) 0) 0 ≡ 0 → ⊥) → Found text end (cond b (cond small (leading text) 0) 0)
     go true true e l n = record {
       digits = refl;
       behind = eqb-true (getD text (leading text) 0) end e;
-      small = ltb-true (decimalValue (take (leading text) text)) (2 ^ 16) l;
+      small = ltb-true (decimalValue (take (leading text) text)) positionLimit l;
     }
     go true false e l n = absurd (n refl)
     go false small e l n = absurd (n refl)

@@ -2,12 +2,14 @@
 use mathlib.Core.Path.{_≡_, refl, sym, ap, _∙_}
 use mathlib.Core.List.{List, [], _∷_, _++_, map, append-assoc, append-nil}
 use Prim.Native.Nat.{ℕ, _+_, _-_, _*_, _<_, _≤_}
+use native.Mathlib.Decide.{decLt}
 use native.Mathlib.Omega.{arith}
 use borrow.Author.Tests.{lt-ltb, le-ltb}
 use lib.ListN.{length, take, drop, length-append, length-drop, length-map, take-append-drop}
 use lib.Seq.{take-at, drop-at, drop-drop, length-take-le}
 use Rattle.rules.specs.Limits.{stepBytes, planSteps}
 use Rattle.rules.specs.declared.Refusal.the-variants.{PlanLength}
+use Rattle.rules.specs.declared.Verdict.{Verdict}
 use Rattle.rules.specs.declared.Verdict.the-variants.{Passed, Failed}
 use Rattle.chains.specs.Steps.{Step, stepBytesOf, planBytesOf}
 use Rattle.chains.proofs.Bytes.{length-plan}
@@ -20,13 +22,22 @@ pub length-steps : (text : List ℕ) → length (textSteps text) ≡ stepBytes *
 unfolding textSteps
 length-steps text = length-plan (map wordStep (textWords text)) ∙ ap (λ (n : ℕ). stepBytes * n) (length-map (textWords text) wordStep)
 
-pub counted : (n : ℕ) → n ≤ planSteps → countTest n ≡ Passed
-unfolding countTest
-counted n h = simp (le-ltb planSteps n h)
+-- each verdict on the number of words with what it is given for
+pub data CountTest (n : ℕ) : Verdict → Type 0 where
+  too-many : planSteps < n → CountTest n (Failed PlanLength)
+  counted : n ≤ planSteps → CountTest n Passed
 
-pub too-many : (n : ℕ) → planSteps < n → countTest n ≡ Failed PlanLength
+pub count-only : {n : ℕ} {v : Verdict} → CountTest n v → countTest n ≡ v
 unfolding countTest
-too-many n h = simp (lt-ltb planSteps n h)
+count-only {n} (too-many h) = simp (lt-ltb planSteps n h)
+count-only {n} (counted h) = simp (le-ltb planSteps n h)
+
+pub count-test : (n : ℕ) → CountTest n (countTest n)
+count-test n = go (decLt planSteps n)
+  where
+    go : Dec (planSteps < n) → CountTest n (countTest n)
+    go (yes h) = let t = too-many h in rw (count-only t) t
+    go (no h) = let t : CountTest n Passed = counted (omega arith) in rw (count-only t) t
 
 length-step : (s : Step) → length (stepBytesOf s) ≡ stepBytes
 unfolding stepBytesOf

@@ -18,9 +18,13 @@ use Rattle.text_words.specs.Words.{textWords}
 abbrev pub noStep : Step
 noStep = record { operation = 2; first = 0; second = 0 }
 
--- a position is a number of two bytes: how many digits it has, at the start of a text and with this byte behind it; 0 where there is none
+-- a position is a number of two bytes
+abbrev pub positionLimit : ℕ
+positionLimit = 2 ^ 16
+
+-- how many digits a position has, at the start of a text and with this byte behind it; 0 where there is none
 unfoldable pub positionDigits : List ℕ → ℕ → ℕ
-positionDigits text end = cond (eqb (getD text (leading text) 0) end) (cond (ltb (decimalValue (take (leading text) text)) (2 ^ 16)) (leading text) 0) 0
+positionDigits text end = cond (eqb (getD text (leading text) 0) end) (cond (ltb (decimalValue (take (leading text) text)) positionLimit) (leading text) 0) 0
 
 -- the step of an operation and a first position, by the text behind it: the second one, a closing bracket, and nothing more
 unfoldable pub stepBehind : ℕ → ℕ → List ℕ → Step

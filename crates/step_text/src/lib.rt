@@ -17,6 +17,9 @@ ghost use Rattle.step_text.specs.Steps.{positionDigits, stepIn, begins, 
 // A position has two bytes.
 const POSITIONS: usize = 65536;
 
+// The operation of what is no step: one that no step has.
+const NO_OPERATION: u8 = 2;
+
 // A position at the start of a text: its number, and how many digits it has; none if it is no
 // position.
 struct Position {
@@ -71,7 +74,7 @@ fn step_in(operation: u8, text: &[u8]) -> Step
     let first = position_before(text, b',');
     if first.digits == 0 {
         return Step {
-            operation: 2,
+            operation: NO_OPERATION,
             first: 0,
             second: 0,
         };
@@ -80,14 +83,14 @@ fn step_in(operation: u8, text: &[u8]) -> Step
     let second = position_before(behind, b')');
     if second.digits == 0 {
         return Step {
-            operation: 2,
+            operation: NO_OPERATION,
             first: 0,
             second: 0,
         };
     }
     if behind.len() != second.digits + 1 {
         return Step {
-            operation: 2,
+            operation: NO_OPERATION,
             first: 0,
             second: 0,
         };
@@ -127,7 +130,7 @@ fn step_of(word: &[u8]) -> Step
         return step_in(1, &word[9..]);
     }
     Step {
-        operation: 2,
+        operation: NO_OPERATION,
         first: 0,
         second: 0,
     }

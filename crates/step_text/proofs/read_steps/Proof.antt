@@ -8,7 +8,7 @@ use Rattle.rules.proofs.Returns.{returns-refused, returns-written}
 use Rattle.text_words.specs.Words.{textWords}
 use Rattle.step_text.specs.Steps.{textSteps}
 use Rattle.step_reading.specs.Fields.{asStep}
-use Rattle.step_text.proofs.Written.{Underway, length-steps, counted, too-many, start, finish, step-more}
+use Rattle.step_text.proofs.Written.{Underway, length-steps, too-many, counted, count-only, start, finish, step-more}
 use borrow.Author.Needs.{needs}
 use Rattle.step_text.proofs.read_steps.Statement.{statement}
 use Rattle.step_text.proofs.read_steps.Tie as tie
@@ -26,7 +26,7 @@ returns : tie.Need-returns Inv-loop μ-loop
 returns c =
     let text = c .before .before .before .before .args .text .now in
     let many : planSteps < length (textWords text) = rw (c .before .word-count .ensures) at (c .if1 .taken) in
-    rw (too-many (length (textWords text)) many) (refl, refl)
+    rw (count-only (too-many many)) (refl, refl)
 
 mul-if2 : tie.Need-mul-if2 Inv-loop μ-loop
 mul-if2 c = search needs
@@ -39,7 +39,7 @@ returns-2 c =
     let args = c .before .before .before .before .before .args in
     let count = c .before .before .word-count .ensures in
     let text = args .text .now in
-    returns-refused (λ w. w) (textSteps text) (args .out .now) (counted (length (textWords text)) (rw count at (c .before .if1 .left))) (ap (λ (n : ℕ). stepBytes * n) count ∙ sym (length-steps text)) (omega arith)
+    returns-refused (λ w. w) (textSteps text) (args .out .now) (count-only (counted (rw count at (c .before .if1 .left)))) (ap (λ (n : ℕ). stepBytes * n) count ∙ sym (length-steps text)) (omega arith)
 
 loop-holds : tie.Need-loop-holds Inv-loop μ-loop
 loop-holds c =
@@ -98,7 +98,7 @@ returns-3 c =
     let whole : loop .n ≡ length (textWords text) = omega arith in
     let done = finish text (args .out .now) (loop .from) (loop .n) (loop .out) (loop .inv .3) whole in
     let same : loop .n ≡ c .before .before .before .before .word-count .result = omega arith in
-    returns-written (λ w. w) (textSteps text) (args .out .now) (counted (length (textWords text)) (rw count at (c .before .before .before .if1 .left))) (ap (λ (n : ℕ). stepBytes * n) count ∙ sym (length-steps text)) (omega arith) (rw same at done)
+    returns-written (λ w. w) (textSteps text) (args .out .now) (count-only (counted (rw count at (c .before .before .before .if1 .left)))) (ap (λ (n : ℕ). stepBytes * n) count ∙ sym (length-steps text)) (omega arith) (rw same at done)
 
 pub read-steps-spec : {M : Type 1} → statement M
 read-steps-spec =

@@ -123,3 +123,16 @@ not-decimal-place text room p = go (ltb (leading text) (length text)) refl (eqb 
     go false o true n short e h = absurd (omega (arith, eqb-true (length text) 0 n))
     go false o false n true e h = let at : length text ≡ p = cc in absurd (omega arith)
     go false o false n false e h = let z : _≡_ {A = ℕ} 0 1 = cc in absurd (omega arith)
+
+-- the place is always the first byte that is no digit, or the length where all are
+pub not-decimal-leading : (text : List ℕ) (room p : ℕ) → parsed text room ≡ NotDecimal p → p ≡ leading text
+unfolding parsed
+not-decimal-leading text room p = go (ltb (leading text) (length text)) refl (eqb (length text) 0) refl (ltb room (byteCount text))
+  where
+    go : (other : Bool) → ltb (leading text) (length text) ≡ other → (none : Bool) → eqb (length text) 0 ≡ none → (short : Bool)
+        → cond other (NotDecimal (leading text)) (cond none (NotDecimal 0) (cond short (NotDecimal (length text)) (Bytes (length (bytesOf (decimalValue text)))))) ≡ NotDecimal p
+        → p ≡ leading text
+    go true o none n short e = cc
+    go false o true n short e = let at : _≡_ {A = ℕ} 0 p = cc in omega (arith, leading-within text, eqb-true (length text) 0 n)
+    go false o false n true e = let at : length text ≡ p = cc in omega (arith, leading-within text, ltb-false (leading text) (length text) o)
+    go false o false n false e = let z : _≡_ {A = ℕ} 0 1 = cc in absurd (omega arith)

@@ -1,10 +1,11 @@
--- The bytes of a hexadecimal number have its value. Assumes nothing.
-use mathlib.Core.Path.{_≡_, refl, ap, _∙_}
+-- What the answer tells: the bytes of a number have its value, and where there is none, why; and what a word is without its 0x. Assumes nothing.
+use mathlib.Core.Path.{_≡_, refl, sym, ap, _∙_}
+use mathlib.Core.Logic.{_↔_, _⊎_, inl, inr}
 use mathlib.Core.List.{List, [], _∷_, _++_}
 use Prim.Native.Nat.{ℕ, zero, suc, _+_, _-_, _*_, _/_, _%_, _^_, _<_, _≤_}
 use native.Mathlib.Nat.{pow-suc, mul-add, mul-assoc, mul-comm, mul-zero, add-zero, add-suc}
 use native.Mathlib.Omega.{arith}
-use borrow.Author.Tests.{lt-ltb, le-ltb, le-leb, lt-leb, ltb-true, ltb-false}
+use borrow.Author.Tests.{lt-ltb, le-ltb, le-leb, lt-leb, ltb-true, ltb-false, leb-true, eqb-true, eqb-false}
 use lib.ListN.{length, getD, set, take, drop, drop-of-length-le}
 use lib.Seq.{drop-cons, take-append-seam}
 use native.Mathlib.Numerals.{add-one}
@@ -13,7 +14,7 @@ use lib.Dec.{eqb, ltb, leb}
 use Rattle.integers.specs.Positional.{positional, bytesValue}
 use Rattle.integers.specs.Tabulate.{tabulate}
 use Rattle.integers.proofs.Tabulate.{length-tabulate, tabulate-same, tabulate-more, positional-tabulate}
-use Rattle.hexadecimal.specs.Hex.{digitValue, placeValue, byteAt, hexValue, isHex, byteCount, parsed, parsedBuffer}
+use Rattle.hexadecimal.specs.Hex.{digitValue, placeValue, byteAt, hexValue, isHex, byteCount, parsed, parsedBuffer, isPrefix, withoutPrefix}
 use Rattle.hexadecimal.specs.declared.Parsed.{Parsed}
 use Rattle.hexadecimal.specs.declared.Parsed.the-variants.{Bytes, NotHex}
 
@@ -174,3 +175,102 @@ odd-byte text k h = omega (arith, above text (2 * k + 1) (omega arith))
 pub byte-more : (text bytes : List ℕ) (k : ℕ) {byte : ℕ} → byte ≡ byteAt text k → k < length bytes
     → set (tabulate (byteAt text) k ++ drop k bytes) k byte ≡ tabulate (byteAt text) (k + 1) ++ drop (k + 1) bytes
 byte-more text bytes k e h = rw e (tabulate-more (byteAt text) bytes k h)
+
+-- ---- where there is no number
+
+-- a byte of the text is no digit
+abbrev pub Other : List ℕ → Type 0
+Other text = (i : ℕ) × (i < length text) × (digitValue (getD text i 0) ≡ 16)
+
+-- what is above 15 is 16
+digit-or-16 : (c : ℕ) → 15 < digitValue c → digitValue c ≡ 16
+unfolding digitValue
+digit-or-16 c = go (ltb c 48) (leb c 57) refl (ltb c 65) (leb c 70) refl (ltb c 97) (leb c 102) refl
+  where
+    go : (a b : Bool) → leb c 57 ≡ b → (d e : Bool) → leb c 70 ≡ e → (f g : Bool) → leb c 102 ≡ g
+        → 15 < cond a 16 (cond b (c - 48) (cond d 16 (cond e (c - 65 + 10) (cond f 16 (cond g (c - 97 + 10) 16)))))
+        → cond a 16 (cond b (c - 48) (cond d 16 (cond e (c - 65 + 10) (cond f 16 (cond g (c - 97 + 10) 16))))) ≡ 16
+    go true b u d e v f g w h = refl
+    go false true u d e v f g w h = absurd (omega (arith, leb-true c 57 u))
+    go false false u true e v f g w h = refl
+    go false false u false true v f g w h = absurd (omega (arith, leb-true c 70 v))
+    go false false u false false v true g w h = refl
+    go false false u false false v false true w h = absurd (omega (arith, leb-true c 102 w))
+    go false false u false false v false false w h = refl
+
+-- not all bytes are digits exactly where one is none
+other-byte : (text : List ℕ) → isHex text ≡ false → Other text
+unfolding isHex
+other-byte [] e = let z : _≡_ {A = ℕ} 0 1 = cc in absurd (omega arith)
+other-byte (c ∷ text) e = go (ltb 15 (digitValue c)) refl e (λ k. other-byte text k)
+  where
+    go : (b : Bool) → ltb 15 (digitValue c) ≡ b → cond b false (isHex text) ≡ false → (isHex text ≡ false → Other text) → Other (c ∷ text)
+    go true t e rest = (0, omega arith, digit-or-16 c (ltb-true 15 (digitValue c) t))
+    go false t e rest = let o = rest e in (suc (o .0), omega (arith, o .1), o .2)
+
+not-all : (text : List ℕ) (i : ℕ) → i < length text → digitValue (getD text i 0) ≡ 16 → isHex text ≡ false
+unfolding isHex
+not-all [] i h d = absurd (omega arith)
+not-all (c ∷ text) zero h d = simp (lt-ltb 15 (digitValue c) (omega arith))
+not-all (c ∷ text) (suc i) h d = go (ltb 15 (digitValue c)) (not-all text i (omega arith) d)
+  where
+    go : (b : Bool) → isHex text ≡ false → cond b false (isHex text) ≡ false
+    go true e = refl
+    go false e = e
+
+-- there is no number exactly where the text is empty, or has a byte that is no digit, or there is too little room
+pub not-hex : (text : List ℕ) (room : ℕ) → parsed text room ≡ NotHex ↔ (length text ≡ 0) ⊎ Other text ⊎ (room < byteCount text)
+unfolding parsed
+not-hex text room = (
+  to (eqb (length text) 0) refl (ltb room (byteCount text)) refl (isHex text) refl,
+  from (eqb (length text) 0) refl (ltb room (byteCount text)) refl (isHex text) refl,
+)
+  where
+    to : (none : Bool) → eqb (length text) 0 ≡ none → (short : Bool) → ltb room (byteCount text) ≡ short → (hex : Bool) → isHex text ≡ hex
+        → cond none NotHex (cond short NotHex (cond hex (Bytes (byteCount text)) NotHex)) ≡ NotHex → (length text ≡ 0) ⊎ Other text ⊎ (room < byteCount text)
+    to true n short s hex x e = inl (eqb-true (length text) 0 n)
+    to false n true s hex x e = inr (inr (ltb-true room (byteCount text) s))
+    to false n false s true x e = no-number (sym e)
+    to false n false s false x e = inr (inl (other-byte text x))
+
+    from : (none : Bool) → eqb (length text) 0 ≡ none → (short : Bool) → ltb room (byteCount text) ≡ short → (hex : Bool) → isHex text ≡ hex
+        → (length text ≡ 0) ⊎ Other text ⊎ (room < byteCount text) → cond none NotHex (cond short NotHex (cond hex (Bytes (byteCount text)) NotHex)) ≡ NotHex
+    from true n short s hex x why = refl
+    from false n true s hex x why = refl
+    from false n false s false x why = refl
+    from false n false s true x (inl z) = absurd (eqb-false (length text) 0 n z)
+    from false n false s true x (inr (inl (i, h, d))) =
+        let other : isHex text ≡ false = not-all text i h d in
+        let z : _≡_ {A = ℕ} 0 1 = cc in
+        absurd (omega arith)
+    from false n false s true x (inr (inr h)) = absurd (omega (arith, ltb-false room (byteCount text) s))
+
+-- ---- the 0x in front
+
+-- 0x and 0X are left out
+pub without-small-x : (rest : List ℕ) → withoutPrefix (48 ∷ 120 ∷ rest) ≡ rest
+unfolding withoutPrefix isPrefix
+without-small-x rest = simp (le-ltb (length (48 ∷ 120 ∷ rest)) 2 (omega arith))
+
+pub without-capital-x : (rest : List ℕ) → withoutPrefix (48 ∷ 88 ∷ rest) ≡ rest
+unfolding withoutPrefix isPrefix
+without-capital-x rest = simp (le-ltb (length (48 ∷ 88 ∷ rest)) 2 (omega arith))
+
+-- a word that begins with 0x or 0X
+abbrev pub Prefixed : List ℕ → Type 0
+Prefixed word = (rest : List ℕ) × ((word ≡ 48 ∷ 120 ∷ rest) ⊎ (word ≡ 48 ∷ 88 ∷ rest))
+
+-- any other stays as it is
+pub without-other : (word : List ℕ) → (Prefixed word → ⊥) → withoutPrefix word ≡ word
+unfolding withoutPrefix isPrefix
+without-other [] n = refl
+without-other (c ∷ []) n = refl
+without-other (c ∷ d ∷ rest) n = go (ltb (length (c ∷ d ∷ rest)) 2) (eqb c 48) refl (eqb d 120) refl (eqb d 88) refl
+  where
+    go : (short nought : Bool) → eqb c 48 ≡ nought → (small : Bool) → eqb d 120 ≡ small → (capital : Bool) → eqb d 88 ≡ capital
+        → cond short (c ∷ d ∷ rest) (cond nought (cond (cond small true capital) rest (c ∷ d ∷ rest)) (c ∷ d ∷ rest)) ≡ c ∷ d ∷ rest
+    go true nought z small u capital v = refl
+    go false false z small u capital v = refl
+    go false true z true u capital v = absurd (n (rest, inl (rw (eqb-true c 48 z, eqb-true d 120 u))))
+    go false true z false u true v = absurd (n (rest, inr (rw (eqb-true c 48 z, eqb-true d 88 v))))
+    go false true z false u false v = refl

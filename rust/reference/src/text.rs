@@ -13,7 +13,9 @@ pub fn hexadecimal(text: &[u8], out: &mut [u8]) -> Option<usize> {
         _ => text,
     };
     let length = (digits.len() + 1) / 2;
-    if digits.is_empty() || out.len() < length || !digits.iter().all(u8::is_ascii_hexdigit) {
+    // Without an early end, so that the compiler can test several digits at a time.
+    let is_digits = digits.iter().fold(true, |all, digit| all & digit.is_ascii_hexdigit());
+    if digits.is_empty() || out.len() < length || !is_digits {
         return None;
     }
     for (byte, pair) in out.iter_mut().zip(digits.rchunks(2)) {
@@ -24,8 +26,9 @@ pub fn hexadecimal(text: &[u8], out: &mut [u8]) -> Option<usize> {
     Some(length)
 }
 
+/// The low half of a letter's byte counts from 1.
 fn hexadecimal_digit(digit: u8) -> u8 {
-    (digit as char).to_digit(16).map_or(0, |value| value as u8)
+    digit % 16 + digit / 64 * 9
 }
 
 /// The number of a decimal text: how many bytes it has without high zero bytes. Half as many bytes as

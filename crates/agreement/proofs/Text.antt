@@ -62,44 +62,64 @@ module _ (word : List ℕ) where
 -- ---- a text
 
 module _ (text : List ℕ) where
+  abbrev pub wordCount : ℕ
+  wordCount = length (textWords text)
+
   -- the word of a place: that of place 0 is the last
   abbrev pub placeWord : ℕ → List ℕ
-  placeWord i = getD (textWords text) (length (textWords text) - 1 - i) []
+  placeWord i = getD (textWords text) (wordCount - 1 - i) []
 
-  -- taken: every word is a digit, and they are within the limit
-  pub text-taken : stringVerdict canonicalWidth (textDigits text) ≡ Passed
-      ↔ (length (textWords text) ≤ stringDigits) × ((n : ℕ) → n < length (textWords text) → DigitWord (getD (textWords text) n []))
-  text-taken = (λ e. to (digit-string-is canonicalWidth (textDigits text) .0 e), λ h. digit-string-is canonicalWidth (textDigits text) .1 (from (h .0) (h .1)))
+  -- within the limit, and every word a digit
+  pub record DigitText : Type 0 where
+    pub within : wordCount ≤ stringDigits
+    pub digits : (n : ℕ) → n < wordCount → DigitWord (getD (textWords text) n [])
+
+  -- the place of the last word that is no digit
+  pub record LastOther (p : ℕ) : Type 0 where
+    pub within : p < wordCount
+    pub other : DigitWord (placeWord p) → ⊥
+    pub behind : (i : ℕ) → i < p → DigitWord (placeWord i)
+
+  to-string : DigitText → DigitString canonicalWidth (textDigits text)
+  to-string d = record {
+    within = omega (arith, d .within, digit-each text);
+    digits = λ i h. let k : i < wordCount = omega (arith, digit-each text) in rw (digit-at text i k) (digit-word (placeWord i) .1 (d .digits (wordCount - 1 - i) (omega arith)));
+  }
+
+  of-string : DigitString canonicalWidth (textDigits text) → DigitText
+  of-string d = record { within = omega (arith, d .within, digit-each text); digits = each }
     where
-      to : DigitString canonicalWidth (textDigits text) → (length (textWords text) ≤ stringDigits) × ((n : ℕ) → n < length (textWords text) → DigitWord (getD (textWords text) n []))
-      to d = (omega (arith, d .within, digit-each text), each)
-        where
-          each : (n : ℕ) → n < length (textWords text) → DigitWord (getD (textWords text) n [])
-          each n h =
-              let i : ℕ = length (textWords text) - 1 - n in
-              let back : length (textWords text) - 1 - i ≡ n = omega arith in
-              rw back at (digit-word (placeWord i) .0 (rw (digit-at text i (omega arith)) at (d .digits i (omega (arith, digit-each text)))))
+      each : (n : ℕ) → n < wordCount → DigitWord (getD (textWords text) n [])
+      each n h =
+          let i : ℕ = wordCount - 1 - n in
+          let back : wordCount - 1 - i ≡ n = omega arith in
+          rw back at (digit-word (placeWord i) .0 (rw (digit-at text i (omega arith)) at (d .digits i (omega (arith, digit-each text)))))
 
-      from : length (textWords text) ≤ stringDigits → ((n : ℕ) → n < length (textWords text) → DigitWord (getD (textWords text) n [])) → DigitString canonicalWidth (textDigits text)
-      from l each = record {
-        within = omega (arith, digit-each text);
-        digits = λ i h. let k : i < length (textWords text) = omega (arith, digit-each text) in rw (digit-at text i k) (digit-word (placeWord i) .1 (each (length (textWords text) - 1 - i) (omega arith)));
+  to-bad : {p : ℕ} → LastOther p → LowestBad canonicalWidth (textDigits text) p
+  to-bad {p} l = record {
+    within = omega (arith, l .within, digit-each text);
+    bad = rw (digit-at text p (l .within)) (other-word (placeWord p) .1 (l .other));
+    lowest = λ i q. rw (digit-at text i (omega (arith, l .within))) (digit-word (placeWord i) .1 (l .behind i q));
+  }
+
+  of-bad : {p : ℕ} → LowestBad canonicalWidth (textDigits text) p → LastOther p
+  of-bad {p} l =
+      let k : p < wordCount = omega (arith, l .within, digit-each text) in
+      record {
+        within = k;
+        other = other-word (placeWord p) .0 (rw (digit-at text p k) at (l .bad));
+        behind = λ i q. digit-word (placeWord i) .0 (rw (digit-at text i (omega arith)) at (l .lowest i q));
       }
 
-  -- refused with 4 at a place: its word is the last that is no digit
-  pub text-refused : (p : ℕ) → stringVerdict canonicalWidth (textDigits text) ≡ Failed (NotADigit p)
-      ↔ (length (textWords text) ≤ stringDigits) × (p < length (textWords text)) × (DigitWord (placeWord p) → ⊥) × ((i : ℕ) → i < p → DigitWord (placeWord i))
-  text-refused p = (λ e. elim (rw e at (string-test canonicalWidth (textDigits text))) [ bad-digit h l ↦ to h l ], λ h. string-only canonicalWidth (textDigits text) (bad-digit (omega (arith, digit-each text)) (from (h .1) (h .2) (h .3))))
-    where
-      to : length (textDigits text) ≤ stringDigits → LowestBad canonicalWidth (textDigits text) p
-          → (length (textWords text) ≤ stringDigits) × (p < length (textWords text)) × (DigitWord (placeWord p) → ⊥) × ((i : ℕ) → i < p → DigitWord (placeWord i))
-      to h l =
-          let k : p < length (textWords text) = omega (arith, l .within, digit-each text) in
-          (omega (arith, digit-each text), k, other-word (placeWord p) .0 (rw (digit-at text p k) at (l .bad)), λ i q. digit-word (placeWord i) .0 (rw (digit-at text i (omega arith)) at (l .lowest i q)))
+  -- its digits pass the tests of clean and read back
+  pub text-taken : stringVerdict canonicalWidth (textDigits text) ≡ Passed ↔ DigitText
+  text-taken =
+      let is = digit-string-is canonicalWidth (textDigits text) in
+      (λ e. of-string (is .0 e), λ d. is .1 (to-string d))
 
-      from : p < length (textWords text) → (DigitWord (placeWord p) → ⊥) → ((i : ℕ) → i < p → DigitWord (placeWord i)) → LowestBad canonicalWidth (textDigits text) p
-      from k other each = record {
-        within = omega (arith, digit-each text);
-        bad = rw (digit-at text p k) (other-word (placeWord p) .1 other);
-        lowest = λ i q. rw (digit-at text i (omega arith)) (digit-word (placeWord i) .1 (each i q));
-      }
+  -- or they are refused with 4 at the last word that is no digit
+  pub text-refused : (p : ℕ) → stringVerdict canonicalWidth (textDigits text) ≡ Failed (NotADigit p) ↔ (wordCount ≤ stringDigits) × LastOther p
+  text-refused p = (
+    λ e. elim (rw e at (string-test canonicalWidth (textDigits text))) [ bad-digit h l ↦ (omega (arith, digit-each text), of-bad l) ],
+    λ h. string-only canonicalWidth (textDigits text) (bad-digit (omega (arith, digit-each text)) (to-bad (h .1))),
+  )

@@ -27,19 +27,19 @@ pub fn run(words: &Words) -> Status {
                 return batch.highest().max(complain(&fault));
             }
         };
-        match length {
+        let put = match length {
             0 => batch.end(),
             _ => batch.read(&block[..length]),
-        }
-        match put_all(&batch.out) {
-            Ok(true) => batch.out.clear(),
-            // The reader has gone away.
+        };
+        match put.and_then(|goes_on| if goes_on { batch.put() } else { Ok(false) }) {
+            Ok(true) if length > 0 => {}
+            Ok(true) => {
+                batch.summary();
+                return batch.highest();
+            }
+            // Nobody reads the answers any more.
             Ok(false) => return batch.highest(),
             Err(fault) => return batch.highest().max(complain(&fault)),
-        }
-        if length == 0 {
-            batch.summary();
-            return batch.highest();
         }
     }
 }
@@ -73,26 +73,39 @@ impl Batch {
         }
     }
 
-    /// Answers the lines that end in a block, and keeps what comes after them.
-    fn read(&mut self, block: &[u8]) {
+    /// Writes the answers that have gathered; false if nobody reads them any more.
+    fn put(&mut self) -> Result<bool, Fault> {
+        let put = put_all(&self.out);
+        self.out.clear();
+        put
+    }
+
+    /// Answers the lines that end in a block, and keeps what comes after them. The answer to one that
+    /// wrote a file does not wait for the others.
+    fn read(&mut self, block: &[u8]) -> Result<bool, Fault> {
         let mut rest = block;
         while let Some(end) = rest.iter().position(|&byte| byte == b'\n') {
-            if self.begun.is_empty() && !self.too_long {
-                self.answer(Some(&rest[..end]));
+            let wrote = if self.begun.is_empty() && !self.too_long {
+                self.answer(Some(&rest[..end]))
             } else {
                 self.keep(&rest[..end]);
-                self.answer_begun();
+                self.answer_begun()
+            };
+            if wrote && !self.put()? {
+                return Ok(false);
             }
             rest = &rest[end + 1..];
         }
         self.keep(rest);
+        Ok(true)
     }
 
     /// The last line may have no end.
-    fn end(&mut self) {
+    fn end(&mut self) -> Result<bool, Fault> {
         if !self.begun.is_empty() || self.too_long {
             self.answer_begun();
         }
+        Ok(true)
     }
 
     fn keep(&mut self, part: &[u8]) {
@@ -102,22 +115,24 @@ impl Batch {
         }
     }
 
-    fn answer_begun(&mut self) {
+    fn answer_begun(&mut self) -> bool {
         let mut line = std::mem::take(&mut self.begun);
         let too_long = std::mem::take(&mut self.too_long);
-        self.answer(Some(line.as_slice()).filter(|_| !too_long));
+        let wrote = self.answer(Some(line.as_slice()).filter(|_| !too_long));
         line.clear();
         self.begun = line;
+        wrote
     }
 
-    /// Answers a line, unless it has no words. None is a line that was too long to be kept.
-    fn answer(&mut self, line: Option<&[u8]>) {
+    /// Answers a line, unless it has no words, and says whether it asked for a file. None is a line that
+    /// was too long to be kept.
+    fn answer(&mut self, line: Option<&[u8]>) -> bool {
         self.line += 1;
         let line = line.map(|line| trimmed(line, self.line == 1));
         let line = line.filter(|line| line.len() <= LINE_BYTES);
         let all = line.map_or(Vec::new(), words_of);
         if line.is_some() && all.is_empty() {
-            return;
+            return false;
         }
         let form = Form {
             json: self.json,
@@ -129,17 +144,21 @@ impl Batch {
             Some(_) => request(&mut words, self.force),
             None => Err(Fault::Malformed(format!("a line has at most {} bytes", LINE_BYTES))),
         };
-        let status = match request {
-            Ok(request) => form.answer(&request, &self.desk.answer(&request), &mut self.out),
+        let (status, wrote) = match request {
+            Ok(request) => {
+                let status = form.answer(&request, &self.desk.answer(&request), &mut self.out);
+                (status, matches!(request, Request::Plan { file: Some(_), .. }))
+            }
             Err(fault) => {
                 form.fault(verb, &fault, &mut self.out);
-                fault.status()
+                (fault.status(), false)
             }
         };
         self.ended[status as usize] += 1;
         if status == Status::Malformed && self.first_malformed.is_none() {
             self.first_malformed = Some(self.line);
         }
+        wrote
     }
 
     fn highest(&self) -> Status {
@@ -187,6 +206,7 @@ fn words_of(line: &[u8]) -> Vec<&[u8]> {
 
 /// The request of a line's words. Where a plan goes into a file, `force` of the whole batch counts too.
 fn request<'a>(words: &'a mut Words<'a>, force: bool) -> Result<Request<'a>, Fault> {
+    words.check_unknown()?;
     if words.json || words.dot || words.help || words.version {
         return Err(Fault::Malformed(
             "of the options a line takes --force alone".to_string(),

@@ -38,10 +38,10 @@ program failed; of a batch, the highest.
 ";
 
 const BATCH: &str = "\
-Each answer begins with the number of its line. # begins a comment; a line
-without words has no answer. --json and --force on the command line are for
-all lines; --force may also stand on a line. A closing line on standard error
-says how many requests there were.
+Each answer begins with the number of its line. A word that begins with #
+begins a comment; a line without words has no answer. --json and --force on
+the command line are for all lines; --force may also stand on a line. A closing
+line on standard error says how many requests there were.
 ";
 
 fn put_words(out: &mut Vec<u8>, is_meant: impl Fn(&str) -> bool) {

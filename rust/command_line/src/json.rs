@@ -1,4 +1,4 @@
-//! Answers as JSON: objects that all have the same fields, one a line.
+//! Answers as JSON: objects that all have the same fields, one a line; and the reading of one back.
 use crate::answer::{Answer, Answered, Refused};
 use crate::choice::Choice;
 use crate::print::{put_bytes, put_digits, put_method, put_number, put_value, reason, Status};
@@ -186,4 +186,125 @@ fn put_bytes_as_text(bytes: &[u8], out: &mut Vec<u8>) {
             }
         }
     });
+}
+
+/// A value that is read. Numbers and the like are not looked at.
+pub enum Json {
+    Text(String),
+    List(Vec<Json>),
+    Object(Vec<(String, Json)>),
+    Other,
+}
+
+/// How deep lists and objects may stand in each other.
+const DEPTH: usize = 16;
+
+impl Json {
+    /// The value that a text holds, if it holds one and nothing else.
+    pub fn read(text: &str) -> Option<Json> {
+        let mut reader = Reader { rest: text };
+        let value = reader.value(DEPTH)?;
+        reader.skip();
+        Some(value).filter(|_| reader.rest.is_empty())
+    }
+
+    /// The field of an object that has it once.
+    pub fn get(&self, name: &str) -> Option<&Json> {
+        let fields = match self {
+            Json::Object(fields) => fields,
+            _ => return None,
+        };
+        let mut found = fields.iter().filter(|(key, _)| key == name);
+        match (found.next(), found.next()) {
+            (Some((_, value)), None) => Some(value),
+            _ => None,
+        }
+    }
+}
+
+struct Reader<'a> {
+    rest: &'a str,
+}
+
+impl Reader<'_> {
+    fn skip(&mut self) {
+        self.rest = self.rest.trim_start_matches([' ', '\t', '\n', '\r']);
+    }
+
+    /// Whether this comes next, which is then read.
+    fn take(&mut self, text: &str) -> bool {
+        self.skip();
+        let behind = self.rest.strip_prefix(text);
+        self.rest = behind.unwrap_or(self.rest);
+        behind.is_some()
+    }
+
+    fn value(&mut self, depth: usize) -> Option<Json> {
+        if depth == 0 {
+            return None;
+        }
+        self.skip();
+        match self.rest.as_bytes().first()? {
+            b'"' => self.text().map(Json::Text),
+            b'[' => self.items("[", "]", |reader| reader.value(depth - 1)).map(Json::List),
+            b'{' => self
+                .items("{", "}", |reader| {
+                    reader.skip();
+                    let key = reader.text()?;
+                    Some((key, reader.take(":").then(|| reader.value(depth - 1))??))
+                })
+                .map(Json::Object),
+            _ => self.other(),
+        }
+    }
+
+    fn items<T>(&mut self, open: &str, close: &str, mut item: impl FnMut(&mut Self) -> Option<T>) -> Option<Vec<T>> {
+        let mut items = Vec::new();
+        self.take(open);
+        if self.take(close) {
+            return Some(items);
+        }
+        loop {
+            items.push(item(self)?);
+            if self.take(close) {
+                return Some(items);
+            }
+            if !self.take(",") {
+                return None;
+            }
+        }
+    }
+
+    /// A text without escapes but those of quotes and backslashes, which are all that a step or a name
+    /// of a field needs; of others the letter stands for itself.
+    fn text(&mut self) -> Option<String> {
+        let mut chars = self.rest.strip_prefix('"')?.chars();
+        let mut text = String::new();
+        loop {
+            match chars.next()? {
+                '"' => break,
+                '\\' => text.push(chars.next()?),
+                c if c.is_control() => return None,
+                c => text.push(c),
+            }
+        }
+        self.rest = chars.as_str();
+        Some(text)
+    }
+
+    fn other(&mut self) -> Option<Json> {
+        if ["null", "true", "false"].iter().any(|word| self.take(word)) {
+            return Some(Json::Other);
+        }
+        let behind = self
+            .rest
+            .trim_start_matches(|c: char| c.is_ascii_digit() || "+-.eE".contains(c));
+        match behind.len() < self.rest.len() {
+            true => {
+                self.rest = behind;
+                Some(Json::Other)
+            }
+            false => None,
+        }
+    }
 }

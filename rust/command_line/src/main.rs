@@ -54,6 +54,7 @@ fn run(words: &Words, out: &mut Vec<u8>) -> Result<Status, Fault> {
         plain if words.help => help::put_help(plain, out)?,
         _ if words.version => {
             words.check_length(0)?;
+            words.check_options(false, false)?;
             help::put_version(out);
         }
         [b"help", about @ ..] => help::put_help(about, out)?,

@@ -1,5 +1,6 @@
 //! Plans as files hold them: their bytes, or their steps as text.
 use crate::fault::{Fault, Shown};
+use crate::json::Json;
 use crate::request::{is_blank, is_standard};
 use lesmutka::{Refusal, PLAN_ROOM, STEP_BYTES};
 use std::ffi::OsStr;
@@ -16,7 +17,7 @@ const NO_STEP: u8 = 2;
 /// A plan as it was read, with the text of its steps if it was text.
 pub struct Plan {
     pub bytes: Vec<u8>,
-    text: Option<String>,
+    text: Vec<u8>,
 }
 
 impl Plan {
@@ -26,7 +27,7 @@ impl Plan {
             Refusal::MalformedStep { step } => step - 1,
             _ => return None,
         };
-        let word = words(self.text.as_ref()?).nth(step)?;
+        let word = words(&self.text).nth(step)?;
         Some(word.to_vec()).filter(|_| self.bytes.get(STEP_BYTES * step) == Some(&NO_STEP))
     }
 }
@@ -40,15 +41,18 @@ pub fn read(file: &OsStr) -> Result<Result<Plan, Refusal>, Fault> {
         };
         Fault::Failed(format!("cannot read {}: {}", name, error))
     })?;
-    match text_of(&bytes) {
-        Some(_) if bytes.len() > MOST => Err(Fault::Malformed(format!(
+    if !is_text(&bytes) {
+        // One that is longer than was read is refused for its length all the same.
+        let text = Vec::new();
+        return Ok(Ok(Plan { bytes, text }));
+    }
+    if bytes.len() > MOST {
+        return Err(Fault::Malformed(format!(
             "the plan's text has more than {} bytes",
             MOST
-        ))),
-        Some(text) => steps_of(text),
-        // One that is longer than was read is refused for its length all the same.
-        None => Ok(Ok(Plan { bytes, text: None })),
+        )));
     }
+    steps_of(bytes.strip_prefix(b"\xef\xbb\xbf").unwrap_or(&bytes))
 }
 
 /// The bytes of a file, but for those past the limit and one more.
@@ -62,104 +66,107 @@ fn all_of(file: &OsStr) -> io::Result<Vec<u8>> {
     Ok(bytes)
 }
 
-/// The text that a file holds, if it is one. A plan's first byte is 0 or 1, which no text has.
-fn text_of(bytes: &[u8]) -> Option<&str> {
-    let text = std::str::from_utf8(bytes).ok()?;
-    let text = text.strip_prefix('\u{feff}').unwrap_or(text);
-    let is_text = |c: char| !c.is_control() || (c.is_ascii() && is_blank(c as u8));
-    match !text.is_empty() && text.chars().all(is_text) {
-        true => Some(text),
-        false => None,
+/// Whether a file holds text: its first byte is none that a plan begins with, and no byte is 0.
+fn is_text(bytes: &[u8]) -> bool {
+    match bytes.first() {
+        Some(&first) => (first >= b' ' || is_blank(first)) && !bytes.contains(&0),
+        None => false,
     }
 }
 
-fn words(text: &str) -> impl Iterator<Item = &[u8]> {
-    text.as_bytes()
-        .split(|&byte| is_blank(byte))
-        .filter(|word| !word.is_empty())
+fn words(text: &[u8]) -> impl Iterator<Item = &[u8]> {
+    text.split(|&byte| is_blank(byte)).filter(|word| !word.is_empty())
 }
 
-/// The steps in a text, by the library's reader: word after word, or a line that `plan` printed.
-fn steps_of(text: &str) -> Result<Result<Plan, Refusal>, Fault> {
-    let text = without_comments(text);
-    let steps = match text.trim_start().starts_with('{') {
-        true => steps_of_object(&text)?,
-        false => match text.split_once("steps:") {
-            Some((before, steps)) if is_answer(before) => steps.to_string(),
-            _ => text,
-        },
+/// The steps in a text, by the library's reader: word after word, or what `plan` printed.
+fn steps_of(text: &[u8]) -> Result<Result<Plan, Refusal>, Fault> {
+    let steps = match words(text).next() {
+        Some(word) if word[0] == b'{' => steps_of_object(text)?,
+        _ => behind_answer(&without_comments(text)),
     };
-    match words(&steps).next() {
-        None => {
+    let mut all = words(&steps);
+    match (all.next(), all.next()) {
+        (None, _) => {
             return Err(Fault::Malformed(
                 "the plan has no steps; an empty one is `none`".to_string(),
             ))
         }
-        Some(b"none") if words(&steps).count() == 1 => {
+        (Some(b"none"), None) => {
             return Ok(Ok(Plan {
                 bytes: Vec::new(),
-                text: None,
+                text: Vec::new(),
             }))
         }
-        Some(_) => {}
+        _ => {}
     }
     let mut room = [0; PLAN_ROOM];
-    Ok(lesmutka::read_steps(steps.as_bytes(), &mut room).map(|bytes| Plan {
+    Ok(lesmutka::read_steps(&steps, &mut room).map(|bytes| Plan {
         bytes: bytes.to_vec(),
-        text: Some(steps.clone()),
+        text: steps.clone(),
     }))
 }
 
 /// A text without what stands behind a word that begins with #, to the end of its line.
-fn without_comments(text: &str) -> String {
-    let line = |line: &str| -> String {
-        let is_start = |&(at, _): &(usize, &str)| at == 0 || is_blank(line.as_bytes()[at - 1]);
-        match line.match_indices('#').find(is_start) {
-            Some((at, _)) => line[..at].to_string(),
-            None => line.to_string(),
-        }
+fn without_comments(text: &[u8]) -> Vec<u8> {
+    let line = |line: &[u8]| -> Vec<u8> {
+        let is_start = |&at: &usize| line[at] == b'#' && (at == 0 || is_blank(line[at - 1]));
+        line[..(0..line.len()).find(is_start).unwrap_or(line.len())].to_vec()
     };
-    text.split(['\n', '\r']).map(line).collect::<Vec<String>>().join("\n")
+    let lines: Vec<Vec<u8>> = text.split(|byte| matches!(byte, b'\n' | b'\r')).map(line).collect();
+    lines.join(&b'\n')
 }
 
-/// Whether this is what `plan` prints before `steps:`, or nothing.
-fn is_answer(before: &str) -> bool {
-    let before = before.trim();
-    before.is_empty() || (before.ends_with("subtractions;") && !before.contains('\n'))
+/// What stands behind `steps:` in an answer of `plan`, or behind that word alone; else all.
+fn behind_answer(text: &[u8]) -> Vec<u8> {
+    let all: Vec<&[u8]> = words(text).collect();
+    let is_steps = |word: &&[u8]| **word == *b"steps:";
+    match all.iter().position(is_steps) {
+        Some(at) if is_answer(&all[..at]) => all[at + 1..].join(&b' '),
+        _ => text.to_vec(),
+    }
+}
+
+/// Whether these are the words of an answer of `plan` before its steps, or none.
+fn is_answer(words: &[&[u8]]) -> bool {
+    // The number of a line in a batch.
+    let words = match words {
+        [line, number, ..] if line.ends_with(b":") && number.starts_with(b"0x") => &words[1..],
+        _ => words,
+    };
+    match words {
+        [] => true,
+        [number, by, .., _, doublings, _, additions, _, subtractions] => {
+            number.starts_with(b"0x")
+                && *by == b"by"
+                && [*doublings, *additions, *subtractions] == [&b"doublings,"[..], b"additions,", b"subtractions;"]
+        }
+        _ => false,
+    }
 }
 
 /// The steps of the JSON object that `plan` printed, with blanks between them.
-fn steps_of_object(text: &str) -> Result<String, Fault> {
-    let no_steps = || Fault::Malformed("no object of a plan, which has one list of steps".to_string());
-    let (_, rest) = text.split_once("\"steps\"").ok_or_else(no_steps)?;
-    let list = rest
-        .trim_start()
-        .strip_prefix(':')
-        .and_then(|rest| rest.trim_start().strip_prefix('['));
-    let (list, rest) = list.and_then(|list| list.split_once(']')).ok_or_else(no_steps)?;
-    let is_one = !rest.contains("\"steps\"") && rest.trim_end().ends_with('}');
-    if !is_one {
-        return Err(no_steps());
-    }
-    if list.trim().is_empty() {
-        return Ok("none".to_string());
-    }
-    // Between the quotes stand steps, each one word, and in their turn commas.
-    let parts: Vec<&str> = list.split('"').collect();
-    let is_part = |(i, part): (usize, &&str)| match i {
-        _ if i % 2 == 1 => !part.is_empty() && part.bytes().all(|byte| !is_blank(byte)),
-        0 => part.trim().is_empty(),
-        _ if i == parts.len() - 1 => part.trim().is_empty(),
-        _ => part.trim() == ",",
+fn steps_of_object(text: &[u8]) -> Result<Vec<u8>, Fault> {
+    let read = || -> Option<Vec<u8>> {
+        let object = Json::read(std::str::from_utf8(text).ok()?)?;
+        match object.get("status") {
+            Some(Json::Text(status)) if status == "answered" => {}
+            Some(_) => return None,
+            None => {}
+        }
+        let list = match object.get("steps")? {
+            Json::List(list) => list,
+            _ => return None,
+        };
+        let mut steps = vec![&b"none"[..]; usize::from(list.is_empty())];
+        for step in list {
+            match step {
+                Json::Text(step) if words(step.as_bytes()).eq([step.as_bytes()]) && step != "none" => {
+                    steps.push(step.as_bytes())
+                }
+                _ => return None,
+            }
+        }
+        Some(steps.join(&b' '))
     };
-    match parts.len() % 2 == 1 && parts.iter().enumerate().all(is_part) {
-        true => Ok(parts
-            .iter()
-            .skip(1)
-            .step_by(2)
-            .copied()
-            .collect::<Vec<&str>>()
-            .join(" ")),
-        false => Err(no_steps()),
-    }
+    read().ok_or_else(|| Fault::Malformed("no object of a plan, which has one list of steps".to_string()))
 }

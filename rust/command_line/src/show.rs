@@ -11,7 +11,15 @@ use std::os::unix::ffi::OsStrExt;
 
 /// Puts the steps of a plan with their values, down to the first that is not sound.
 pub fn show(file: &OsStr, dot: bool, json: bool, desk: &mut Desk, out: &mut Vec<u8>) -> Result<Status, Fault> {
-    let plan = plans::read(file)?;
+    let plan = plans::read(file).map_err(|fault| {
+        if json {
+            let mut fields = Fields::new(None, Some("show"), fault.status());
+            fields.file = Some(file.as_bytes());
+            fields.message = Some(fault.to_string());
+            fields.put(out);
+        }
+        fault
+    })?;
     let chain = match &plan {
         Ok(plan) => Chain::new(plan, &mut desk.space),
         Err(refusal) => Chain::refused(*refusal),

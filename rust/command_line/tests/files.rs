@@ -404,7 +404,7 @@ fn plans_as_text() {
 #[test]
 fn huge_plans() {
     let folder = Folder::new();
-    for (byte, status) in [(0, 1), (b'a', 2), (0xff, 1)] {
+    for (byte, status) in [(0, 1), (1, 1), (2, 1), (b'a', 2), (0xff, 2)] {
         let ended = run(&folder, &["check", "3", "-"], &vec![byte; 5 << 20]);
         assert_eq!(ended.status, status, "{}", byte);
     }
@@ -499,4 +499,94 @@ fn shown_and_refused() {
     let ended = run(&folder, &["show", "-"], &[0; 4]);
     assert_eq!(ended.status, 1);
     assert!(ended.text().starts_with("refused 7, place 0: "), "{}", ended.text());
+}
+
+/// What is no object of a plan, however near.
+#[test]
+fn objects_that_are_no_plan() {
+    let folder = Folder::new();
+    let steps = "\"steps\":[\"add(0,0)\",\"add(1,0)\"]";
+    for text in [
+        format!("{{{{ {}}}", steps),
+        format!("{{\"x\":1,,{}}}", steps),
+        format!("{{{} nonsense}}", steps),
+        format!("{{{}}}}}", steps),
+        format!("{{{}}} {{\"x\":1}}", steps),
+        format!("{{{},{}}}", steps, steps),
+        format!("{{\"status\":\"refused\",{}}}", steps),
+        "{\"steps\":[\"none\"]}".to_string(),
+        "{\"steps\":\"add(0,0)\"}".to_string(),
+        "{\"steps\":[\u{a0}]}".to_string(),
+        format!("{}{}", "{\"steps\":".repeat(100_000), "}".repeat(100_000)),
+        format!("{{\"steps\":{}", "[".repeat(500_000)),
+    ] {
+        let ended = run(&folder, &["check", "3", "-"], text.as_bytes());
+        assert_eq!(
+            (ended.status, ended.err),
+            (2, format!("lesmutka: {}\n", NO_OBJECT)),
+            "{:.200}",
+            text
+        );
+    }
+    // What stands in another field does no harm.
+    for other in [
+        "\"message\":\"a # b\"",
+        "\"message\":\"steps \\\" \"",
+        "\"x\":[1,-2.5e3,{\"steps\":null}]",
+    ] {
+        let text = format!("{{{},{}}}", other, steps);
+        assert_eq!(
+            run(&folder, &["check", "3", "-"], text.as_bytes()).text(),
+            ACCEPTED,
+            "{}",
+            text
+        );
+    }
+}
+
+/// Text with bytes that are no characters: comments may have them, and a word with one is named.
+#[test]
+fn text_that_is_no_utf8() {
+    let folder = Folder::new();
+    for text in [
+        &b"add(0,0) add(1,0) # caf\xe9"[..],
+        b"# a\x1bb\nadd(0,0) add(1,0)\n",
+        b"\xef\xbb\xbfadd(0,0)\x0badd(1,0)",
+    ] {
+        assert_eq!(run(&folder, &["check", "3", "-"], text).text(), ACCEPTED);
+    }
+    let ended = run(&folder, &["check", "3", "-"], b"add(0,0) add(1\xff,0)");
+    assert!(
+        ended.text().ends_with("; it is `add(1\u{fffd},0)`\n"),
+        "{}",
+        ended.text()
+    );
+    let ended = run(&folder, &["check", "3", "-"], b"\xef\xbb\xbf");
+    assert_eq!(ended.err, "lesmutka: the plan has no steps; an empty one is `none`\n");
+    // Longer than any text, wherever a character is cut.
+    for more in 0..3 {
+        let mut text = b"add(0,0) add(1,0)\n#".to_vec();
+        text.resize((1 << 20) - more, b'x');
+        text.extend_from_slice("\u{e9}\u{e9}".as_bytes());
+        assert_eq!(run(&folder, &["check", "3", "-"], &text).status, 2, "{}", more);
+    }
+}
+
+/// The answer to a line that wrote a file comes before the next line is answered.
+#[test]
+fn answers_with_their_files() {
+    use std::io::{BufRead, BufReader, Write};
+    let folder = Folder::new();
+    let mut child = common::started(common::program().args(["batch", "--force"]).current_dir(folder.path()));
+    let mut stdin = child.stdin.take().expect("standard input");
+    let mut lines = "plan 3 1 to first\n".to_string();
+    lines += &"plan 3 1 to x\n".repeat(2000);
+    stdin.write_all(lines.as_bytes()).expect("requests");
+    let mut stdout = BufReader::new(child.stdout.take().expect("standard output"));
+    let mut answer = String::new();
+    stdout.read_line(&mut answer).expect("an answer");
+    assert_eq!(answer, format!("1: {}first\n", WRITTEN));
+    child.kill().expect("the program is still at work");
+    child.wait().expect("the program ends");
+    assert_eq!(folder.read("first"), three());
 }

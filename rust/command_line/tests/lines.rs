@@ -243,6 +243,13 @@ fn what_a_line_cannot_ask_for() {
     }
 }
 
+#[test]
+fn unknown_options_in_a_line() {
+    let (_, out, _) = batch(b"--foo\nrecode 1 --foo\n");
+    let told = "malformed: no such option: `--foo`\n";
+    assert_eq!(out, format!("1: {}2: {}", told, told));
+}
+
 /// A failed request is still answered with its number, and a batch's --force is for plans into files
 /// alone.
 #[test]

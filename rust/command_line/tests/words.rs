@@ -171,6 +171,7 @@ fn malformed_requests() {
         (&["help", "me"], "no such request: `me`"),
         (&["help", "plan", "show"], "too many words: `show`"),
         (&["--version", "x"], "too many words: `x`"),
+        (&["--version", "--force"], "--force is for `plan ... to FILE` alone"),
         (&["recode", "1", "--jason"], "no such option: `--jason`"),
         (&["recode", "1", "--json", "--jason"], "no such option: `--jason`"),
         (&["--help", "--jason"], "no such option: `--jason`"),
@@ -215,6 +216,9 @@ fn failures_as_json() {
     assert_eq!(object.get("width"), &Json::Number(3));
     assert_eq!(object.get("file"), &Json::Text("missing/x".to_string()));
     assert_eq!(object.get("steps"), &Json::Null);
+    let object = Json::read(asked(&["show", "missing/x", "--json"]).1.trim_end());
+    assert_eq!(object.get("file"), &Json::Text("missing/x".to_string()));
+    assert_eq!(object.get("status"), &Json::Text("failed".to_string()));
 }
 
 /// A method or a width of more than 32 bits is shown as it was written.

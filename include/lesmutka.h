@@ -129,16 +129,16 @@
 extern "C" {
 #endif
 
-/* The version, 10000 * major + 100 * minor + patch: this is 0.2.0. lesmutka_version answers that of
+/* The version, 10000 * major + 100 * minor + patch: this is 0.3.0. lesmutka_version answers that of
  * the library that is linked. */
-#define LESMUTKA_VERSION 200
+#define LESMUTKA_VERSION 300
 
 /* Limits. lesmutka_limits answers those of the library that is linked. */
-#define LESMUTKA_NUMBER_BYTES 32
-#define LESMUTKA_STRING_DIGITS 512
+#define LESMUTKA_NUMBER_BYTES 48
+#define LESMUTKA_STRING_DIGITS 768
 #define LESMUTKA_STEP_BYTES 5
-#define LESMUTKA_PLAN_STEPS 640
-#define LESMUTKA_VALUE_BYTES 33
+#define LESMUTKA_PLAN_STEPS 960
+#define LESMUTKA_VALUE_BYTES 49
 #define LESMUTKA_RECORD_BYTES (1 + LESMUTKA_VALUE_BYTES)
 
 /* The widest windows. */

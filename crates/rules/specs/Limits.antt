@@ -4,11 +4,11 @@ use Rattle.rules.specs.declared.Limits.{Limits}
 
 -- the version: 10000 * major + 100 * minor + patch
 abbrev pub version : ℕ
-version = 200
+version = 300
 
 -- a number has at most this many bytes
 abbrev pub numberBytes : ℕ
-numberBytes = 32
+numberBytes = 48
 
 -- the words of eight bytes that hold such a number
 abbrev pub numberWords : ℕ
@@ -16,7 +16,7 @@ numberWords = numberBytes / 8
 
 -- a digit string that is handed in has at most this many digits
 abbrev pub stringDigits : ℕ
-stringDigits = 512
+stringDigits = 768
 
 -- a step of a plan has this many bytes
 abbrev pub stepBytes : ℕ
@@ -24,11 +24,11 @@ stepBytes = 5
 
 -- a plan has at most this many steps
 abbrev pub planSteps : ℕ
-planSteps = 640
+planSteps = 960
 
 -- the size of a value has at most this many bytes
 abbrev pub valueBytes : ℕ
-valueBytes = 33
+valueBytes = 49
 
 -- the words of eight bytes that hold such a size; the top one holds a single byte
 abbrev pub valueWords : ℕ

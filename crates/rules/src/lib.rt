@@ -7,24 +7,24 @@ ghost use Rattle.rules.specs.Limits.{documented};
 ghost use Rattle.rules.specs.Refusals.{refusalNumber, refusalPlace};
 
 // The version: 10000 * major + 100 * minor + patch.
-pub const VERSION: u32 = 200;
+pub const VERSION: u32 = 300;
 
 // The most bytes of a number.
-pub const NUMBER_BYTES: usize = 32;
+pub const NUMBER_BYTES: usize = 48;
 
 // The words of eight bytes that hold such a number, whose limit is a multiple of eight.
 pub const NUMBER_WORDS: usize = NUMBER_BYTES / 8;
 
 // The most digits of a digit string that is handed in.
-pub const STRING_DIGITS: usize = 512;
+pub const STRING_DIGITS: usize = 768;
 
 // The bytes of a step of a plan, and the most steps of a plan.
 pub const STEP_BYTES: usize = 5;
 
-pub const PLAN_STEPS: usize = 640;
+pub const PLAN_STEPS: usize = 960;
 
 // Each value of a plan has a size of this many bytes, so it is below 2^(8 VALUE_BYTES).
-pub const VALUE_BYTES: usize = 33;
+pub const VALUE_BYTES: usize = 49;
 
 // The words of eight bytes that hold such a size. The top one holds a single byte.
 pub const VALUE_WORDS: usize = VALUE_BYTES / 8 + 1;

@@ -61,15 +61,15 @@ const fn number(digits: &str) -> u32 {
 }
 
 /// The most bytes of a number.
-pub const NUMBER_BYTES: usize = 32;
+pub const NUMBER_BYTES: usize = 48;
 /// The most digits of a digit string that is handed in.
-pub const STRING_DIGITS: usize = 512;
+pub const STRING_DIGITS: usize = 768;
 /// The bytes of a step of a plan.
 pub const STEP_BYTES: usize = 5;
 /// The most steps of a plan.
-pub const PLAN_STEPS: usize = 640;
+pub const PLAN_STEPS: usize = 960;
 /// The most bytes of the size of a plan's value.
-pub const VALUE_BYTES: usize = 33;
+pub const VALUE_BYTES: usize = 49;
 /// The bytes of a record of the work space: a sign, then a size.
 pub const RECORD_BYTES: usize = 1 + VALUE_BYTES;
 /// The most bits of a fixed window.

@@ -1,20 +1,19 @@
-//! The limits of document 01, each beside its sentence, and what follows from them. No other file
-//! of this crate writes one as a number.
+//! The limits, each beside its sentence in document 01, or in document 02 where that changes it, and
+//! what follows from them. No other file of this crate writes one as a number.
 
 use std::ops::RangeInclusive;
 
-/// "Number: 0 to 32 bytes."
-pub const NUMBER_BYTES: usize = 32;
-/// "Digit string: 0 to 512 bytes, one digit each."
-pub const STRING_DIGITS: usize = 512;
-/// "Plan: r steps of 5 bytes, r from 0 to 640."
+/// T-06: "Numbers up to 48 bytes, digit strings up to 768, plans up to 960 steps (4,800 bytes),
+/// values below 2^392, work records of 50 bytes."
+pub const NUMBER_BYTES: usize = 48;
+pub const STRING_DIGITS: usize = 768;
+pub const PLAN_STEPS: usize = 960;
+pub const VALUE_BITS: usize = 392;
+pub const RECORD_BYTES: usize = 50;
+/// "Plan: r steps of 5 bytes."
 pub const STEP_BYTES: usize = 5;
-pub const PLAN_STEPS: usize = 640;
-/// "Any value of size 2^264 or more is refused too."
-pub const VALUE_BITS: usize = 264;
-/// "Record i of the space is 34 bytes: a sign byte (0, or 1 below zero), then 33 bytes of size."
-pub const RECORD_BYTES: usize = 34;
-pub const VALUE_BYTES: usize = 33;
+/// "Record i of the space is .. a sign byte (0, or 1 below zero), then .. bytes of size."
+pub const VALUE_BYTES: usize = RECORD_BYTES - 1;
 /// "Width is 0 for methods 1 and 4, and 1 to 6 for methods 2 and 3."
 pub const WINDOW_WIDTHS: RangeInclusive<u32> = 1..=6;
 

@@ -1,5 +1,4 @@
+pub mod Signed
 pub mod Size
 mod Limits
-mod Outcomes
-mod Signed
 mod Sizes

@@ -24,18 +24,11 @@ add-same true true m n e = sym (negℤ-+ℤ (pos m) (pos n))
 add-same false true m n e = cc
 add-same true false m n e = cc
 
--- signs that differ: the larger size decides
-pub add-first : (r s : Bool) (m n d : ℕ) → Bool·beq r s ≡ false → d + n ≡ m → signed r m +ℤ signed s n ≡ signed r d
-add-first false true m n d e h = rw (← h) (+ℤ-negℤ-cancel (pos d) (pos n))
-add-first true false m n d e h = rw (← h, negℤ-+ℤ (pos d) (pos n)) (-ℤ-+ℤ-cancel (negℤ (pos d)) (pos n))
-add-first false false m n d e h = cc
-add-first true true m n d e h = cc
+-- opposite signs: the larger size decides
+pub add-first : (s : Bool) (m n d : ℕ) → d + n ≡ m → signed (not s) m +ℤ signed s n ≡ signed (not s) d
+add-first true m n d h = rw (← h) (+ℤ-negℤ-cancel (pos d) (pos n))
+add-first false m n d h = rw (← h, negℤ-+ℤ (pos d) (pos n)) (-ℤ-+ℤ-cancel (negℤ (pos d)) (pos n))
 
-pub add-second : (r s : Bool) (m n d : ℕ) → Bool·beq r s ≡ false → d + m ≡ n → signed r m +ℤ signed s n ≡ signed s d
-add-second r s m n d e h = +ℤ-comm (signed r m) (signed s n) ∙ add-first s r n m d (turned r s e) h
-  where
-    turned : (r s : Bool) → Bool·beq r s ≡ false → Bool·beq s r ≡ false
-    turned true true e = e
-    turned true false e = refl
-    turned false true e = refl
-    turned false false e = e
+pub add-second : (s : Bool) (m n d : ℕ) → d + m ≡ n → signed (not s) m +ℤ signed s n ≡ signed s d
+add-second true m n d h = +ℤ-comm (pos m) (negℤ (pos n)) ∙ add-first false n m d h
+add-second false m n d h = +ℤ-comm (negℤ (pos m)) (pos n) ∙ add-first true n m d h

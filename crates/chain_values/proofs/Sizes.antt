@@ -1,4 +1,4 @@
--- Sizes: the end of a sum and of a difference, and the top word. Assumes nothing.
+-- Sizes: the end of a difference, and the top word. Assumes nothing.
 use mathlib.Core.Path.{_≡_, refl, sym}
 use mathlib.Core.Bool.{Bool, true, false}
 use mathlib.Core.List.{List}
@@ -14,17 +14,10 @@ use mir.Val.{boolByte}
 use Rattle.integers.specs.Positional.{wordsValue}
 use Rattle.integers.proofs.Positional.{Below, below-take, positional-take, positional-lt}
 
--- ---- the end of a sum and of a difference, where c is carried or borrowed past the words
-
--- nothing is carried past words that hold the sum
-pub no-carry : (x y u P b : ℕ) (c : Bool) → x < b → y < b → b + b ≤ P → x + y ≡ u + P * boolByte c → u ≡ x + y
-no-carry x y u P b true hx hy h e = absurd (omega arith)
-no-carry x y u P b false hx hy h e = omega arith
-
--- something is borrowed where the first is below the second
-pub borrowed : (x y u P : ℕ) (c : Bool) → u < P → u + y ≡ x + P * boolByte c → (c ≡ ltb x y) × (y ≤ x → u + y ≡ x)
-borrowed x y u P true h e = (sym (lt-ltb x y (omega arith)), λ l. absurd (omega arith))
-borrowed x y u P false h e = (sym (le-ltb x y (omega arith)), λ l. omega arith)
+-- what is taken from zero borrows past the words
+pub all-borrowed : (u y P : ℕ) (c : Bool) → u + y ≡ 0 + P * boolByte c → 0 < y → u + y ≡ P
+all-borrowed u y P true e h = omega arith
+all-borrowed u y P false e h = absurd (omega arith)
 
 -- ---- the top word
 

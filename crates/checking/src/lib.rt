@@ -53,10 +53,11 @@ pub fn check(number: &[u8], plan: &[u8], space: &mut [u8]) -> Counted
     let mut n = 0;
     while n < steps {
         let step = read_step(plan, n);
+        // Counted before it is checked, so that nothing of the step is kept meanwhile.
+        counts = count_step(counts, step);
         if let Verdict::Failed(refusal) = check_step(step, space, n) {
             return Counted::Refused(refusal);
         }
-        counts = count_step(counts, step);
         n += 1;
     }
     // Field by field: if the struct is copied whole, the compiler counts by parts of its words.

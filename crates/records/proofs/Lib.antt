@@ -1,4 +1,5 @@
 pub mod Recording
+mod Combinations
 mod Limits
 mod Records
 mod Signs

@@ -6,27 +6,24 @@ use native.Mathlib.Decide.{decLt}
 use native.Mathlib.Nat.{zero-add}
 use native.Mathlib.Omega.{arith}
 use lib.IntN.{ℤ, pos, natAbs}
-use lib.ListN.{length, take, drop, length-append, List·getD-append}
+use lib.ListN.{length, drop, length-append, List·getD-append}
 use lib.Seq.{getD-at}
 use Rattle.rules.specs.Limits.{valueBound, recordBytes}
 use Rattle.integers.proofs.Blocks.{placed, place-more}
 use Rattle.chains.specs.Values.{at}
 use Rattle.chains.specs.Records.{recordOf, recordsOf}
 use Rattle.chains.proofs.Records.{length-records, records-append, record-at}
-use Rattle.records.specs.Recording.{Recording}
+use Rattle.records.specs.Recording.{Recording, HasRecord}
 
 -- no record yet
 pub recording-none : (lent : List ℕ) → Recording lent lent []
 unfolding recordsOf
 recording-none lent = record { small = λ j h. absurd (omega arith); bytes = refl }
 
--- x is what the record at j says, if one stands there
-abbrev pub Loaded : List ℕ → ℕ → ℤ → Type 0
-Loaded here j x = (z : ℤ) → take recordBytes (drop (recordBytes * j) here) ≡ recordOf z → natAbs z < valueBound → x ≡ z
-
 module _ (lent here : List ℕ) (values : List ℤ) (w : Recording lent here values) where
-  pub loaded-is : (j : ℕ) (x : ℤ) → Loaded here j x → j < length values → x ≡ at values j
-  loaded-is j x l h = l (at values j) (rw (w .bytes) (record-at values (drop (recordBytes * length values) lent) j h)) (w .small j h)
+  -- each value has its record
+  pub has-record : (j : ℕ) → j < length values → HasRecord here (recordBytes * j) (at values j)
+  has-record j h = (rw (w .bytes) (record-at values (drop (recordBytes * length values) lent) j h), w .small j h)
 
   -- one record more, after m others
   pub recording-more : (z : ℤ) (m : ℕ) (next : List ℕ) → length values ≡ m → natAbs z < valueBound → next ≡ placed here (recordBytes * m) recordBytes (recordOf z)

@@ -1,41 +1,68 @@
--- The bytes of a size in a work space: n whole words and one byte more. Assumes nothing.
+-- The bytes of a size in a work space: whole words, and a single byte for the top one. Assumes nothing.
 use mathlib.Core.Path.{_≡_, sym, ap, _∙_}
-use mathlib.Core.List.{List, [], _∷_, _++_, append-nil}
-use Prim.Native.Nat.{ℕ, _+_, _*_, _%_, _^_, _<_, _≤_}
+use mathlib.Core.Bool.{Bool, true, false}
+use mathlib.Core.List.{List, [], _∷_}
+use Prim.Native.Nat.{ℕ, _+_, _*_, _-_, _%_, _^_, _<_, _≤_}
 use native.Mathlib.Omega.{arith}
-use lib.ListN.{length, getD, set, take, drop, length-drop, drop-of-length-le}
+use lib.ListN.{length, getD, set, take, drop, length-drop}
 use lib.Seq.{length-take-le, take-all, drop-cons}
+use mir.Val.{boolByte}
+use Rattle.rules.specs.Limits.{valueBytes, valueWords}
 use Rattle.integers.specs.Positional.{positional, bytesValue, wordsValue, lowBytes}
 use Rattle.integers.specs.Tabulate.{tabulate}
 use Rattle.integers.proofs.Positional.{Below}
-use Rattle.integers.proofs.Tabulate.{tabulate-more}
+use Rattle.integers.proofs.Tabulate.{length-tabulate, getD-tabulate}
 use Rattle.integers.proofs.Words.{part, wordAt, words-value, part-part, words-low}
 use Rattle.integers.proofs.Blocks.{placed, place-more, place-one}
 use Rattle.integers.proofs.LowBytes.{length-low}
 
-module _ (l : List ℕ) (at size n : ℕ) (one : size ≡ 8 * n + 1) where
-  pub word-inside : (k : ℕ) → k < n → bytesValue (part (at + 8 * k) 8 l) ≡ wordAt (part at size l) k
-  word-inside k h = ap bytesValue (sym (part-part l at size (8 * k) 8 (omega arith)))
+module _ (space : List ℕ) (at : ℕ) where
+  -- the words of the size whose bytes stand at `at`
+  unfoldable pub sizeWords : List ℕ
+  sizeWords = tabulate (wordAt (part at valueBytes space)) valueWords
 
-  module _ (fits : at + size ≤ length l) where
-    long : length (part at size l) ≡ size
-    long = length-take-le size (drop at l) (rw length-drop (omega arith))
+  pub length-words : length sizeWords ≡ valueWords
+  unfolding sizeWords
+  length-words = length-tabulate (wordAt (part at valueBytes space)) valueWords
 
-    byte-above : getD l (at + 8 * n) 0 ≡ wordAt (part at size l) n
+  pub word-at : (k : ℕ) → k < valueWords → getD sizeWords k 0 ≡ wordAt (part at valueBytes space) k
+  unfolding sizeWords
+  word-at k h = getD-tabulate (wordAt (part at valueBytes space)) valueWords k h
+
+  -- the bytes of each: eight, or the single one of the top word
+  pub whole-word : (k : ℕ) → k < valueWords - 1 → bytesValue (part (at + 8 * k) 8 space) ≡ wordAt (part at valueBytes space) k
+  whole-word k h = ap bytesValue (sym (part-part space at valueBytes (8 * k) 8 (omega arith)))
+
+  module _ (fits : at + valueBytes ≤ length space) where
+    long : length (part at valueBytes space) ≡ valueBytes
+    long = length-take-le valueBytes (drop at space) (rw length-drop (omega arith))
+
+    pub top-word : (k : ℕ) → k ≡ valueWords - 1 → getD space (at + 8 * k) 0 ≡ wordAt (part at valueBytes space) k
     unfolding positional
-    byte-above =
-        let rest : List ℕ = drop (8 * n) (part at size l) in
+    top-word k h =
+        let rest : List ℕ = drop (8 * k) (part at valueBytes space) in
         let short : length rest ≡ 1 = rw (length-drop, long) (omega arith) in
-        let e : take 8 rest ≡ getD l (at + 8 * n) 0 ∷ [] =
-        take-all 8 rest (omega arith) ∙ sym (take-all 1 rest (omega arith)) ∙ part-part l at size (8 * n) 1 (omega arith) ∙ rw (drop-cons l (at + 8 * n) 0 (omega arith)) in
+        let e : take 8 rest ≡ getD space (at + 8 * k) 0 ∷ [] =
+        take-all 8 rest (omega arith) ∙ sym (take-all 1 rest (omega arith)) ∙ part-part space at valueBytes (8 * k) 1 (omega arith) ∙ rw (drop-cons space (at + 8 * k) 0 (omega arith)) in
         rw e (omega arith)
 
-    -- words that hold the n whole ones, and the byte stored above
-    pub size-loaded : (zeros : List ℕ) → length zeros ≡ n + 1
-        → wordsValue (set (tabulate (wordAt (part at size l)) n ++ drop n zeros) n (getD l (at + 8 * n) 0)) ≡ bytesValue (part at size l)
-    size-loaded zeros h =
-        let whole : take (8 * (n + 1)) (part at size l) ≡ part at size l = take-all (8 * (n + 1)) (part at size l) (omega (arith, long)) in
-        rw (byte-above, tabulate-more (wordAt (part at size l)) zeros n (omega arith), drop-of-length-le zeros {i = n + 1} (omega arith), append-nil, words-value (part at size l) (n + 1), whole)
+    pub words-are : wordsValue sizeWords ≡ bytesValue (part at valueBytes space)
+    unfolding sizeWords
+    words-are = words-value (part at valueBytes space) valueWords ∙ ap bytesValue (take-all (8 * valueWords) (part at valueBytes space) (omega (arith, long)))
+
+-- nothing is carried past words that hold the sum
+pub no-carry : (x y u P b : ℕ) (c : Bool) → x < b → y < b → b + b ≤ P → x + y ≡ u + P * boolByte c → u ≡ x + y
+no-carry x y u P b true hx hy h e = absurd (omega arith)
+no-carry x y u P b false hx hy h e = omega arith
+
+-- what is left where nothing is borrowed past the words, and where something is: then it is what is missing to P
+pub unborrowed : (x y u P : ℕ) (c : Bool) → c ≡ false → u + y ≡ x + P * boolByte c → u + y ≡ x
+unborrowed x y u P true h e = cc
+unborrowed x y u P false h e = omega arith
+
+pub borrowed : (x y u v P b : ℕ) (c : Bool) → c ≡ true → y < b → b + b ≤ P → u + y ≡ x + P * boolByte c → (0 < u → v + u ≡ P) → v + x ≡ y
+borrowed x y u v P b true h hy hb e n = let m : v + u ≡ P = n (omega arith) in omega arith
+borrowed x y u v P b false h hy hb e n = cc
 
 -- the n low bytes of a number stand at `at`
 abbrev pub low-placed : List ℕ → ℕ → ℕ → ℕ → List ℕ

@@ -3,14 +3,22 @@ use mathlib.Core.Path.{_≡_}
 use mathlib.Core.List.{List, _++_}
 use Prim.Native.Nat.{ℕ, _*_, _<_}
 use lib.IntN.{ℤ, natAbs}
-use lib.ListN.{length, drop}
-use Rattle.rules.specs.Limits.{valueBound, recordBytes}
+use lib.ListN.{length, take, drop}
+use Rattle.rules.specs.Limits.{valueBytes, valueBound, recordBytes}
 use Rattle.chains.specs.Values.{at}
-use Rattle.chains.specs.Records.{recordsOf}
+use Rattle.chains.specs.Records.{recordOf, recordsOf}
 
 -- the records of these values from the start of a work space; bytes past these records stay
 abbrev pub recorded : List ℤ → List ℕ → List ℕ
 recorded values space = recordsOf values ++ drop (recordBytes * length values) space
+
+-- the bytes of a size that stand at `at`
+abbrev pub sizeBytes : List ℕ → ℕ → List ℕ
+sizeBytes space at = take valueBytes (drop at space)
+
+-- the record of z stands at `at`, and its size is below the bound
+abbrev pub HasRecord : List ℕ → ℕ → ℤ → Type 0
+HasRecord space at z = (take recordBytes (drop at space) ≡ recordOf z) × (natAbs z < valueBound)
 
 -- what was lent holds the records of these values, each of size below the bound
 pub record Recording (lent here : List ℕ) (values : List ℤ) : Type 0 where

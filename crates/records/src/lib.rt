@@ -1,43 +1,135 @@
 // Records of the values of a chain in a work space.
 use chain_values::Value;
 use chain_values::is_zero;
+use chain_values::negated;
 use integers::whole_word_at;
 use rules::VALUE_WORDS;
+use words::add_with_carry;
 use words::store_word;
+use words::subtract_with_borrow;
 ghost use mathlib.Core.Path.{_≡_};
+ghost use mathlib.Core.Bool.{cond};
 ghost use mathlib.Core.List.{_++_};
-ghost use Prim.Native.Nat.{_+_, _≤_, _<_};
-ghost use lib.IntN.{ℤ, natAbs};
+ghost use Prim.Native.Nat.{_+_, _*_, _^_, _≤_, _<_};
+ghost use lib.IntN.{ℤ, _+ℤ_, _-ℤ_};
 ghost use lib.ListN.{length, take, drop};
-ghost use Rattle.rules.specs.Limits.{valueBytes, recordBytes, valueBound};
+ghost use mir.Val.{boolByte};
+ghost use Rattle.rules.specs.Limits.{valueBytes, valueWords, recordBytes};
 ghost use Rattle.integers.specs.Positional.{bytesValue, wordsValue, lowBytes};
 ghost use Rattle.integers.specs.Signed.{signOf};
 ghost use Rattle.chains.specs.Records.{recordOf};
-ghost use Rattle.chain_values.specs.Value.{integerOf, FitsRecord};
+ghost use Rattle.chain_values.specs.Value.{integerOf};
+ghost use Rattle.records.specs.Recording.{HasRecord, sizeBytes};
 
-// The size whose bytes stand at `at`: whole words, and a single byte for the top one.
+// A word of the size whose bytes stand at `at`: eight of them, or the single one of the top word.
+fn size_word(space: &[u8], at: usize, k: usize) -> u64
+    requires { ⌜ k < valueWords ⌝ }
+    requires { ⌜ at + valueBytes ≤ length (now space) ⌝ }
+    ensures { λ r. ⌜ r ≡ bytesValue (take 8 (drop (8 * k) (sizeBytes (now (space .entry)) at))) ⌝ }
+{
+    if k < VALUE_WORDS - 1 {
+        whole_word_at(space, at + 8 * k)
+    } else {
+        space[at + 8 * k] as u64
+    }
+}
+
+// The size whose bytes stand at `at`.
 fn load_size(space: &[u8], at: usize) -> [u64; VALUE_WORDS]
     requires { ⌜ at + valueBytes ≤ length (now space) ⌝ }
-    ensures { λ r. ⌜ wordsValue r ≡ bytesValue (take valueBytes (drop at (now (space .entry)))) ⌝ }
+    ensures { λ r. ⌜ wordsValue r ≡ bytesValue (sizeBytes (now (space .entry)) at) ⌝ }
 {
     let mut words = [0u64; VALUE_WORDS];
     let mut k = 0;
-    while k < VALUE_WORDS - 1 {
-        words[k] = whole_word_at(space, at + 8 * k);
+    while k < VALUE_WORDS {
+        words[k] = size_word(space, at, k);
         k += 1;
     }
-    words[k] = space[at + 8 * k] as u64;
     words
 }
 
 // The value whose record stands at `at`.
 pub fn load(space: &[u8], at: usize) -> Value
     requires { ⌜ at + recordBytes ≤ length (now space) ⌝ }
-    ensures { λ r. ⌜ FitsRecord r × ((z : ℤ) → take recordBytes (drop at (now (space .entry))) ≡ recordOf z → natAbs z < valueBound → integerOf r ≡ z) ⌝ }
+    ensures { λ r. ⌜ ((z : ℤ) → HasRecord (now (space .entry)) at z → integerOf r ≡ z) ⌝ }
 {
     Value {
         words: load_size(space, at + 1),
         negative: space[at] == 1,
+    }
+}
+
+// The sum of the sizes whose bytes stand at `a` and `b`. Each word is added as it is loaded: loaded
+// before, they would be more than there are registers.
+fn sum(space: &[u8], a: usize, b: usize) -> [u64; VALUE_WORDS]
+    requires { ⌜ a + valueBytes ≤ length (now space) ⌝ }
+    requires { ⌜ b + valueBytes ≤ length (now space) ⌝ }
+    ensures { λ r. ⌜ wordsValue r ≡ bytesValue (sizeBytes (now (space .entry)) a) + bytesValue (sizeBytes (now (space .entry)) b) ⌝ }
+{
+    let mut words = [0u64; VALUE_WORDS];
+    let mut carry = false;
+    let mut k = 0;
+    while k < VALUE_WORDS {
+        let next = add_with_carry(size_word(space, a, k), size_word(space, b, k), carry);
+        words[k] = next.word;
+        carry = next.carry;
+        k += 1;
+    }
+    words
+}
+
+// What is left of one size without another, and whether it is below zero: then one bit above the
+// words is missing.
+struct SizeDifference {
+    words: [u64; VALUE_WORDS],
+    below: bool,
+}
+
+// The size at `a` less the one at `b`.
+fn subtracted(space: &[u8], a: usize, b: usize) -> SizeDifference
+    requires { ⌜ a + valueBytes ≤ length (now space) ⌝ }
+    requires { ⌜ b + valueBytes ≤ length (now space) ⌝ }
+    ensures { λ r. ⌜ wordsValue (r .words) + bytesValue (sizeBytes (now (space .entry)) b) ≡ bytesValue (sizeBytes (now (space .entry)) a) + (2 ^ 64) ^ valueWords * boolByte (r .below) ⌝ }
+{
+    let mut words = [0u64; VALUE_WORDS];
+    let mut borrow = false;
+    let mut k = 0;
+    while k < VALUE_WORDS {
+        let next = subtract_with_borrow(size_word(space, a, k), size_word(space, b, k), borrow);
+        words[k] = next.word;
+        borrow = next.borrow;
+        k += 1;
+    }
+    SizeDifference {
+        words,
+        below: borrow,
+    }
+}
+
+// a + b, or a - b, of the values whose records stand at `a` and `b`.
+pub fn combined(space: &[u8], a: usize, b: usize, subtract: bool) -> Value
+    requires { ⌜ a + recordBytes ≤ length (now space) ⌝ }
+    requires { ⌜ b + recordBytes ≤ length (now space) ⌝ }
+    ensures { λ r. ⌜ ((x y : ℤ) → HasRecord (now (space .entry)) a x → HasRecord (now (space .entry)) b y → integerOf r ≡ cond subtract (x -ℤ y) (x +ℤ y)) ⌝ }
+{
+    let negative = (space[b] == 1) != subtract;
+    if (space[a] == 1) == negative {
+        return Value {
+            words: sum(space, a + 1, b + 1),
+            negative,
+        };
+    }
+    let difference = subtracted(space, a + 1, b + 1);
+    let words = difference.words;
+    if difference.below {
+        return Value {
+            words: negated(words),
+            negative,
+        };
+    }
+    Value {
+        words,
+        negative: !negative,
     }
 }
 

@@ -12,13 +12,13 @@ use Rattle.rules.specs.declared.Refusal.the-variants.{MalformedStep, ValueIsZer
 use Rattle.rules.specs.declared.Verdict.the-variants.{Passed, Failed}
 use Rattle.integers.proofs.Blocks.{placed}
 use Rattle.chains.specs.Steps.{Step, adding}
-use Rattle.chains.specs.Values.{stepValue}
+use Rattle.chains.specs.Values.{at, stepValue}
 use Rattle.chains.specs.Sound.{WellFormed}
 use Rattle.chains.specs.Records.{recordOf}
 use Rattle.step_checking.specs.Verdicts.{isWellFormed, valueVerdict, stepVerdict, StepChecked}
-use Rattle.records.specs.Recording.{Recording}
+use Rattle.records.specs.Recording.{Recording, HasRecord}
 use Rattle.step_checking.proofs.Tested.{well-formed-is}
-use Rattle.records.proofs.Recording.{Loaded, loaded-is, recording-more}
+use Rattle.records.proofs.Recording.{has-record, recording-more}
 
 pub malformed-checked : (s : Step) (n : ℕ) (here : List ℕ) → isWellFormed (n + 1) s ≡ false → StepChecked s n here here (Failed (MalformedStep (n + 1)))
 unfolding stepVerdict
@@ -34,15 +34,18 @@ pub record Gives (s : Step) (n : ℕ) (here : List ℕ) (z : ℤ) : Type 0 where
   pub value : (lent : List ℕ) (values : List ℤ) → length values ≡ n + 1 → Recording lent here values → z ≡ stepValue values s
 
 -- the two values that it names, combined
-pub combined-gives : (s : Step) (n : ℕ) (here : List ℕ) (x y z : ℤ) → WellFormed (n + 1) s → Loaded here (s .first) x → Loaded here (s .second) y
-    → z ≡ cond (not (eqb (s .operation) adding)) (x -ℤ y) (x +ℤ y) → Gives s n here z
+pub combined-gives : (s : Step) (n : ℕ) (here : List ℕ) (z : ℤ) → WellFormed (n + 1) s
+    → ((x y : ℤ) → HasRecord here (recordBytes * s .first) x → HasRecord here (recordBytes * s .second) y → z ≡ cond (not (eqb (s .operation) adding)) (x -ℤ y) (x +ℤ y))
+    → Gives s n here z
 unfolding stepValue
-combined-gives s n here x y z formed first second e = record {
+combined-gives s n here z formed combined = record {
   formed = formed;
   value = λ lent values long w.
       let j : s .first < length values = rw long (formed .first) in
       let k : s .second < length values = rw long (formed .second) in
-      e ∙ turned (eqb (s .operation) adding) (x -ℤ y) (x +ℤ y) ∙ rw (loaded-is lent here values w (s .first) x first j, loaded-is lent here values w (s .second) y second k);
+      let x : ℤ = at values (s .first) in
+      let y : ℤ = at values (s .second) in
+      combined x y (has-record lent here values w (s .first) j) (has-record lent here values w (s .second) k) ∙ turned (eqb (s .operation) adding) (x -ℤ y) (x +ℤ y);
 }
 
 -- the verdict on its value; if it passes, the value is stored

@@ -1,8 +1,7 @@
 // Checking one step of a plan.
-use chain_values::combined;
 use chain_values::is_small;
 use chain_values::is_zero;
-use records::load;
+use records::combined;
 use records::store;
 use rules::RECORD_BYTES;
 use rules::Refusal;
@@ -26,9 +25,8 @@ pub fn check_step(step: Step, space: &mut [u8], n: usize) -> Verdict
     if !well_formed {
         return Verdict::Failed(Refusal::MalformedStep(i));
     }
-    let second = load(space, RECORD_BYTES * k);
-    let first = load(space, RECORD_BYTES * j);
-    let value = combined(first, second, step.operation != 0);
+    let subtract = step.operation != 0;
+    let value = combined(space, RECORD_BYTES * j, RECORD_BYTES * k, subtract);
     if is_zero(value) {
         return Verdict::Failed(Refusal::ValueIsZero(i));
     }

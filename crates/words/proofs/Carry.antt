@@ -4,10 +4,9 @@ use mathlib.Core.Bool.{Bool, true, false, _||_}
 use mathlib.Core.List.{List}
 use Prim.Native.Nat.{ℕ, _+_, _*_, _^_, _%_, _<_, _≤_}
 use borrow.Author.Tests.{ltb-true, ltb-false}
-use native.Mathlib.Nat.{mul-add, mul-assoc, mul-comm, pow-suc}
+use native.Mathlib.Nat.{mul-add, mul-assoc, pow-suc}
 use native.Mathlib.Numerals.{add-one}
 use native.Mathlib.Omega.{arith}
-use lib.Arith.{digits-lt}
 use lib.Dec.{ltb}
 use lib.ListN.{length, getD, set, take}
 use lib.Seq.{take-all, take-set-le, getD-set-same}
@@ -89,10 +88,3 @@ carried-none v w u = refl
 pub carried-all : (k : ℕ) (v w u : List ℕ) (c : Bool) → length v ≡ k → length w ≡ k → length u ≡ k → Carried k v w u c
     → wordsValue v + wordsValue w ≡ wordsValue u + (2 ^ 64) ^ k * boolByte c
 carried-all k v w u c hv hw hu h = rw (take-all k v (omega arith), take-all k w (omega arith), take-all k u (omega arith)) at h
-
--- the words stored so far hold no more than they can
-pub stored-lt : (l : List ℕ) (k x : ℕ) → k < length l → x < 2 ^ 64 → wordsValue (take k l) < (2 ^ 64) ^ k → wordsValue (take (k + 1) (set l k x)) < (2 ^ 64) ^ (k + 1)
-stored-lt l k x h b p =
-    let d : x * (2 ^ 64) ^ k + wordsValue (take k l) < 2 ^ 64 * (2 ^ 64) ^ k = digits-lt b p in
-    rw (add-one, positional-take (2 ^ 64) k (set l k x), take-set-le k l k x (omega arith), getD-set-same l k x 0 h, pow-suc (2 ^ 64) k)
-    (omega (arith, d, mul-comm ((2 ^ 64) ^ k) x, mul-comm ((2 ^ 64) ^ k) (2 ^ 64)))

@@ -73,19 +73,22 @@ underway c = c .loop .inv .4 _ (c .before .before .before .begin .ensures)
 read-step-requires : tie.Need-read-step-requires Inv-loop μ-loop
 read-step-requires c κs = search needs
 
+count-step-requires : tie.Need-count-step-requires Inv-loop μ-loop
+count-step-requires c κs = search needs
+
 check-step-requires : tie.Need-check-step-requires Inv-loop μ-loop
-check-step-requires c κs = omega (arith, room (c .before .before .before))
+check-step-requires c κs = omega (arith, room (c .before .before .before .before))
 
 enum-known-refusal-2 : tie.Need-enum-known-refusal-2 Inv-loop μ-loop
 enum-known-refusal-2 c = search needs
 
 same-length : tie.Need-same-length Inv-loop μ-loop
-same-length c = c .before .before .before .before .before .check-step .kept .1 .0 ∙ kept (c .before .before .before .before .before .before .before .before .before)
+same-length c = c .before .before .before .before .before .check-step .kept .1 .0 ∙ kept (c .before .before .before .before .before .before .before .before .before .before)
 
 returns-2 : tie.Need-returns-2 Inv-loop μ-loop
 returns-2 c =
     let checked = c .before .before .before .before .before in
-    let read = checked .before .before in
+    let read = checked .before .before .before in
     let at = read .before .before in
     let args = at .before .before .before .before .before .before .before .before .before .before .before .args in
     let check = checked .check-step in
@@ -95,9 +98,6 @@ returns-2 c =
 enum-told-2 : tie.Need-enum-told-2 Inv-loop μ-loop
 enum-told-2 c = search needs
 
-count-step-requires : tie.Need-count-step-requires Inv-loop μ-loop
-count-step-requires c κs = search needs
-
 add-n : tie.Need-add-n Inv-loop μ-loop
 add-n c = search needs
 
@@ -106,10 +106,9 @@ loop-less c = search needs
 
 loop-again : tie.Need-loop-again Inv-loop μ-loop
 loop-again c =
-    let counted = c in
-    let told = counted .before in
-    let checked = told .before .before .before .before in
-    let read = checked .before .before in
+    let checked = c .before .before .before .before in
+    let counted = checked .before .before in
+    let read = counted .before in
     let at = read .before .before in
     let args = at .before .before .before .before .before .before .before .before .before .before .before .args in
     let check = checked .check-step in
@@ -120,7 +119,7 @@ loop-again c =
       counted .count-step .ensures .0 ∙ rw (at .loop .inv .3) (counts-more (args .plan .now) (at .loop .n) step (search needs) (read .read-step .ensures)),
       λ lent w.
           underway-next (args .number .now) (args .plan .now) lent (at .loop .space) (at .loop .n) (at .loop .inv .4 lent w) (search needs) step (read .read-step .ensures) (check .result) (check .last .1 .0) (check .ensures)
-          (told .enum-told2 .given .1),
+          (c .enum-told2 .given .1),
     )
 
 ends-at-requires : tie.Need-ends-at-requires Inv-loop μ-loop
@@ -173,12 +172,12 @@ check-spec =
     begin-requires
     loop-holds
     read-step-requires
+    count-step-requires
     check-step-requires
     enum-known-refusal-2
     same-length
     returns-2
     enum-told-2
-    count-step-requires
     add-n
     loop-less
     loop-again

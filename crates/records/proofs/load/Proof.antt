@@ -1,7 +1,6 @@
 -- `records::load` meets its contract. Assumes nothing.
-use Prim.Native.Nat.{_+_}
 use Rattle.chain_values.specs.Value.{integerOf}
-use Rattle.records.proofs.Records.{size-below, record-read}
+use Rattle.records.proofs.Records.{record-read}
 use borrow.Author.Needs.{needs}
 use Rattle.records.proofs.load.Statement.{statement}
 use Rattle.records.proofs.load.Tie as tie
@@ -20,10 +19,8 @@ unfolding integerOf
 returns c =
     let start = c .before .before .before in
     let space = start .args .space .now in
-    let at = start .args .at in (
-      rw (c .before .load-size .ensures) (size-below space (at + 1) (λ i. c .shared-slice-known2 .given i .fits)),
-      λ z e h. rw (c .before .load-size .ensures) (record-read space at (start .pre) z e h),
-    )
+    let at = start .args .at in
+    λ z h. rw (c .before .load-size .ensures) (record-read space at (start .pre) z (h .0) (h .1))
 
 pub load-spec : {M : Type 1} → statement M
 load-spec = tie.close (tie.spec add-load-size load-size-requires shared-slice-read-t6 returns)

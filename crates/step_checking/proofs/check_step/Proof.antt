@@ -33,31 +33,21 @@ formed : (c : tie.Else1) → let args = c .before .before .before .args in WellF
 unfolding isWellFormed
 formed c = well-formed-is _ _ .0 (not-false _ (c .if1 .left))
 
-mul-load : tie.Need-mul-load
-mul-load c = omega (arith, formed (c .before) .second)
+mul-combined : tie.Need-mul-combined
+mul-combined c = let tests = formed (c .before .before) in omega (arith, tests .first, tests .second)
 
-load-requires : tie.Need-load-requires
-load-requires c κs = omega (arith, formed (c .before) .second)
-
-mul-load-2 : tie.Need-mul-load-2
-mul-load-2 c = omega (arith, formed (c .before .before .before) .first)
-
-load-requires-2 : tie.Need-load-requires-2
-load-requires-2 c κs = omega (arith, formed (c .before .before .before) .first)
+mul-combined-2 : tie.Need-mul-combined-2
+mul-combined-2 c = let tests = formed (c .before .before) in omega (arith, tests .first, tests .second)
 
 combined-requires : tie.Need-combined-requires
-combined-requires c κs = search needs
+combined-requires c κs = let tests = formed (c .before .before) in omega (arith, tests .first, tests .second)
 
 -- the value of the step
-combines : (c : tie.After-combined)
-    → let args = c .before .before .before .before .before .before .before .before .before .args in Gives (asStep (args .step)) (args .n) (args .space .now) (integerOf (c .combined .result))
+combines : (c : tie.After-combined) → let args = c .before .before .before .before .before .before .args in Gives (asStep (args .step)) (args .n) (args .space .now) (integerOf (c .combined .result))
 combines c =
-    let first = c .before .before in
-    let second = first .before .before in
-    let tests = second .before .before in
+    let tests = c .before .before .before in
     let args = tests .before .before .before .args in
-    combined-gives (asStep (args .step)) (args .n) (args .space .now) (integerOf (first .load2 .result)) (integerOf (second .load .result)) (integerOf (c .combined .result)) (formed tests)
-    (first .load2 .ensures .1) (second .load .ensures .1) (c .combined .ensures)
+    combined-gives (asStep (args .step)) (args .n) (args .space .now) (integerOf (c .combined .result)) (formed tests) (c .combined .ensures)
 
 is-zero-requires : tie.Need-is-zero-requires
 is-zero-requires c κs = search needs
@@ -70,7 +60,7 @@ returns-2 c =
     let zero : tie.Then2 = search in
     let tested = zero .before in
     let combined = tested .before in
-    let args = combined .before .before .before .before .before .before .before .before .before .args in
+    let args = combined .before .before .before .before .before .before .args in
     zero-checked (asStep (args .step)) (args .n) (args .space .now) _ (combines combined) (sym (tested .is-zero .ensures) ∙ zero .if2 .taken)
 
 is-small-requires : tie.Need-is-small-requires
@@ -94,7 +84,7 @@ returns-3 c =
     let stored = c .before .before in
     let small = stored .before .before in
     let combined = small .before .before .before .before in
-    let args = combined .before .before .before .before .before .before .before .before .before .args in
+    let args = combined .before .before .before .before .before .before .args in
     stored-checked (asStep (args .step)) (args .n) (args .space .now) _ (combines combined) (nonzero (small .before .before)) _ (sym (small .before .is-small .ensures) ∙ small .if3 .taken) (stored .store .ensures)
 
 same-length-3 : tie.Need-same-length-3
@@ -103,7 +93,7 @@ same-length-3 c = search needs
 returns-4 : tie.Need-returns-4
 returns-4 c =
     let combined = c .before .before .before .before in
-    let args = combined .before .before .before .before .before .before .before .before .before .args in
+    let args = combined .before .before .before .before .before .before .args in
     large-checked (asStep (args .step)) (args .n) (args .space .now) _ (combines combined) (nonzero (c .before .before)) (sym (c .before .is-small .ensures) ∙ c .if3 .left)
 
 pub check-step-spec : {M : Type 1} → statement M
@@ -112,10 +102,8 @@ check-step-spec =
     (tie.spec
     add-i
     returns
-    mul-load
-    load-requires
-    mul-load-2
-    load-requires-2
+    mul-combined
+    mul-combined-2
     combined-requires
     is-zero-requires
     same-length

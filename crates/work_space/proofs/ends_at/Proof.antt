@@ -18,7 +18,7 @@ returns : tie.Need-returns
 returns c =
     let args = c .before .before .before .before .args in
     let load = c .before .load in
-    ends-at (args .number .now) (args .space .now) (args .steps) (integerOf (load .result)) (load .ensures .1) (c .is-number .result) (c .is-number .ensures)
+    ends-at (args .number .now) (args .space .now) (args .steps) (integerOf (load .result)) (load .ensures) (c .is-number .result) (c .is-number .ensures)
 
 pub ends-at-spec : {M : Type 1} → statement M
 ends-at-spec = tie.close (tie.spec mul-load load-requires is-number-requires returns)

@@ -187,6 +187,24 @@ fn ones(k: usize) -> Vec<u8> {
     number
 }
 
+/// A number in decimal.
+fn decimal_text(number: &[u8]) -> String {
+    let mut digits = vec![0];
+    for &byte in number.iter().rev() {
+        let mut carry = u32::from(byte);
+        for digit in &mut digits {
+            carry += 256 * *digit;
+            *digit = carry % 10;
+            carry /= 10;
+        }
+        while carry > 0 {
+            digits.push(carry % 10);
+            carry /= 10;
+        }
+    }
+    digits.iter().rev().map(u32::to_string).collect()
+}
+
 /// A number of the longest kind, with runs of ones and zeros of several lengths.
 fn long() -> Vec<u8> {
     (0..NUMBER_BYTES).map(|i| (37 * i + 11) as u8).collect()
@@ -366,11 +384,13 @@ impl Requests {
             self.text(&"9".repeat(digits));
             self.text(&format!("1{}", "0".repeat(digits - 1)));
         }
-        self.title("The greatest number of 32 bytes, one more, and longer texts");
-        let limit = "11579208923731619542357098500868790785326998466564056403945758400791312963993";
-        self.text(&format!("{}5", limit));
-        self.text(&format!("{}6", limit));
-        self.text(&format!("{}{}5", "0".repeat(50), limit));
+        self.title("The greatest number, one more, and longer texts");
+        let limit = decimal_text(&ones(NUMBER_BITS));
+        let (high, last) = limit.split_at(limit.len() - 1);
+        assert_eq!(last, "5");
+        self.text(&limit);
+        self.text(&format!("{}6", high));
+        self.text(&format!("{}{}", "0".repeat(50), limit));
         self.text(&"123456789".repeat(20));
     }
 
@@ -618,6 +638,7 @@ impl Requests {
         self.check(work_space(1) - 1, &small(2), &add(0, 0));
         self.check(work_space(0), &small(1), &[]);
         self.check(work_space(0) - 1, &small(1), &[]);
+        self.check(work_space(PLAN_STEPS) - 1, &small(2), &[0; PLAN_ROOM]);
     }
 
     /// What the program does not hand to a call.

@@ -351,8 +351,8 @@ impl Generator {
             1 => self.rng.between(STRING_DIGITS - 4, STRING_DIGITS),
             2 => self.rng.between(STRING_DIGITS - 2, STRING_DIGITS + 2),
             3 => self.rng.below(STRING_DIGITS + 9),
-            4 => self.rng.pick(&[63, 64, 65, 127, 128, 129, 256, 257, 320]),
-            _ => self.rng.below(300),
+            4 => self.rng.pick(&[63, 64, 65, 127, 128, 129, 256, 257, 320, 383, 384, 385, 512]),
+            _ => self.rng.below(450),
         };
         let mut digits = match self.rng.below(13) {
             0 => vec![0x01; length],
@@ -523,7 +523,7 @@ impl Generator {
                 return (self.end_of(&steps).unwrap_or(number), steps);
             }
             11 => {
-                let length = self.rng.pick(&[100, 250, 300, 400]);
+                let length = self.rng.pick(&[100, 250, 400, 450, 600]);
                 let spread = self.rng.pick(&[2, 4, 30]);
                 let steps = self.random_plan(length, spread);
                 return (self.end_of(&steps).unwrap_or(number), steps);

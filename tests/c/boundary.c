@@ -271,14 +271,16 @@ static void decimal(void) {
     const uint8_t word[] = {255, 255, 255, 255, 255, 255, 255, 255}, carried[9] = {0, 0, 0, 0, 0, 0, 0, 0, 1};
     number_from(lesmutka_decimal, "18446744073709551615", word, 8, 10);
     number_from(lesmutka_decimal, "18446744073709551616", carried, 9, 10);
-    /* 2^256 - 1, the largest number that the other calls take, and the next. */
+    /* 2^384 - 1, the largest number that the other calls take, and the next. */
     uint8_t largest[LESMUTKA_NUMBER_BYTES], next[LESMUTKA_NUMBER_BYTES + 1] = {0};
     memset(largest, 0xff, sizeof largest);
     next[LESMUTKA_NUMBER_BYTES] = 1;
-    const char *of_largest = "115792089237316195423570985008687907853269984665640564039457584007913129639935";
-    const char *of_next = "115792089237316195423570985008687907853269984665640564039457584007913129639936";
-    number_from(lesmutka_decimal, of_largest, largest, sizeof largest, 39);
-    number_from(lesmutka_decimal, of_next, next, sizeof next, 39);
+    const char *of_largest = "3940200619639447921227904010014361380507973927046544666794"
+                             "8293404245721771497210611414266254884915640806627990306815";
+    const char *of_next = "3940200619639447921227904010014361380507973927046544666794"
+                          "8293404245721771497210611414266254884915640806627990306816";
+    number_from(lesmutka_decimal, of_largest, largest, sizeof largest, 58);
+    number_from(lesmutka_decimal, of_next, next, sizeof next, 58);
 
     no_number_from(lesmutka_decimal, "", ROOM, 0);
     no_number_from(lesmutka_decimal, "x", ROOM, 0);

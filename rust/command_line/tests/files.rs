@@ -394,7 +394,8 @@ fn plans_as_text() {
         "{}",
         ended.text()
     );
-    let ended = run(&folder, &["check", "3", "-"], "add(0,0) ".repeat(641).as_bytes());
+    let many = "add(0,0) ".repeat(reference::limits::PLAN_STEPS + 1);
+    let ended = run(&folder, &["check", "3", "-"], many.as_bytes());
     assert!(
         ended.text().starts_with("0x03: refused 7, place 0: "),
         "{}",

@@ -3,6 +3,7 @@ mod common;
 
 use common::{ended, expected, program, run, started, Folder, Json};
 use reference::generate::{methods, Rng};
+use reference::limits::NUMBER_BYTES;
 use std::collections::HashMap;
 use std::io::{BufRead, BufReader, Read, Write};
 use std::process::Stdio;
@@ -11,12 +12,12 @@ const LINES: usize = 100_000;
 
 /// A request that is well formed.
 fn request(rng: &mut Rng) -> String {
-    let length = rng.pick(&[0, 1, 1, 2, 4, 8, 31, 32, 32, 33]);
+    let length = rng.pick(&[0, 1, 1, 2, 4, 8, 32, NUMBER_BYTES - 1, NUMBER_BYTES, NUMBER_BYTES + 1]);
     let number = rng.bytes(length);
     let number = match rng.below(3) {
         0 => rng.next_u64().to_string(),
         1 => {
-            let count = rng.between(1, 90);
+            let count = rng.between(1, 130);
             (0..count).map(|_| char::from(b'0' + rng.below(10) as u8)).collect()
         }
         _ => format!(

@@ -276,7 +276,10 @@ fn huge_numbers() {
     for word in ["9".repeat(100_000), format!("0x{}", "f".repeat(100_000))] {
         let (status, out, _) = asked(&["recode", &word]);
         assert_eq!(status, 1);
-        assert!(out.ends_with(": refused 1, place 0: the number is too long; a number has at most 32 bytes\n"));
+        assert!(out.ends_with(&format!(
+            ": refused 1, place 0: the number is too long; a number has at most {} bytes\n",
+            reference::limits::NUMBER_BYTES
+        )));
     }
     let (status, out, _) = asked(&["recode", &format!("{}43", "0".repeat(100_000))]);
     assert_eq!((status, out.as_str()), (0, "0x2b: digits: 1 0 -1 0 -1 0 -1\n"));

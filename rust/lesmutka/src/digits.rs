@@ -72,8 +72,13 @@ impl FusedIterator for Digits {}
 mod tests {
     use super::*;
 
+    const BITS: usize = 8 * NUMBER_BYTES;
+
     /// Takes all digits of a recoder put together by hand, of which this many are left.
-    fn takes(words: [u64; NUMBER_WORDS + 1], left: usize) {
+    fn takes(low: &[u64], carry: u64, left: usize) {
+        let mut words = [0; NUMBER_WORDS + 1];
+        words[..low.len()].copy_from_slice(low);
+        words[NUMBER_WORDS] = carry;
         let mut digits = Digits {
             recoder: sys::Recoder { words },
         };
@@ -86,21 +91,20 @@ mod tests {
     #[test]
     fn any_carry_counts_as_one() {
         const ONES: u64 = u64::MAX;
-        takes([0; NUMBER_WORDS + 1], 0);
-        takes([0, 0, 0, 0, 1], 1);
-        takes([0, 0, 0, 0, ONES], 1);
+        takes(&[], 0, 0);
+        takes(&[], 1, 1);
+        takes(&[], ONES, 1);
         // 2, then 3
-        takes([1, 0, 0, 0, 7], 2);
-        takes([2, 0, 0, 0, 1 << 63], 3);
-        // 2^64, 2^128, and 2^256, which no number is
-        takes([ONES, 0, 0, 0, 1], 65);
-        takes([ONES, ONES, 0, 0, 1], 129);
-        takes([ONES, ONES, ONES, ONES, 0], 257);
-        takes([ONES, ONES, ONES, ONES, 1], 257);
-        takes([ONES, ONES, ONES, ONES, ONES], 257);
-        // 2^256 / 3 rounded down, and one more: 1 0 1 0 .., then 1 0 -1 0 -1 ..
-        let third = ONES / 3;
-        takes([third, third, third, third, 0], 255);
-        takes([third, third, third, third, 1], 256);
+        takes(&[1], 7, 2);
+        takes(&[2], 1 << 63, 3);
+        // 2^64, 2^128, and one above the greatest number
+        takes(&[ONES], 1, 65);
+        takes(&[ONES; 2], 1, 129);
+        for carry in [0, 1, ONES] {
+            takes(&[ONES; NUMBER_WORDS], carry, BITS + 1);
+        }
+        // 2^BITS / 3 rounded down, and one more: 1 0 1 0 .., then 1 0 -1 0 -1 ..
+        takes(&[ONES / 3; NUMBER_WORDS], 0, BITS - 1);
+        takes(&[ONES / 3; NUMBER_WORDS], 1, BITS);
     }
 }

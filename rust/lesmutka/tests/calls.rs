@@ -259,6 +259,55 @@ fn checking() {
     assert_eq!(check(&[1], &through_minus_one[..10], &mut space), end);
 }
 
+/// The limits by their numbers, each with what the calls answer there and just beyond.
+#[test]
+fn limits_by_number() {
+    let linked = limits();
+    assert_eq!((linked.number_bytes, linked.string_digits), (48, 768));
+    assert_eq!((linked.plan_steps, linked.step_bytes), (960, 5));
+    assert_eq!((linked.value_bytes, linked.record_bytes), (49, 50));
+    assert_eq!((RECODE_ROOM, CLEAN_ROOM, READ_BACK_ROOM, PLAN_ROOM), (385, 769, 96, 4800));
+
+    let mut room = [7; 1000];
+    let ones = recode(&[0xff; 48], &mut room).unwrap();
+    assert_eq!((ones.len(), ones[0], ones[384]), (385, -1, 1));
+    assert!(ones[1..384].iter().all(|&digit| digit == 0));
+    let small = Err(Refusal::RoomTooSmall { needed: 385 });
+    assert_eq!(recode(&[0xff; 48], &mut room[..384]), small);
+    for number in [[0; 49], [0xff; 49]] {
+        assert_eq!(recode(&number, &mut room), Err(Refusal::NumberTooLong));
+        assert_eq!(forecast(&number, Method::Naf), Err(Refusal::NumberTooLong));
+    }
+
+    let cleaned = clean(&[1; 768], &mut room).unwrap().to_vec();
+    assert_eq!((cleaned.len(), cleaned[0], cleaned[768]), (769, -1, 1));
+    assert!(cleaned[1..768].iter().all(|&digit| digit == 0));
+    for string in [&cleaned[..], &[0; 769]] {
+        assert_eq!(clean(string, &mut room), Err(Refusal::StringTooLong));
+        assert_eq!(read_back(string, &mut []), Err(Refusal::StringTooLong));
+    }
+
+    let mut space = [7; 50 * 962];
+    let top = check(&[1], &doublings(391), &mut space);
+    assert_eq!(top, Err(Refusal::WrongEnd { steps: 391 }));
+    let record = &space[50 * 391..50 * 392];
+    assert!(record[..49].iter().all(|&byte| byte == 0) && record[49] == 0x80);
+    assert_eq!(space[50 * 392..], [7; 50 * 570]);
+    let above = check(&[1], &doublings(392), &mut space);
+    assert_eq!(above, Err(Refusal::ValueTooLarge { step: 392 }));
+
+    let steps = |bytes: usize| vec![0; bytes];
+    assert_eq!(check(&[2], &steps(4800), &mut space).unwrap().total(), 960);
+    assert_eq!(check(&[2], &steps(4805), &mut space), Err(Refusal::PlanLength));
+    for r in [0, 1, 2, 391, 960] {
+        let number = if r == 0 { [1] } else { [2] };
+        let exact = 50 * (r + 1);
+        assert_eq!(check(&number, &steps(5 * r), &mut space[..exact]).unwrap().total(), r);
+        let short = check(&number, &steps(5 * r), &mut space[..exact - 1]);
+        assert_eq!(short, Err(Refusal::WorkSpaceTooShort));
+    }
+}
+
 #[test]
 fn the_bytes_of_records() {
     let mut space = [7; 4 * RECORD_BYTES + 1];

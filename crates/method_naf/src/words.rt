@@ -2,7 +2,6 @@
 // the bit of 3 e at i + 1, less that of e: 1 where 3 e alone has a 1, -1 where e alone has
 // one.
 use integers::words_of;
-use rules::NUMBER_WORDS;
 ghost use mathlib.Core.Path.{_≡_};
 ghost use Prim.Native.Nat.{ℕ, _+_, _*_, _/_, _^_, _≤_};
 ghost use Rattle.rules.specs.Limits.{numberBytes};
@@ -78,8 +77,8 @@ impl Tally {
     }
 }
 
-// The tally of all of a number. A word of zeros above its own takes the last carry. The words are
-// loaded first: a loop over them with no loads of bytes is unrolled.
+// The tally of all of a number, over the words that it has. A word of zeros above them takes the last
+// carry.
 pub fn tally_of(number: &[u8]) -> Tally
     requires { ⌜ Admitted (now number) ⌝ }
     ensures { λ r. ⌜ (r .plus ≡ onlyIn (3 * bytesValue (now (number .entry))) (bytesValue (now (number .entry)))) × (r .minus ≡ onlyIn (bytesValue (now (number .entry))) (3 * bytesValue (now (number .entry)))) × (r .length ≡ bitLength (3 * bytesValue (now (number .entry)))) ⌝ }
@@ -93,7 +92,7 @@ pub fn tally_of(number: &[u8]) -> Tally
         carry: 0,
     };
     let mut k = 0;
-    while k < NUMBER_WORDS {
+    while 8 * k < number.len() {
         below = below.with_word(words[k]);
         k += 1;
     }

@@ -1,18 +1,28 @@
 -- `method_naf::words::tally_of` meets its contract: the words below k are in the tally. Assumes nothing.
 use mathlib.Core.Path.{_≡_, _∙_, ap}
-use Prim.Native.Nat.{_+_, _*_, _-_, _^_, _≤_}
+use mathlib.Core.List.{List}
+use Prim.Native.Nat.{ℕ, _+_, _*_, _-_, _^_, _≤_}
+use native.Mathlib.Nat.{div-eq-of-lt}
 use native.Mathlib.Numerals.{add-one}
 use native.Mathlib.Omega.{arith}
-use lib.ListN.{getD, drop, drop-of-length-le}
+use lib.ListN.{length, getD, drop}
 use lib.Seq.{take-all}
+use mir.Syntax.{w64}
+use mir.Val.{Fits}
 use Rattle.rules.specs.Limits.{numberBytes, numberWords}
-use Rattle.integers.specs.Positional.{positional, bytesValue, wordsValue}
-use Rattle.integers.proofs.Positional.{positional-drop}
+use Rattle.integers.specs.Positional.{bytesValue, wordsValue}
+use Rattle.integers.proofs.Powers.{power-of-power}
+use Rattle.integers.proofs.Positional.{Below, positional-drop, positional-lt, positional-div}
 use Rattle.method_naf.specs.Tally.{Within, Tallied}
 use Rattle.method_naf.proofs.Tally.{nothing-tallied, all-tallied}
 use borrow.Author.Needs.{needs}
 use Rattle.method_naf.proofs.words.tally_of.Statement.{statement}
 use Rattle.method_naf.proofs.words.tally_of.Tie as tie
+
+-- the words from k on are zero where the bytes end below them
+none-above : (words number : List ℕ) (k : ℕ) → Below (2 ^ 64) words → Below 256 number → wordsValue words ≡ bytesValue number → length number ≤ 8 * k → wordsValue (drop k words) ≡ 0
+none-above words number k fits bytes whole end =
+    positional-div (2 ^ 64) words k fits ∙ rw (whole, power-of-power 256 8 k) (div-eq-of-lt (positional-lt 256 (8 * k) number end bytes))
 
 abbrev Inv-loop : tie.InvT-loop
 Inv-loop number words below₀ k₀ below k = (k ≤ numberWords) × (below .places ≡ 64 * k) × Within below × Tallied (wordsValue words) (wordsValue (drop k words)) below
@@ -25,6 +35,9 @@ words-of-requires c κs = search needs
 
 loop-holds : tie.Need-loop-holds Inv-loop μ-loop
 loop-holds c = (omega arith, omega arith, record { plus = omega arith; minus = omega arith; carry = omega arith }, nothing-tallied (wordsValue (c .words-of .result)))
+
+mul-loop : tie.Need-mul-loop Inv-loop μ-loop
+mul-loop c = search needs
 
 mul-with-word : tie.Need-mul-with-word Inv-loop μ-loop
 mul-with-word c = search needs
@@ -54,14 +67,14 @@ with-word-requires-2 : tie.Need-with-word-requires-2 Inv-loop μ-loop
 with-word-requires-2 c κs = search needs
 
 returns : tie.Need-returns Inv-loop μ-loop
-unfolding positional
 returns c =
     let number = c .before .before .before .before .before .args .number .now in
     let words = c .before .before .before .words-of in
     let loop = c .before .before .loop in
     let last = c .with-word2 .ensures in
     let whole : wordsValue (words .result) ≡ bytesValue number = words .ensures ∙ ap bytesValue (take-all numberBytes number (search needs)) in
-    let none = drop-of-length-le (words .result) {i = loop .k} (search needs) in
+    let fits : Below (2 ^ 64) (words .result) = λ i. let f : Fits w64 (getD (words .result) i 0) = search needs in f .fits in
+    let none = none-above (words .result) number (loop .k) fits (λ i. c .before .before .before .before .shared-slice-known .given i .fits) whole (search needs) in
     rw (← whole) (all-tallied (wordsValue (words .result)) (c .with-word2 .result) (omega (arith, last .2, loop .inv .2)) (last .3 (wordsValue (words .result)) 0 (rw none at (loop .inv .3))))
 
 pub tally-of-spec : {M : Type 1} → statement M
@@ -72,6 +85,7 @@ tally-of-spec =
     μ-loop
     words-of-requires
     loop-holds
+    mul-loop
     mul-with-word
     array-read-with-word
     with-word-requires

@@ -2,22 +2,26 @@
 use mathlib.Core.Path.{_≡_, refl, sym}
 use mathlib.Core.Logic.{_↔_, ⊎-elim}
 use mathlib.Core.List.{List, [], _∷_, map, List·Memᴰ, List·Memᴰ·head, List·Memᴰ·tail, List·Memᴰ·not-nil, List·Memᴰ·cases-cons, List·Memᴰ·append-cases, Memᴰ·cast, Memᴰ·append-left, Memᴰ·append-right, Memᴰ·map, Memᴰ·of-map}
-use Prim.Native.Nat.{ℕ, zero, suc, _+_, _-_, _<_, _≤_}
+use Prim.Native.Nat.{ℕ, zero, suc, _+_, _*_, _-_, _^_, _<_, _≤_}
 use borrow.Author.Tests.{le-leb, lt-leb}
 use native.Mathlib.Decide.{decLt, ℕ-discrete}
 use native.Mathlib.Omega.{arith}
+use lib.ListN.{length}
+use lib.Pow.{pow-mono}
+use Rattle.rules.specs.Limits.{planSteps}
 use Rattle.rules.specs.declared.Refusal.{Refusal}
 use Rattle.rules.specs.declared.Refusal.the-variants.{MethodOrWidth}
+use Rattle.integers.specs.Bits.{bitLength}
 use Rattle.methods.specs.declared.Method.{Method}
 use Rattle.methods.specs.declared.Method.the-variants.{Binary, FixedWindows, SlidingWindows, Naf}
 use Rattle.methods.specs.declared.Chosen.{Chosen}
 use Rattle.methods.specs.Widths.{fixedWindowBits, slidingWindowBits}
 use Rattle.methods.specs.Method.{stepsBy, methodNumber, methodWidth, Entry, methods, within, numbered, methodOf, Allowed, countFrom, everyWidth, choices}
-use Rattle.methods.proofs.Laws.{Plannable, Fit}
-use Rattle.methods.proofs.Binary.{binary-fit}
-use Rattle.methods.proofs.FixedWindows.{fixed-fit}
-use Rattle.methods.proofs.SlidingWindows.{sliding-fit}
-use Rattle.methods.proofs.NonAdjacentForm.{naf-fit}
+use Rattle.methods.proofs.Laws.{Plannable, Fit, plannable-small, small-below}
+use Rattle.methods.proofs.Binary.{binary-fit, binary-short}
+use Rattle.methods.proofs.FixedWindows.{fixed-fit, fixed-short}
+use Rattle.methods.proofs.SlidingWindows.{sliding-fit, sliding-short}
+use Rattle.methods.proofs.NonAdjacentForm.{naf-fit, naf-short, naf-bits}
 
 -- ---- what two numbers ask for
 
@@ -136,3 +140,18 @@ every-fit Binary e a p = binary-fit e p
 every-fit (FixedWindows d) e a p = let w = fixed-widths a in fixed-fit e d p (w .0) (w .1)
 every-fit (SlidingWindows d) e a p = let w = sliding-widths a in sliding-fit e d p (w .0) (w .1)
 every-fit Naf e a p = naf-fit e p
+
+-- ---- how many there are, over the bit length
+
+pub every-short : (m : Method) (e : ℕ) → Allowed m → Plannable e → length (stepsBy m e) ≤ 2 ^ methodWidth m + 2 * bitLength e
+every-short Binary e a p = omega (arith, binary-short e (p .some) (small-below e (e + 1) (omega arith) (plannable-small p)))
+every-short (FixedWindows d) e a p = omega (arith, fixed-short e d (p .some) (fixed-widths a .0))
+every-short (SlidingWindows d) e a p = omega (arith, sliding-short e d (p .some) (sliding-widths a .0))
+every-short Naf e a p = omega (arith, naf-short e (p .some) (plannable-small p), naf-bits e)
+
+-- and that is below the limit
+pub every-below : (m : Method) (e : ℕ) → Allowed m → Plannable e → 2 ^ methodWidth m + 2 * bitLength e < planSteps
+every-below Binary e a p = omega (arith, p .bits)
+every-below (FixedWindows d) e a p = omega (arith, p .bits, pow-mono {i = d} {j = fixedWindowBits} (fixed-widths a .1))
+every-below (SlidingWindows d) e a p = omega (arith, p .bits, pow-mono {i = d} {j = slidingWindowBits} (sliding-widths a .1))
+every-below Naf e a p = omega (arith, p .bits)

@@ -94,7 +94,7 @@ module _ (e : ℕ) (some : 0 < e) (small : Small (e + 1)) where
   naf-counts = simp zero-add at (digits-counts 0 ds suited)
 
 -- a number of L bits has at most L + 1 digits
-naf-bits : (e : ℕ) → length (canonical (pos e)) ≤ bitLength e + 1
+pub naf-bits : (e : ℕ) → length (canonical (pos e)) ≤ bitLength e + 1
 naf-bits e =
     let h : e < 2 ^ bitLength e = bit-length-iff e (bitLength e) .0 (omega arith) in
     let p : 2 ^ (bitLength e + 1 + 1) ≡ 4 * 2 ^ bitLength e = rw (add-one, add-one, pow-suc, pow-suc) (omega arith) in

@@ -1,4 +1,5 @@
 //! How many lines a second the program answers, on one core.
+use crate::Inputs;
 use std::fs::{self, File};
 use std::path::{Path, PathBuf};
 use std::process::{self, Command, Stdio};
@@ -15,7 +16,7 @@ const REQUESTS: [(&str, Request); 5] = [
     ("forecast 0x.. naf", |number| {
         format!("forecast {} naf", hexadecimal(number))
     }),
-    ("forecast 1157.. naf", |number| {
+    ("forecast, decimal, naf", |number| {
         format!("forecast {} naf", decimal(number))
     }),
     ("plan 0x.. naf", |number| format!("plan {} naf", hexadecimal(number))),
@@ -67,7 +68,7 @@ fn time(program: &Path, file: &Path) -> f64 {
     start.elapsed().as_secs_f64()
 }
 
-pub fn print(numbers: &[Vec<u8>]) {
+pub fn print(sizes: &[Inputs]) {
     let program = program();
     if !program.is_file() {
         println!(
@@ -80,18 +81,32 @@ pub fn print(numbers: &[Vec<u8>]) {
         "\nlines a second of the program, one core: best of {} runs over {} lines",
         RUNS, LINES
     );
-    for (name, request) in REQUESTS {
-        let file = std::env::temp_dir().join(format!("lesmutka-benchmark-{}", process::id()));
-        let lines: Vec<String> = numbers.iter().map(|number| request(number) + "\n").collect();
-        let all: String = lines.iter().cycle().take(LINES).map(String::as_str).collect();
-        fs::write(&file, all).expect("the requests");
-        let best = (0..RUNS).map(|_| time(&program, &file)).fold(f64::INFINITY, f64::min);
-        fs::remove_file(&file).expect("the requests");
-        println!(
-            "{:<24} {:>9.0}   {:>6.0} ns a line",
-            name,
-            LINES as f64 / best,
-            1e9 * best / LINES as f64
-        );
+    print!("{:<24}", "");
+    for inputs in sizes {
+        print!(" {:>29}", format!("numbers of {} bytes", inputs.bytes));
     }
+    println!();
+    for (name, request) in REQUESTS {
+        print!("{:<24}", name);
+        for inputs in sizes {
+            let best = best(&program, inputs, request);
+            print!(
+                " {:>11.0} {:>6.0} ns a line",
+                LINES as f64 / best,
+                1e9 * best / LINES as f64
+            );
+        }
+        println!();
+    }
+}
+
+/// Seconds of the best run over these numbers.
+fn best(program: &Path, inputs: &Inputs, request: Request) -> f64 {
+    let file = std::env::temp_dir().join(format!("lesmutka-benchmark-{}", process::id()));
+    let lines: Vec<String> = inputs.numbers.iter().map(|number| request(number) + "\n").collect();
+    let all: String = lines.iter().cycle().take(LINES).map(String::as_str).collect();
+    fs::write(&file, all).expect("the requests");
+    let best = (0..RUNS).map(|_| time(program, &file)).fold(f64::INFINITY, f64::min);
+    fs::remove_file(&file).expect("the requests");
+    best
 }

@@ -16,6 +16,9 @@ use std::time::Instant;
 const INPUTS: usize = 64;
 const ROUNDS: usize = 400;
 
+/// How many bytes the numbers have: those of the 256-bit curves, and the most.
+const SIZES: [usize; 2] = [32, lesmutka::NUMBER_BYTES];
+
 /// The methods, each with a width that it allows.
 const METHODS: [(&str, u32, u32); 4] = [
     ("binary", 1, 0),
@@ -59,7 +62,7 @@ impl<'a> Job<'a> {
         let proved = spread(&mut self.proved_times);
         let plain = spread(&mut self.plain_times);
         println!(
-            "{:<24} {:>8.0} {:>8.0}   {:>8.0} {:>8.0}   {:>5.2} {:>6.2}",
+            "{:<27} {:>8.0} {:>8.0}   {:>8.0} {:>8.0}   {:>5.2} {:>6.2}",
             self.name,
             proved.best,
             proved.median,
@@ -99,22 +102,40 @@ fn spread(times: &mut [f64]) -> Spread {
     }
 }
 
-/// Numbers of the longest kind, whose top bit is 1.
-fn numbers(rng: &mut Rng) -> Vec<Vec<u8>> {
-    (0..INPUTS)
-        .map(|_| {
-            let mut number = rng.bytes(lesmutka::NUMBER_BYTES);
-            number[lesmutka::NUMBER_BYTES - 1] |= 0x80;
-            number
-        })
-        .collect()
+/// What the jobs run on, for numbers of this many bytes.
+struct Inputs {
+    bytes: usize,
+    /// Numbers whose top bit is 1.
+    numbers: Vec<Vec<u8>>,
+    canonicals: Vec<Vec<u8>>,
+    /// Strings of a digit for each bit, none of them better than another.
+    strings: Vec<Vec<u8>>,
+    /// Plans of the longest kind: 20 steps for each byte, so as many as there may be for the longest
+    /// number.
+    plans: Vec<Vec<u8>>,
+    decimals: Vec<String>,
+    hexadecimals: Vec<String>,
 }
 
-/// Strings of this many digits, none of them better than another.
-fn strings(rng: &mut Rng, length: usize) -> Vec<Vec<u8>> {
-    (0..INPUTS)
-        .map(|_| (0..length).map(|_| [0, 1, 255][rng.below(3)]).collect())
-        .collect()
+impl Inputs {
+    fn new(rng: &mut Rng, bytes: usize) -> Inputs {
+        let number = |rng: &mut Rng| {
+            let mut number = rng.bytes(bytes);
+            number[bytes - 1] |= 0x80;
+            number
+        };
+        let numbers: Vec<Vec<u8>> = (0..INPUTS).map(|_| number(rng)).collect();
+        let string = |rng: &mut Rng| (0..8 * bytes).map(|_| [0, 1, 255][rng.below(3)]).collect();
+        Inputs {
+            bytes,
+            canonicals: numbers.iter().map(|number| canonical(number)).collect(),
+            strings: (0..INPUTS).map(|_| string(rng)).collect(),
+            plans: numbers.iter().map(|number| plan_of(number, 20 * bytes)).collect(),
+            decimals: numbers.iter().map(|number| lines::decimal(number)).collect(),
+            hexadecimals: numbers.iter().map(|number| lines::hexadecimal(number)).collect(),
+            numbers,
+        }
+    }
 }
 
 fn canonical(number: &[u8]) -> Vec<u8> {
@@ -123,12 +144,12 @@ fn canonical(number: &[u8]) -> Vec<u8> {
     out[..length].to_vec()
 }
 
-/// A plan of the longest kind for a number: doublings of position 0, then the binary method's steps.
-fn longest(number: &[u8]) -> Vec<u8> {
+/// A plan of this many steps for a number: doublings of position 0, then the binary method's steps.
+fn plan_of(number: &[u8], all: usize) -> Vec<u8> {
     let mut out = [0; lesmutka::PLAN_ROOM];
     let counts = reference::plan(number, 1, 0, &mut out).unwrap();
     let steps = counts.total();
-    let more = lesmutka::PLAN_STEPS - steps;
+    let more = all - steps;
     let shifted = |low: u8, high: u8| match u16::from_le_bytes([low, high]) {
         0 => [0, 0],
         position => (position + more as u16).to_le_bytes(),
@@ -173,7 +194,9 @@ fn tuned_takes(number: &[u8], take: impl Fn(&mut tuned::Recoder) -> Option<u8>) 
 }
 
 /// What is timed is done: both sides answer, and answer the same.
-fn agree(number: &[u8], string: &[u8], canonical: &[u8], longest: &[u8]) {
+fn agree(inputs: &Inputs, i: usize) {
+    let (number, string) = (&inputs.numbers[i], &inputs.strings[i]);
+    let (canonical, plan) = (&inputs.canonicals[i], &inputs.plans[i]);
     let mut a = vec![0; lesmutka::work_space(lesmutka::PLAN_STEPS)];
     let mut b = a.clone();
     let length = sys::recode(number, &mut a);
@@ -193,8 +216,8 @@ fn agree(number: &[u8], string: &[u8], canonical: &[u8], longest: &[u8]) {
         assert_eq!(Ok(counts(forecast)), reference::plan(number, method, width, &mut b));
         assert_eq!(Ok(counts(forecast)), reference::forecast(number, method, width));
     }
-    let checked = sys::check(number, longest, &mut a);
-    assert_eq!(Ok(counts(checked)), reference::check(number, longest, &mut b));
+    let checked = sys::check(number, plan, &mut a);
+    assert_eq!(Ok(counts(checked)), reference::check(number, plan, &mut b));
     assert_eq!(a, b);
 }
 
@@ -206,21 +229,19 @@ fn counts(counts: sys::Counts) -> reference::Counts {
     }
 }
 
-fn main() {
-    let rng = &mut Rng::new(1);
-    let numbers = &numbers(rng);
-    let canonicals: &Vec<Vec<u8>> = &numbers.iter().map(|number| canonical(number)).collect();
-    let strings = &strings(rng, 256);
-    let longest: &Vec<Vec<u8>> = &numbers.iter().map(|number| longest(number)).collect();
-    let texts: &Vec<String> = &numbers.iter().map(|number| lines::decimal(number)).collect();
-    let hexadecimals: &Vec<String> = &numbers.iter().map(|number| lines::hexadecimal(number)).collect();
+/// All jobs on these inputs.
+fn jobs(inputs: &Inputs) -> Vec<Job<'_>> {
     const ROOM: usize = lesmutka::PLAN_ROOM;
     const SPACE: usize = lesmutka::work_space(lesmutka::PLAN_STEPS);
-
-    for i in 0..INPUTS {
-        agree(&numbers[i], &strings[i], &canonicals[i], &longest[i]);
-    }
-
+    let Inputs {
+        bytes,
+        numbers,
+        canonicals,
+        strings,
+        plans,
+        decimals,
+        hexadecimals,
+    } = inputs;
     let mut jobs = Vec::new();
     let (mut a, mut b) = (vec![0; ROOM], vec![0; ROOM]);
     jobs.push(Job::new(
@@ -245,7 +266,7 @@ fn main() {
     ));
     let (mut a, mut b) = (vec![0; ROOM], vec![0; ROOM]);
     jobs.push(Job::new(
-        "clean, 256 digits",
+        &format!("clean, {} digits", 8 * bytes),
         move |i| keep(sys::clean(&strings[i], &mut a)),
         move |i| keep(reference::clean(&strings[i], &mut b)),
     ));
@@ -270,11 +291,10 @@ fn main() {
     }
     let (mut a, mut b) = (vec![0; SPACE], vec![0; SPACE]);
     jobs.push(Job::new(
-        &format!("check, {} steps", lesmutka::PLAN_STEPS),
-        move |i| keep(sys::check(&numbers[i], &longest[i], &mut a)),
-        move |i| keep(reference::check(&numbers[i], &longest[i], &mut b)),
+        &format!("check, {} steps", plans[0].len() / lesmutka::STEP_BYTES),
+        move |i| keep(sys::check(&numbers[i], &plans[i], &mut a)),
+        move |i| keep(reference::check(&numbers[i], &plans[i], &mut b)),
     ));
-
     let (mut a, mut b) = (vec![0; ROOM], vec![0; ROOM]);
     jobs.push(Job::new(
         "hexadecimal text read",
@@ -284,28 +304,43 @@ fn main() {
     let (mut a, mut b) = (vec![0; ROOM], vec![0; ROOM]);
     jobs.push(Job::new(
         "decimal text read",
-        move |i| keep(sys::decimal(texts[i].as_bytes(), &mut a)),
-        move |i| keep(reference::text::decimal(texts[i].as_bytes(), &mut b)),
+        move |i| keep(sys::decimal(decimals[i].as_bytes(), &mut a)),
+        move |i| keep(reference::text::decimal(decimals[i].as_bytes(), &mut b)),
     ));
+    jobs
+}
 
-    println!(
-        "ns a call: {} rounds over {} numbers of {} bytes; buffers lent once, not cleared",
-        ROUNDS,
-        INPUTS,
-        lesmutka::NUMBER_BYTES
-    );
-    println!("{:<24} {:>17}   {:>17}   {:>12}", "", "proved", "plain Rust", "ratio");
-    println!(
-        "{:<24} {:>8} {:>8}   {:>8} {:>8}   {:>5} {:>6}",
-        "call", "best", "median", "best", "median", "best", "median"
-    );
+fn main() {
+    let rng = &mut Rng::new(1);
+    let sizes = SIZES.map(|bytes| Inputs::new(rng, bytes));
+    for inputs in &sizes {
+        for i in 0..INPUTS {
+            agree(inputs, i);
+        }
+    }
+    let mut tables: Vec<Vec<Job>> = sizes.iter().map(jobs).collect();
     for round in 0..ROUNDS {
-        for job in &mut jobs {
+        for job in tables.iter_mut().flatten() {
             job.round(round);
         }
     }
-    for job in &mut jobs {
-        job.print();
+    println!(
+        "ns a call: {} rounds over {} numbers; buffers lent once, not cleared",
+        ROUNDS, INPUTS
+    );
+    for (inputs, table) in sizes.iter().zip(&mut tables) {
+        let title = format!("numbers of {} bytes", inputs.bytes);
+        println!(
+            "\n{:<27} {:>17}   {:>17}   {:>12}",
+            title, "proved", "plain Rust", "ratio"
+        );
+        println!(
+            "{:<27} {:>8} {:>8}   {:>8} {:>8}   {:>5} {:>6}",
+            "call", "best", "median", "best", "median", "best", "median"
+        );
+        for job in table {
+            job.print();
+        }
     }
-    lines::print(numbers);
+    lines::print(&sizes);
 }

@@ -9,7 +9,7 @@ pub struct Recoder {
 }
 
 impl Recoder {
-    /// For a number of the longest kind.
+    /// For a number of whole words.
     pub fn start(number: &[u8]) -> Recoder {
         let mut rest = [0; WORDS];
         for (word, bytes) in rest.iter_mut().zip(number.chunks_exact(8)) {

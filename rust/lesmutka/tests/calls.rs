@@ -266,7 +266,10 @@ fn limits_by_number() {
     assert_eq!((linked.number_bytes, linked.string_digits), (48, 768));
     assert_eq!((linked.plan_steps, linked.step_bytes), (960, 5));
     assert_eq!((linked.value_bytes, linked.record_bytes), (49, 50));
-    assert_eq!((RECODE_ROOM, CLEAN_ROOM, READ_BACK_ROOM, PLAN_ROOM), (385, 769, 96, 4800));
+    assert_eq!(
+        (RECODE_ROOM, CLEAN_ROOM, READ_BACK_ROOM, PLAN_ROOM),
+        (385, 769, 96, 4800)
+    );
 
     let mut room = [7; 1000];
     let ones = recode(&[0xff; 48], &mut room).unwrap();

@@ -351,7 +351,9 @@ impl Generator {
             1 => self.rng.between(STRING_DIGITS - 4, STRING_DIGITS),
             2 => self.rng.between(STRING_DIGITS - 2, STRING_DIGITS + 2),
             3 => self.rng.below(STRING_DIGITS + 9),
-            4 => self.rng.pick(&[63, 64, 65, 127, 128, 129, 256, 257, 320, 383, 384, 385, 512]),
+            4 => self
+                .rng
+                .pick(&[63, 64, 65, 127, 128, 129, 256, 257, 320, 383, 384, 385, 512]),
             _ => self.rng.below(450),
         };
         let mut digits = match self.rng.below(13) {

@@ -2,6 +2,7 @@
 mod common;
 
 use common::{run, step_words, steps, Folder, Json};
+use reference::limits::{NUMBER_BITS, PLAN_STEPS};
 use std::fs;
 use std::os::unix::fs::{symlink, FileTypeExt, PermissionsExt};
 use std::process::Command;
@@ -394,7 +395,7 @@ fn plans_as_text() {
         "{}",
         ended.text()
     );
-    let many = "add(0,0) ".repeat(reference::limits::PLAN_STEPS + 1);
+    let many = "add(0,0) ".repeat(PLAN_STEPS + 1);
     let ended = run(&folder, &["check", "3", "-"], many.as_bytes());
     assert!(
         ended.text().starts_with("0x03: refused 7, place 0: "),
@@ -458,10 +459,12 @@ fn shown() {
     // An end that is no number of a call has no counts.
     let ended = run(&folder, &["show", "-"], &steps(&[[0, 0, 0], [1, 0, 1]]));
     assert!(ended.text().ends_with("ends at -0x01\n"), "{}", ended.text());
-    let doublings: Vec<[u16; 3]> = (0..260).map(|i| [0, i, i]).collect();
+    let doublings: Vec<[u16; 3]> = (0..NUMBER_BITS as u16 + 4).map(|i| [0, i, i]).collect();
     let ended = run(&folder, &["show", "-"], &steps(&doublings));
     assert!(
-        ended.text().ends_with(&format!("ends at 0x10{}\n", "0".repeat(64))),
+        ended
+            .text()
+            .ends_with(&format!("ends at 0x10{}\n", "0".repeat(NUMBER_BITS / 4))),
         "{}",
         ended.text()
     );

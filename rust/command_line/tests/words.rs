@@ -2,6 +2,7 @@
 mod common;
 
 use common::{run, Folder, Json};
+use reference::limits::NUMBER_BYTES;
 
 fn asked(words: &[&str]) -> (i32, String, String) {
     let ended = run(&Folder::new(), words, b"");
@@ -278,7 +279,7 @@ fn huge_numbers() {
         assert_eq!(status, 1);
         assert!(out.ends_with(&format!(
             ": refused 1, place 0: the number is too long; a number has at most {} bytes\n",
-            reference::limits::NUMBER_BYTES
+            NUMBER_BYTES
         )));
     }
     let (status, out, _) = asked(&["recode", &format!("{}43", "0".repeat(100_000))]);

@@ -4,11 +4,13 @@ use mathlib.Core.Bool.{Bool, _&&_}
 use mathlib.Core.List.{List, []}
 use Prim.Native.Nat.{ℕ, zero, suc, _+_, _*_, _/_, _%_, _^_, _<_}
 use borrow.Author.Tests.{eq-eqb, ne-eqb}
-use native.Mathlib.Nat.{add-zero, pow-suc, one-le-pow, mul-add, mul-assoc, mul-pos, mul-zero}
+use native.Mathlib.Nat.{add-comm, add-zero, pow-suc, one-le-pow, mul-add, mul-assoc, mul-mod-left, mul-pos, mul-zero}
 use native.Mathlib.Numerals.{add-one}
 use native.Mathlib.Omega.{arith}
+use lib.Arith.{digits-lt}
 use lib.Dec.{eqb}
 use lib.ListN.{length, getD, set, take, drop, length-set, drop-of-length-le, List·getD-eq-default}
+use lib.Pow.{shl-shr, mod-pow-add}
 use lib.Seq.{take-all, getD-set-same, take-set-le}
 use Rattle.integers.specs.Positional.{positional, wordsValue}
 use Rattle.integers.proofs.Positional.{positional-drop, positional-take}
@@ -26,6 +28,23 @@ both-zero p (suc a) x h = ap (λ (t : Bool). t && eqb x 0) (ne-eqb (suc a) 0 (λ
 pub zero-more : (l : List ℕ) (k : ℕ) → (eqb (wordsValue (take k l)) 0 && eqb (getD l k 0) 0) ≡ eqb (wordsValue (take (k + 1) l)) 0
 zero-more l k =
     rw (add-one, positional-take (2 ^ 64) k l) (both-zero ((2 ^ 64) ^ k) (wordsValue (take k l)) (getD l k 0) (one-le-pow k (2 ^ 64) (omega arith)))
+
+-- ---- half a word, and the low bit of another on top
+
+-- of a word shifted up as far as it goes, the lowest bit is left
+on-top : (x : ℕ) → x * 2 ^ 63 % 2 ^ 64 ≡ x % 2 * 2 ^ 63
+on-top x = mod-pow-add (x * 2 ^ 63) 1 63 ∙ rw (shl-shr x 63, mul-mod-left x (2 ^ 63), add-zero)
+
+pub turned-lt : (w : ℕ) → w < 2 ^ 64 → w / 2 + w * 2 ^ 63 % 2 ^ 64 < 2 ^ 64
+turned-lt w h = rw (on-top w, add-comm (w / 2)) (digits-lt {m = 2} (omega arith) (omega arith))
+
+-- the lowest bit of w stands on top of its half twice, which carries out of the word, and that of n once
+pub turned-half : (w n : ℕ) → w < 2 ^ 64 → (w / 2 + w * 2 ^ 63 % 2 ^ 64 + (w + n) % 2 ^ 64 * 2 ^ 63 % 2 ^ 64) % 2 ^ 64 ≡ w / 2 + n % 2 * 2 ^ 63
+turned-half w n h =
+    rw (on-top w, on-top ((w + n) % 2 ^ 64)) (both (w / 2) (w % 2) (n % 2) ((w + n) % 2 ^ 64 % 2) (omega arith) (omega arith) (omega arith) (omega arith))
+  where
+    both : (a c d t : ℕ) → a < 2 ^ 63 → c < 2 → d < 2 → t ≡ (c + d) % 2 → (a + c * 2 ^ 63 + t * 2 ^ 63) % 2 ^ 64 ≡ a + d * 2 ^ 63
+    both a c d t ha hc hd e = omega arith
 
 -- ---- halving, from the lowest word up
 

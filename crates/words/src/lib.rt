@@ -43,6 +43,17 @@ pub fn is_zero(words: &[u64]) -> bool
     none
 }
 
+// Half a word, with the lowest bit of the next one on top. The word is turned by a bit, which brings its
+// own lowest bit to the top, and the lowest bits of both are added there: its own, there twice, is carried
+// out. As `word / 2 + next % 2 * 2^63` it would become a double shift, which takes some processors six
+// operations.
+fn half_word(word: u64, next: u64) -> u64
+    ensures { λ r. ⌜ r ≡ word / 2 + next % 2 * 2 ^ 63 ⌝ }
+{
+    let turned = (word >> 1) + (word << 63);
+    std::num::wrapping_add_u64(turned, std::num::wrapping_add_u64(word, next) << 63)
+}
+
 // Half of the number that the words hold, rounded down.
 pub fn halved(words: [u64; NUMBER_WORDS]) -> [u64; NUMBER_WORDS]
     ensures { λ r. ⌜ wordsValue r ≡ wordsValue words / 2 ⌝ }
@@ -50,7 +61,7 @@ pub fn halved(words: [u64; NUMBER_WORDS]) -> [u64; NUMBER_WORDS]
     let mut half = words;
     let mut k = 0;
     while k + 1 < NUMBER_WORDS {
-        half[k] = words[k] / 2 + words[k + 1] % 2 * 0x8000_0000_0000_0000;
+        half[k] = half_word(words[k], words[k + 1]);
         k += 1;
     }
     half[k] = words[k] / 2;

@@ -2,9 +2,7 @@
 use mathlib.Core.Path.{_≡_}
 use Prim.Native.Nat.{_+_, _≤_, _-_}
 use native.Mathlib.Omega.{arith}
-use lib.ListN.{length, getD}
-use mir.Syntax.{w64}
-use mir.Val.{Fits}
+use lib.ListN.{length}
 use Rattle.rules.specs.Limits.{numberWords}
 use Rattle.words.proofs.Halves.{Halved, halved-none, halved-more, halved-all}
 use borrow.Author.Needs.{needs}
@@ -23,31 +21,26 @@ loop-holds c = (search needs, search needs, halved-none (c .args .t1) (c .args .
 add-loop : tie.Need-add-loop Inv-loop μ-loop
 add-loop c = search needs
 
+mul-half-word : tie.Need-mul-half-word Inv-loop μ-loop
+mul-half-word c = search needs
+
+array-read-half-word : tie.Need-array-read-half-word Inv-loop μ-loop
+array-read-half-word c = search needs
+
+add-half-word : tie.Need-add-half-word Inv-loop μ-loop
+add-half-word c = search needs
+
+mul-half-word-2 : tie.Need-mul-half-word-2 Inv-loop μ-loop
+mul-half-word-2 c = search needs
+
+array-read-half-word-2 : tie.Need-array-read-half-word-2 Inv-loop μ-loop
+array-read-half-word-2 c = search needs
+
+half-word-requires : tie.Need-half-word-requires Inv-loop μ-loop
+half-word-requires c κs = search needs
+
 mul-half : tie.Need-mul-half Inv-loop μ-loop
 mul-half c = search needs
-
-array-read-half : tie.Need-array-read-half Inv-loop μ-loop
-array-read-half c = search needs
-
-add-half : tie.Need-add-half Inv-loop μ-loop
-add-half c = search needs
-
-mul-half-2 : tie.Need-mul-half-2 Inv-loop μ-loop
-mul-half-2 c = search needs
-
-array-read-half-2 : tie.Need-array-read-half-2 Inv-loop μ-loop
-array-read-half-2 c = search needs
-
-mul-half-3 : tie.Need-mul-half-3 Inv-loop μ-loop
-mul-half-3 c = search needs
-
-add-half-2 : tie.Need-add-half-2 Inv-loop μ-loop
-add-half-2 c =
-    let word : Fits w64 (getD (c .before .before .args .t1) (c .before .loop .k) 0) = search needs in
-    omega arith
-
-mul-half-4 : tie.Need-mul-half-4 Inv-loop μ-loop
-mul-half-4 c = search needs
 
 array-write-half : tie.Need-array-write-half Inv-loop μ-loop
 array-write-half c = search needs
@@ -60,17 +53,17 @@ loop-less c = search needs
 
 loop-again : tie.Need-loop-again Inv-loop μ-loop
 loop-again c =
-    let loop = c .before .loop in
-    (search needs, search needs, halved-more (c .before .before .args .t1) (loop .half) (loop .k) (omega arith) (loop .inv .2))
+    let loop = c .before .before .loop in
+    (search needs, search needs, rw (c .half-word .ensures) (halved-more (c .before .before .before .args .t1) (loop .half) (loop .k) (omega arith) (loop .inv .2)))
 
-mul-half-5 : tie.Need-mul-half-5 Inv-loop μ-loop
-mul-half-5 c = search needs
+mul-half-2 : tie.Need-mul-half-2 Inv-loop μ-loop
+mul-half-2 c = search needs
 
-array-read-half-3 : tie.Need-array-read-half-3 Inv-loop μ-loop
-array-read-half-3 c = search needs
+array-read-half : tie.Need-array-read-half Inv-loop μ-loop
+array-read-half c = search needs
 
-mul-half-6 : tie.Need-mul-half-6 Inv-loop μ-loop
-mul-half-6 c = search needs
+mul-half-3 : tie.Need-mul-half-3 Inv-loop μ-loop
+mul-half-3 c = search needs
 
 array-write-half-2 : tie.Need-array-write-half-2 Inv-loop μ-loop
 array-write-half-2 c = search needs
@@ -90,20 +83,19 @@ halved-spec =
     μ-loop
     loop-holds
     add-loop
+    mul-half-word
+    array-read-half-word
+    add-half-word
+    mul-half-word-2
+    array-read-half-word-2
+    half-word-requires
     mul-half
-    array-read-half
-    add-half
-    mul-half-2
-    array-read-half-2
-    mul-half-3
-    add-half-2
-    mul-half-4
     array-write-half
     add-k
     loop-less
     loop-again
-    mul-half-5
-    array-read-half-3
-    mul-half-6
+    mul-half-2
+    array-read-half
+    mul-half-3
     array-write-half-2
     returns)

@@ -1,3 +1,3 @@
 pub mod Copied
-pub mod Taken
+mod Taken
 pub mod Takes

@@ -1,36 +1,18 @@
 // A recoder as C keeps it: the words of a `Recoder`, then one that is not 0 if it carries.
 use rules::NUMBER_WORDS;
 use taking::Recoder;
+use taking::digit_byte;
+use words::halve;
+use words::is_zero;
 ghost use mathlib.Core.Path.{_≡_};
-ghost use lib.ListN.{take};
+ghost use Prim.Native.Nat.{_<_};
+ghost use lib.Dec.{eqb};
+ghost use lib.ListN.{length};
 ghost use Rattle.rules.specs.Limits.{numberWords};
 ghost use Rattle.taking.specs.Take.{standsFor};
-ghost use Rattle.c_answers.specs.Kept.{keptNumber};
+ghost use Rattle.c_answers.specs.Kept.{keptNumber, IsKeptTake};
 
 pub const KEPT_WORDS: usize = NUMBER_WORDS + 1;
-
-// The first words.
-fn words_in(kept: [u64; KEPT_WORDS]) -> [u64; NUMBER_WORDS]
-    ensures { λ r. ⌜ r ≡ take numberWords kept ⌝ }
-{
-    let mut words = [0u64; NUMBER_WORDS];
-    let mut k = 0;
-    while k < NUMBER_WORDS {
-        words[k] = kept[k];
-        k += 1;
-    }
-    words
-}
-
-// The recoder that is kept.
-pub fn recoder_of(kept: [u64; KEPT_WORDS]) -> Recoder
-    ensures { λ r. ⌜ standsFor r ≡ keptNumber kept ⌝ }
-{
-    Recoder {
-        words: words_in(kept),
-        carry: kept[NUMBER_WORDS] != 0,
-    }
-}
 
 // A recoder to be kept.
 pub fn kept_of(recoder: Recoder) -> [u64; KEPT_WORDS]
@@ -46,4 +28,36 @@ pub fn kept_of(recoder: Recoder) -> [u64; KEPT_WORDS]
     }
     kept[NUMBER_WORDS] = carry as u64;
     kept
+}
+
+// Whether nothing is left. The lowest word and the carry nearly always tell. One branch for both, since one
+// on the carry alone would go at random.
+fn is_done(kept: &[u64]) -> bool
+    requires { ⌜ numberWords < length (now kept) ⌝ }
+    ensures { λ r. ⌜ r ≡ eqb (keptNumber (now (kept .entry))) 0 ⌝ }
+{
+    if (kept[0] != 0) | (kept[NUMBER_WORDS] != 0) {
+        return false;
+    }
+    is_zero(&kept[..NUMBER_WORDS])
+}
+
+// What a take answers if no digit is left: a number above all bytes.
+const DONE: u32 = 256;
+
+// Takes the lowest digit that is left: its byte, or DONE if there is none. In place, since so many words
+// by value do not fit into registers.
+pub fn take(kept: &mut [u64; KEPT_WORDS]) -> u32
+    ensures { λ r. ⌜ IsKeptTake (now (kept .entry)) (now (kept .exit)) r ⌝ }
+{
+    if is_done(kept) {
+        return DONE;
+    }
+    let word = kept[0];
+    let one = (kept[NUMBER_WORDS] != 0) as u64;
+    let ones = word % 2 + word / 2 % 2 + one;
+    let residue = word % 4 + one;
+    kept[NUMBER_WORDS] = ones / 2;
+    halve(kept);
+    digit_byte(residue) as u32
 }

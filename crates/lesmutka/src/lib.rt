@@ -9,9 +9,7 @@ use c_answers::Started;
 use c_answers::Value;
 use c_answers::kept::KEPT_WORDS;
 use c_answers::kept::kept_of;
-use c_answers::kept::recoder_of;
 use taking::Recoder;
-use taking::Take;
 ghost use mathlib.Core.Path.{_≡_};
 ghost use lib.ListN.{length};
 ghost use Rattle.rules.specs.Limits.{documented, version};
@@ -38,9 +36,6 @@ pub extern "C" fn lesmutka_recode(number: &[u8], out: &mut [u8]) -> Length
     c_answers::of_written(recoding::recode(number, out))
 }
 
-// What a take answers if no digit is left: a number above all bytes.
-const DONE: u32 = 256;
-
 // Starts taking the digits of a number, in a recoder that the caller keeps.
 #[no_mangle]
 pub extern "C" fn lesmutka_start(number: &[u8], recoder: &mut [u64; KEPT_WORDS]) -> Started
@@ -58,15 +53,7 @@ pub extern "C" fn lesmutka_start(number: &[u8], recoder: &mut [u64; KEPT_WORDS])
 pub extern "C" fn lesmutka_take(recoder: &mut [u64; KEPT_WORDS]) -> u32
     ensures { λ r. ⌜ IsKeptTake (now (recoder .entry)) (now (recoder .exit)) r ⌝ }
 {
-    let taken = recoder_of(*recoder).take();
-    let answer = taken.answer;
-    match answer {
-        Take::Digit(digit) => {
-            *recoder = kept_of(taken.next);
-            digit as u32
-        }
-        Take::Done => DONE,
-    }
+    c_answers::kept::take(recoder)
 }
 
 // Writes the canonical string of a digit string's value.

@@ -89,7 +89,7 @@ impl Recoder {
 }
 
 // The byte of the lowest digit of a number: 0, 1, 0, minus 1 by the remainder modulo 4.
-fn digit_byte(number: u64) -> u8
+pub fn digit_byte(number: u64) -> u8
     ensures { λ r. ⌜ r ≡ digitByte (lowDigit canonicalWidth number) ⌝ }
 {
     let bytes = [0, 1, 0, 255];

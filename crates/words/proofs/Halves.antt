@@ -1,17 +1,17 @@
 -- Whether words hold nothing, and half of what they hold. Assumes nothing.
-use mathlib.Core.Path.{_≡_, sym, ap, _∙_}
+use mathlib.Core.Path.{_≡_, refl, sym, ap, _∙_}
 use mathlib.Core.Bool.{Bool, _&&_}
 use mathlib.Core.List.{List, []}
-use Prim.Native.Nat.{ℕ, zero, suc, _+_, _*_, _/_, _%_, _^_, _<_}
+use Prim.Native.Nat.{ℕ, zero, suc, _+_, _*_, _/_, _%_, _^_, _<_, _≤_}
 use borrow.Author.Tests.{eq-eqb, ne-eqb}
 use native.Mathlib.Nat.{add-comm, add-zero, pow-suc, one-le-pow, mul-add, mul-assoc, mul-mod-left, mul-pos, mul-zero}
 use native.Mathlib.Numerals.{add-one}
 use native.Mathlib.Omega.{arith}
 use lib.Arith.{digits-lt}
 use lib.Dec.{eqb}
-use lib.ListN.{length, getD, set, take, drop, length-set, drop-of-length-le, List·getD-eq-default}
+use lib.ListN.{length, getD, set, take, drop, length-take, drop-of-length-le, List·getD-eq-default}
 use lib.Pow.{shl-shr, mod-pow-add}
-use lib.Seq.{take-all, getD-set-same, take-set-le}
+use lib.Seq.{getD-set-same, take-set-le, drop-set-lt, drop-drop, getD-take, getD-drop}
 use Rattle.integers.specs.Positional.{positional, wordsValue}
 use Rattle.integers.proofs.Positional.{positional-drop, positional-take}
 
@@ -46,15 +46,17 @@ turned-half w n h =
     both : (a c d t : ℕ) → a < 2 ^ 63 → c < 2 → d < 2 → t ≡ (c + d) % 2 → (a + c * 2 ^ 63 + t * 2 ^ 63) % 2 ^ 64 ≡ a + d * 2 ^ 63
     both a c d t ha hc hd e = omega arith
 
--- ---- halving, from the lowest word up
+-- ---- halving in place, from the lowest word up
 
--- the k low words of `half` are those of half the number; half of the words from k on is still to come
-abbrev pub Halved : ℕ → List ℕ → List ℕ → Type 0
-Halved k l half = wordsValue (take k half) + (2 ^ 64) ^ k * (wordsValue (drop k l) / 2) ≡ wordsValue l / 2
+-- the number is that of the n low words of l. The k low words of `half` are those of half of it, half of the words from k on is still to come, and from k on
+-- `half` is as l
+abbrev pub Halved : ℕ → List ℕ → ℕ → List ℕ → Type 0
+Halved n l k half =
+    (wordsValue (take k half) + (2 ^ 64) ^ k * (wordsValue (drop k (take n l)) / 2) ≡ wordsValue (take n l) / 2) × (drop k half ≡ drop k l)
 
-pub halved-none : (l half : List ℕ) → Halved 0 l half
+pub halved-none : (n : ℕ) (l : List ℕ) → Halved n l 0 l
 unfolding positional
-halved-none l half = omega arith
+halved-none n l = (omega arith, refl)
 
 -- a word's half takes the low bit of the word above for its top one
 half-word : (l : List ℕ) (k : ℕ) → wordsValue (drop k l) / 2 ≡ getD l k 0 / 2 + getD l (suc k) 0 % 2 * 2 ^ 63 + 2 ^ 64 * (wordsValue (drop (suc k) l) / 2)
@@ -71,22 +73,30 @@ one-above P a x u q v e h =
     let m : P * (x + 2 ^ 64 * u) ≡ P * x + P * 2 ^ 64 * u = rw (mul-add P x (2 ^ 64 * u), mul-assoc P (2 ^ 64) u) in
     omega (arith, ap (λ (n : ℕ). P * n) e)
 
-module _ (l half : List ℕ) (k : ℕ) (within : k < length half) where
-  stored : (x : ℕ) → x ≡ getD l k 0 / 2 + getD l (suc k) 0 % 2 * 2 ^ 63 → Halved k l half → Halved (k + 1) l (set half k x)
-  stored x e h =
-      rw (add-one, positional-take (2 ^ 64) k (set half k x), take-set-le k half k x (omega arith), getD-set-same half k x 0 within, pow-suc (2 ^ 64) k)
-      (one-above ((2 ^ 64) ^ k) (wordsValue (take k half)) x (wordsValue (drop (suc k) l) / 2) (wordsValue (drop k l) / 2) (wordsValue l / 2) (omega (arith, half-word l k)) h)
+module _ (n : ℕ) (l half : List ℕ) (k : ℕ) (within : k < length half) where
+  -- a word that still stands
+  stands : (i j : ℕ) → i ≡ k + j → i < n → drop k half ≡ drop k l → getD half i 0 ≡ getD (take n l) i 0
+  stands i j e h same = rw (getD-take n l i 0 h, e, ← getD-drop k half j 0, same, getD-drop k l j 0)
 
-  pub halved-more : Halved k l half → Halved (k + 1) l (set half k (getD l k 0 / 2 + getD l (k + 1) 0 % 2 * 2 ^ 63))
-  halved-more = stored (getD l k 0 / 2 + getD l (k + 1) 0 % 2 * 2 ^ 63) (rw add-one)
+  stored : (x : ℕ) → x ≡ getD (take n l) k 0 / 2 + getD (take n l) (suc k) 0 % 2 * 2 ^ 63 → Halved n l k half → Halved n l (k + 1) (set half k x)
+  stored x e (h, same) = (
+    rw (add-one, positional-take (2 ^ 64) k (set half k x), take-set-le k half k x (omega arith), getD-set-same half k x 0 within, pow-suc (2 ^ 64) k)
+        (one-above ((2 ^ 64) ^ k) (wordsValue (take k half)) x (wordsValue (drop (suc k) (take n l)) / 2) (wordsValue (drop k (take n l)) / 2) (wordsValue (take n l) / 2) (omega (arith, half-word (take n l) k)) h),
+    drop-set-lt (k + 1) half k x (omega arith) ∙ sym (drop-drop 1 k half) ∙ ap (λ (r : List ℕ). drop 1 r) same ∙ drop-drop 1 k l,
+  )
+
+  pub halved-more : k + 1 < n → Halved n l k half → Halved n l (k + 1) (set half k (getD half k 0 / 2 + getD half (k + 1) 0 % 2 * 2 ^ 63))
+  halved-more h halves =
+      stored _ (rw (stands k 0 (omega arith) (omega arith) (halves .1), stands (k + 1) 1 refl h (halves .1), add-one)) halves
 
   -- the top word has none above
-  pub halved-all : length l ≡ k + 1 → length half ≡ k + 1 → Halved k l half → wordsValue (set half k (getD l k 0 / 2)) ≡ wordsValue l / 2
+  pub halved-all : n ≡ k + 1 → Halved n l k half →
+      let done = set half k (getD half k 0 / 2) in (wordsValue (take n done) ≡ wordsValue (take n l) / 2) × (drop n done ≡ drop n l)
   unfolding positional
-  halved-all long longs h =
-      let x : ℕ = getD l k 0 / 2 in
-      let none : getD l (suc k) 0 ≡ 0 = List·getD-eq-default l 0 {n = suc k} (omega arith) in
-      let all : Halved (k + 1) l (set half k x) = stored x (omega arith) h in
-      let low : take (k + 1) (set half k x) ≡ set half k x = take-all (k + 1) (set half k x) (omega (arith, length-set half k x)) in
-      let high : drop (k + 1) l ≡ [] = drop-of-length-le l {i = k + 1} (omega arith) in
-      (rw (low, high, mul-zero, add-zero) at all)
+  halved-all e halves =
+      let x : ℕ = getD half k 0 / 2 in
+      let short : length (take n l) ≤ n = omega (arith, length-take n l) in
+      let none : getD (take n l) (suc k) 0 ≡ 0 = List·getD-eq-default (take n l) 0 {n = suc k} (omega arith) in
+      let all : Halved n l (k + 1) (set half k x) = stored x (omega (arith, stands k 0 (omega arith) (omega arith) (halves .1))) halves in
+      let high : drop (k + 1) (take n l) ≡ [] = drop-of-length-le (take n l) {i = k + 1} (omega arith) in
+      (rw (high, mul-zero, add-zero, ← e) at (all .0), rw (← e) at (all .1))

@@ -6,6 +6,7 @@ ghost use Prim.Native.Nat.{_+_, _*_, _/_, _%_, _^_, _≤_};
 ghost use lib.Dec.{eqb};
 ghost use lib.ListN.{length, take, drop, getD};
 ghost use mir.Val.{boolByte};
+ghost use Rattle.rules.specs.Limits.{numberWords};
 ghost use Rattle.integers.specs.Positional.{wordsValue, lowBytes};
 
 // The word at k: 0 above the highest.
@@ -54,17 +55,26 @@ fn half_word(word: u64, next: u64) -> u64
     std::num::wrapping_add_u64(turned, std::num::wrapping_add_u64(word, next) << 63)
 }
 
+// Halves the number that the first NUMBER_WORDS words hold, rounded down. What stands above stays.
+pub fn halve(words: &mut [u64])
+    requires { ⌜ numberWords ≤ length (now words) ⌝ }
+    ensures value { λ _. ⌜ wordsValue (take numberWords (now (words .exit))) ≡ wordsValue (take numberWords (now (words .entry))) / 2 ⌝ }
+    ensures rest { λ _. ⌜ drop numberWords (now (words .exit)) ≡ drop numberWords (now (words .entry)) ⌝ }
+{
+    let mut k = 0;
+    while k + 1 < NUMBER_WORDS {
+        words[k] = half_word(words[k], words[k + 1]);
+        k += 1;
+    }
+    words[k] = words[k] / 2;
+}
+
 // Half of the number that the words hold, rounded down.
 pub fn halved(words: [u64; NUMBER_WORDS]) -> [u64; NUMBER_WORDS]
     ensures { λ r. ⌜ wordsValue r ≡ wordsValue words / 2 ⌝ }
 {
     let mut half = words;
-    let mut k = 0;
-    while k + 1 < NUMBER_WORDS {
-        half[k] = half_word(words[k], words[k + 1]);
-        k += 1;
-    }
-    half[k] = words[k] / 2;
+    halve(&mut half);
     half
 }
 

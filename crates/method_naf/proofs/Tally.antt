@@ -5,16 +5,16 @@ use Prim.Native.Nat.{ℕ, zero, suc, _+_, _-_, _*_, _/_, _%_, _^_, _<_, _≤_, m
 use native.Mathlib.Nat.{min-le-left, add-zero, zero-add, pow-suc}
 use native.Mathlib.Omega.{arith}
 use lib.Bits.{bitAnd, and-step, and-le-l, and-block}
-use lib.Count.{ones, onesIn, ones-step, ones-cat, leadingZeros, leading-length}
+use lib.Count.{ones, onesIn, ones-step, ones-cat, leadingZeros, leading-unique}
 use lib.IntN.{ℤ, pos, natAbs}
-use Rattle.integers.specs.Bits.{bitLength, lengthUpTo}
+use Rattle.integers.specs.Bits.{bitLength}
 use Rattle.integers.proofs.Bits.{bit-length-iff, length-from}
 use Rattle.signed_digits.specs.Strings.{digitAt}
 use Rattle.signed_digits.specs.Naf.{lowDigit, rest, canonical}
 use Rattle.signed_digits.proofs.Steps.{naf-zero, naf-step, low-digit-2, by-four, rest-less}
 use Rattle.signed_digits.proofs.Triple.{rest-halved}
 use Rattle.methods.specs.Forecast.{isPlus, isMinus, plusDigits, minusDigits}
-use Rattle.method_naf.specs.Tally.{onlyIn, lengthAbove, Tallied}
+use Rattle.method_naf.specs.Tally.{onlyIn, lengthTo, lengthAbove, Tallied}
 use Rattle.method_naf.specs.declared.words.Tally.{Tally}
 
 -- ---- places that hold 1 in a and 0 in b
@@ -105,7 +105,7 @@ length-word v w some h =
     let e : (v * 2 ^ 64 + w) / 256 ^ 8 ≡ v = omega arith in
     length-from (v * 2 ^ 64 + w) 8 (bitLength v) (rw e (bit-length-iff v (bitLength v) .0 (omega arith))) (rw e (tight v)) (rw e some)
 
-length-some : (below places v : ℕ) → 0 < v → lengthAbove below places v ≡ places + bitLength v
+pub length-some : (below places v : ℕ) → 0 < v → lengthAbove below places v ≡ places + bitLength v
 unfolding lengthAbove
 length-some below places zero h = absurd (omega arith)
 length-some below places (suc v) h = refl
@@ -114,11 +114,10 @@ pub length-none : (below places v : ℕ) → v ≡ 0 → lengthAbove below place
 unfolding lengthAbove
 length-none below places v z = rw z
 
-pub length-by-zeros : (below places w : ℕ) → w < 2 ^ 64 → (w ≡ 0 → ⊥) → places + (64 - leadingZeros 64 w) ≡ lengthAbove below places w
-length-by-zeros below places w h some =
-    let (m, zeros, low, high) = leading-length 64 w h in
-    let e : bitLength w ≡ 8 * 0 + m = length-from w 0 m (omega arith) (omega arith) (omega arith) in
-    omega (arith, length-some below places w (omega arith))
+pub length-by-zeros : (w : ℕ) → w < 2 ^ 64 → 64 - leadingZeros 64 w ≡ bitLength w
+length-by-zeros w h =
+    let few : bitLength w ≤ 64 = bit-length-iff w 64 .1 h in
+    omega (arith, leading-unique 64 w (64 - bitLength w) (bitLength w) (omega arith) (bit-length-iff w (bitLength w) .0 (omega arith)) (tight w))
 
 length-more : (below places v w : ℕ) → w < 2 ^ 64 → lengthAbove (lengthAbove below places w) (places + 64) v ≡ lengthAbove below places (v * 2 ^ 64 + w)
 unfolding lengthAbove
@@ -128,16 +127,12 @@ length-more below places (suc v) w h =
 
 -- ---- the tally
 
-none-long : lengthAbove 0 0 0 ≡ bitLength 0
-unfolding lengthAbove bitLength lengthUpTo
-none-long = refl
-
-pub nothing-tallied : (e : ℕ) → Tallied e e (record { places = 0; plus = 0; minus = 0; length = 0; carry = 0 })
+pub nothing-tallied : (e : ℕ) → Tallied e e (record { places = 0; plus = 0; minus = 0; top = record { under = 0; word = 0 }; carry = 0 })
 nothing-tallied e = record { plus = rw (add-zero (3 * e), zero-add (onlyIn (3 * e) e)); minus = rw (add-zero (3 * e), zero-add (onlyIn e (3 * e))); length = rw (add-zero (3 * e)) (whole (3 * e)) }
   where
-    whole : (v : ℕ) → lengthAbove 0 0 v ≡ bitLength v
-    whole zero = none-long
-    whole (suc v) = length-some 0 0 (suc v) (omega arith) ∙ zero-add (bitLength (suc v))
+    whole : (v : ℕ) → lengthAbove (0 + bitLength 0) 0 v ≡ bitLength v
+    whole zero = length-none (0 + bitLength 0) 0 0 refl ∙ zero-add (bitLength 0)
+    whole (suc v) = length-some (0 + bitLength 0) 0 (suc v) (omega arith) ∙ zero-add (bitLength (suc v))
 
 -- a word of e, to which `carry` is carried, and the word of 3 e there, which carries `next`
 module _ (word carry triple next : ℕ) (hw : word < 2 ^ 64) (ht : triple < 2 ^ 64) (sum : triple + 2 ^ 64 * next ≡ 3 * word + carry) where
@@ -148,7 +143,7 @@ module _ (word carry triple next : ℕ) (hw : word < 2 ^ 64) (ht : triple < 2 ^ 
   next-small h = omega arith
 
   pub tallied-word : (e left : ℕ) (t r : Tally) → t .carry ≡ carry → r .carry ≡ next → r .places ≡ t .places + 64
-      → r .plus ≡ t .plus + onlyIn triple word → r .minus ≡ t .minus + onlyIn word triple → r .length ≡ lengthAbove (t .length) (t .places) triple
+      → r .plus ≡ t .plus + onlyIn triple word → r .minus ≡ t .minus + onlyIn word triple → lengthTo (r .top) ≡ lengthAbove (lengthTo (t .top)) (t .places) triple
       → Tallied e (left * 2 ^ 64 + word) t → Tallied e left r
   tallied-word e left t r from to places plus minus length h =
       let v : ℕ = 3 * left + next in
@@ -156,7 +151,7 @@ module _ (word carry triple next : ℕ) (hw : word < 2 ^ 64) (ht : triple < 2 ^ 
       record {
         plus = rw to (omega (arith, rw s at (h .plus), only-in-word v left triple word ht hw));
         minus = rw to (omega (arith, rw s at (h .minus), only-in-word left v word triple hw ht));
-        length = rw (to, places, length) (length-more (t .length) (t .places) v triple ht ∙ (rw s at (h .length)));
+        length = rw (to, places, length) (length-more (lengthTo (t .top)) (t .places) v triple ht ∙ (rw s at (h .length)));
       }
 
 no-digits : onlyIn 0 0 ≡ 0
@@ -164,7 +159,7 @@ unfolding onlyIn ones onesIn
 no-digits = refl
 
 -- nothing is left
-pub all-tallied : (e : ℕ) (t : Tally) → t .carry ≡ 0 → Tallied e 0 t → (t .plus ≡ onlyIn (3 * e) e) × (t .minus ≡ onlyIn e (3 * e)) × (t .length ≡ bitLength (3 * e))
+pub all-tallied : (e : ℕ) (t : Tally) → t .carry ≡ 0 → Tallied e 0 t → (t .plus ≡ onlyIn (3 * e) e) × (t .minus ≡ onlyIn e (3 * e)) × (lengthTo (t .top) ≡ bitLength (3 * e))
 all-tallied e t c h =
     let z : 3 * 0 + t .carry ≡ 0 = omega arith in
-    (omega (arith, rw z at (h .plus), no-digits), omega (arith, rw z at (h .minus), no-digits), sym (length-none (t .length) (t .places) (3 * 0 + t .carry) z) ∙ h .length)
+    (omega (arith, rw z at (h .plus), no-digits), omega (arith, rw z at (h .minus), no-digits), sym (length-none (lengthTo (t .top)) (t .places) (3 * 0 + t .carry) z) ∙ h .length)

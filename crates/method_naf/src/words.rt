@@ -8,7 +8,7 @@ ghost use Rattle.rules.specs.Limits.{numberBytes};
 ghost use Rattle.integers.specs.Bits.{bitLength};
 ghost use Rattle.integers.specs.Positional.{bytesValue};
 ghost use Rattle.numbers.specs.Admission.{Admitted};
-ghost use Rattle.method_naf.specs.Tally.{onlyIn, lengthAbove, Within, Tallied};
+ghost use Rattle.method_naf.specs.Tally.{onlyIn, lengthTo, lengthAbove, Within, Tallied};
 
 const HALF: u64 = 0x1_0000_0000;
 
@@ -38,25 +38,45 @@ fn only_in(a: u64, b: u64) -> usize
     u64::count_ones(a - (a & b)) as usize
 }
 
-// The bit length of a number, by its word above this many places and the bit length of what is below.
-fn length_with(below: usize, places: usize, word: u64) -> usize
-    requires { ⌜ places ≤ 8 * numberBytes ⌝ }
-    ensures { λ r. ⌜ r ≡ lengthAbove below places word ⌝ }
-{
-    if word == 0 {
-        return below;
+// The highest word of a number that is not 0, and how many places are beneath it; 0 and 0 if there is
+// none.
+struct Top {
+    under: usize,
+    word: u64,
+}
+
+impl Top {
+    // With the word above this many places.
+    fn with_word(self, places: usize, word: u64) -> Top
+        requires { ⌜ self .under ≤ places ⌝ }
+        ensures { λ r. ⌜ (r .under ≤ places) × (lengthTo r ≡ lengthAbove (lengthTo self) places word) ⌝ }
+    {
+        if word == 0 {
+            return self;
+        }
+        Top {
+            under: places,
+            word,
+        }
     }
-    places + (64 - u64::leading_zeros(word) as usize)
+
+    // The bit length of the number.
+    fn length(self) -> usize
+        requires { ⌜ self .under ≤ 8 * numberBytes + 64 ⌝ }
+        ensures { λ r. ⌜ r ≡ lengthTo self ⌝ }
+    {
+        self.under + (64 - u64::leading_zeros(self.word) as usize)
+    }
 }
 
 // What the words of e below this many places give: how many of these places hold a 1 of 3 e alone, and
-// of e alone; the bit length of 3 e there; and what 3 e carries into the next word.
-pub struct Tally {
-    pub places: usize,
-    pub plus: usize,
-    pub minus: usize,
-    pub length: usize,
-    pub carry: u64,
+// of e alone; the top of 3 e there; and what 3 e carries into the next word.
+struct Tally {
+    places: usize,
+    plus: usize,
+    minus: usize,
+    top: Top,
+    carry: u64,
 }
 
 impl Tally {
@@ -71,15 +91,22 @@ impl Tally {
             places: self.places + 64,
             plus: self.plus + only_in(triple.word, word),
             minus: self.minus + only_in(word, triple.word),
-            length: length_with(self.length, self.places, triple.word),
+            top: self.top.with_word(self.places, triple.word),
             carry: triple.carry,
         }
     }
 }
 
-// The tally of all of a number, over the words that it has. A word of zeros above them takes the last
+// How many digits of e are 1, and how many -1; and how many bits 3 e has.
+pub struct Digits {
+    pub plus: usize,
+    pub minus: usize,
+    pub length: usize,
+}
+
+// The digits of all of a number, over the words that it has. A word of zeros above them takes the last
 // carry.
-pub fn tally_of(number: &[u8]) -> Tally
+pub fn tally_of(number: &[u8]) -> Digits
     requires { ⌜ Admitted (now number) ⌝ }
     ensures { λ r. ⌜ (r .plus ≡ onlyIn (3 * bytesValue (now (number .entry))) (bytesValue (now (number .entry)))) × (r .minus ≡ onlyIn (bytesValue (now (number .entry))) (3 * bytesValue (now (number .entry)))) × (r .length ≡ bitLength (3 * bytesValue (now (number .entry)))) ⌝ }
 {
@@ -88,13 +115,18 @@ pub fn tally_of(number: &[u8]) -> Tally
         places: 0,
         plus: 0,
         minus: 0,
-        length: 0,
+        top: Top { under: 0, word: 0 },
         carry: 0,
     };
     let mut k = 0;
-    while 8 * k < number.len() {
+    while below.places < 8 * number.len() {
         below = below.with_word(words[k]);
         k += 1;
     }
-    below.with_word(0)
+    let all = below.with_word(0);
+    Digits {
+        plus: all.plus,
+        minus: all.minus,
+        length: all.top.length(),
+    }
 }

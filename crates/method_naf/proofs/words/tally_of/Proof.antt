@@ -34,10 +34,10 @@ words-of-requires : tie.Need-words-of-requires Inv-loop μ-loop
 words-of-requires c κs = search needs
 
 loop-holds : tie.Need-loop-holds Inv-loop μ-loop
-loop-holds c = (omega arith, omega arith, record { plus = omega arith; minus = omega arith; carry = omega arith }, nothing-tallied (wordsValue (c .words-of .result)))
+loop-holds c = (omega arith, omega arith, record { plus = omega arith; minus = omega arith; under = omega arith; carry = omega arith }, nothing-tallied (wordsValue (c .words-of .result)))
 
-mul-loop : tie.Need-mul-loop Inv-loop μ-loop
-mul-loop c = search needs
+mul-if1 : tie.Need-mul-if1 Inv-loop μ-loop
+mul-if1 c = search needs
 
 mul-with-word : tie.Need-mul-with-word Inv-loop μ-loop
 mul-with-word c = search needs
@@ -56,8 +56,8 @@ loop-less c = search needs
 
 loop-again : tie.Need-loop-again Inv-loop μ-loop
 loop-again c =
-    let words = c .before .before .before .words-of .result in
-    let loop = c .before .before .loop in
+    let words = c .before .before .before .before .words-of .result in
+    let loop = c .before .before .before .loop in
     let more = c .with-word .ensures in
     let left = wordsValue (drop (loop .k + 1) words) in
     let e : wordsValue (drop (loop .k) words) ≡ left * 2 ^ 64 + getD words (loop .k) 0 = rw add-one (omega (arith, positional-drop (2 ^ 64) words (loop .k))) in
@@ -66,16 +66,19 @@ loop-again c =
 with-word-requires-2 : tie.Need-with-word-requires-2 Inv-loop μ-loop
 with-word-requires-2 c κs = search needs
 
+length-requires : tie.Need-length-requires Inv-loop μ-loop
+length-requires c κs = search needs
+
 returns : tie.Need-returns Inv-loop μ-loop
 returns c =
-    let number = c .before .before .before .before .before .args .number .now in
-    let words = c .before .before .before .words-of in
-    let loop = c .before .before .loop in
-    let last = c .with-word2 .ensures in
+    let number = c .before .before .before .before .before .before .before .args .number .now in
+    let words = c .before .before .before .before .before .words-of in
+    let loop = c .before .before .before .before .loop in
+    let last = c .before .with-word2 .ensures in
     let whole : wordsValue (words .result) ≡ bytesValue number = words .ensures ∙ ap bytesValue (take-all numberBytes number (search needs)) in
     let fits : Below (2 ^ 64) (words .result) = λ i. let f : Fits w64 (getD (words .result) i 0) = search needs in f .fits in
-    let none = none-above (words .result) number (loop .k) fits (λ i. c .before .before .before .before .shared-slice-known .given i .fits) whole (search needs) in
-    rw (← whole) (all-tallied (wordsValue (words .result)) (c .with-word2 .result) (omega (arith, last .2, loop .inv .2)) (last .3 (wordsValue (words .result)) 0 (rw none at (loop .inv .3))))
+    let none = none-above (words .result) number (loop .k) fits (λ i. c .before .before .before .before .before .before .shared-slice-known .given i .fits) whole (search needs) in
+    rw (← whole, c .length .ensures) (all-tallied (wordsValue (words .result)) (c .before .with-word2 .result) (omega (arith, last .2, loop .inv .2)) (last .3 (wordsValue (words .result)) 0 (rw none at (loop .inv .3))))
 
 pub tally-of-spec : {M : Type 1} → statement M
 tally-of-spec =
@@ -85,7 +88,7 @@ tally-of-spec =
     μ-loop
     words-of-requires
     loop-holds
-    mul-loop
+    mul-if1
     mul-with-word
     array-read-with-word
     with-word-requires
@@ -93,4 +96,5 @@ tally-of-spec =
     loop-less
     loop-again
     with-word-requires-2
+    length-requires
     returns)

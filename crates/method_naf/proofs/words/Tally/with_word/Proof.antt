@@ -25,8 +25,8 @@ only-in-requires-2 c κs = search needs
 add-t8 : tie.Need-add-t8
 add-t8 c = search needs
 
-length-with-requires : tie.Need-length-with-requires
-length-with-requires c κs = search needs
+with-word-requires : tie.Need-with-word-requires
+with-word-requires c κs = search needs
 
 returns : tie.Need-returns
 returns c =
@@ -35,16 +35,18 @@ returns c =
     let triple = c .before .before .before .before .before .before .tripled in
     let plus = c .before .before .before .before .only-in .ensures in
     let minus = c .before .before .only-in2 .ensures in
+    let top = c .with-word .ensures in
     let fits : word < 2 ^ 64 = search needs in
     let triple-fits : triple .result .word < 2 ^ 64 = search needs in (
       refl,
       record {
         plus = omega (arith, plus .1);
         minus = omega (arith, minus .1);
+        under = omega (arith, top .0);
         carry = omega (arith, next-small word (t .carry) (triple .result .word) (triple .result .carry) fits triple-fits (triple .ensures) (search needs));
       },
       next-carry word (t .carry) (triple .result .word) (triple .result .carry) fits triple-fits (triple .ensures),
-      λ e left h. tallied-word word (t .carry) (triple .result .word) (triple .result .carry) fits triple-fits (triple .ensures) e left t _ refl refl refl (omega (arith, plus .0)) (omega (arith, minus .0)) (c .length-with .ensures) h,
+      λ e left h. tallied-word word (t .carry) (triple .result .word) (triple .result .carry) fits triple-fits (triple .ensures) e left t _ refl refl refl (omega (arith, plus .0)) (omega (arith, minus .0)) (top .1) h,
     )
 
 pub with-word-spec : {M : Type 1} → statement M
@@ -57,5 +59,5 @@ with-word-spec =
     add-t6
     only-in-requires-2
     add-t8
-    length-with-requires
+    with-word-requires
     returns)

@@ -21,13 +21,13 @@
  *
  *     int main(void) {
  *         const char *text = "43";
- *         uint8_t number[LESMUTKA_TEXT_ROOM(100)], plan[LESMUTKA_PLAN_ROOM];
+ *         uint8_t number[LESMUTKA_TEXT_ROOM(116)], plan[LESMUTKA_PLAN_ROOM];
  *         uint8_t space[LESMUTKA_WORK_SPACE(LESMUTKA_PLAN_STEPS)];
  *
  *         lesmutka_parsed parsed =
  *             lesmutka_decimal((const uint8_t *)text, strlen(text), number, sizeof number);
  *         if (!parsed.is_number) {
- *             printf("not a number of at most 100 digits\n");
+ *             printf("not a number of at most 116 digits\n");
  *             return 2;
  *         }
  *         lesmutka_counts counts =

@@ -269,7 +269,7 @@ static void checks(void) {
     for (size_t i = 1; i < 8 * LESMUTKA_VALUE_BYTES; i++)
         step(steps, 0, i - 1, i - 1);
     for (size_t i = 8 * LESMUTKA_VALUE_BYTES; i < LESMUTKA_PLAN_STEPS - 1; i++)
-        step(steps, 1, i % 2 == 0 ? 0 : 1, i % 250 + 2);
+        step(steps, 1, i % 2 == 0 ? 0 : 1, i % (8 * LESMUTKA_VALUE_BYTES - 14) + 2);
     step(steps, 0, 0, 0);
     step(steps, 1, 1, 0);
     if (plan_length != LESMUTKA_PLAN_ROOM)

@@ -64,4 +64,4 @@ module _ (s : Step) (n : ℕ) (here : List ℕ) (z : ℤ) (g : Gives s n here z)
 
     pub stored-checked : (next : List ℕ) → ltb (natAbs z) valueBound ≡ true → next ≡ placed here (recordBytes * (n + 1)) recordBytes (recordOf z) → StepChecked s n here next Passed
     stored-checked next e store lent values long w =
-        (rw (nonzero, e) at (verdict-is lent values long w), rw (← g .value lent values long w) (recording-more lent here values w z (n + 1) next long (ltb-true _ _ e) store))
+        (rw (nonzero, e) at (verdict-is lent values long w), rw (g .value lent values long w) at (recording-more lent here values w z (n + 1) next long (ltb-true _ _ e) store))

@@ -385,7 +385,7 @@ fn text(rng: &mut Rng, digits: &[u8]) -> (Vec<u8>, usize) {
     let length = match rng.below(8) {
         0 => rng.below(4),
         1 => rng.below(300),
-        _ => rng.below(90),
+        _ => rng.below(130),
     };
     let mut text: Vec<u8> = (0..length).map(|_| rng.pick(digits)).collect();
     if rng.one_in(4) {

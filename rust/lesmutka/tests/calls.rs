@@ -270,6 +270,7 @@ fn limits_by_number() {
         (RECODE_ROOM, CLEAN_ROOM, READ_BACK_ROOM, PLAN_ROOM),
         (385, 769, 96, 4800)
     );
+    assert_eq!(std::mem::size_of::<sys::Recoder>(), 7 * 8);
 
     let mut room = [7; 1000];
     let ones = recode(&[0xff; 48], &mut room).unwrap();
@@ -279,12 +280,18 @@ fn limits_by_number() {
     assert_eq!(recode(&[0xff; 48], &mut room[..384]), small);
     for number in [[0; 49], [0xff; 49]] {
         assert_eq!(recode(&number, &mut room), Err(Refusal::NumberTooLong));
+        assert_eq!(digits(&number).unwrap_err(), Refusal::NumberTooLong);
         assert_eq!(forecast(&number, Method::Naf), Err(Refusal::NumberTooLong));
+        assert_eq!(plan(&number, Method::Naf, &mut []), Err(Refusal::NumberTooLong));
+        assert_eq!(check(&number, &[], &mut []), Err(Refusal::NumberTooLong));
     }
 
     let cleaned = clean(&[1; 768], &mut room).unwrap().to_vec();
     assert_eq!((cleaned.len(), cleaned[0], cleaned[768]), (769, -1, 1));
     assert!(cleaned[1..768].iter().all(|&digit| digit == 0));
+    let mut size = [7; 97];
+    let value = read_back(&[-1; 768], &mut size).unwrap();
+    assert_eq!((value.is_negative, value.size), (true, &[0xff; 96][..]));
     for string in [&cleaned[..], &[0; 769]] {
         assert_eq!(clean(string, &mut room), Err(Refusal::StringTooLong));
         assert_eq!(read_back(string, &mut []), Err(Refusal::StringTooLong));

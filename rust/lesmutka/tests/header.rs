@@ -1,7 +1,9 @@
-//! The C header, this crate and the linked library say the same: limits, methods, refusals, words, version.
+//! The C header, this crate and the linked library say the same: limits, methods, refusals, words, version; and the
+//! rules say the same limits.
 use lesmutka::{forecast, limits, sys, Method, Refusal};
 
 const HEADER: &str = include_str!("../../../include/lesmutka.h");
+const RULES: &str = include_str!("../../../docs/RULES.md");
 
 /// The value of a constant of the header.
 fn constant(name: &str) -> usize {
@@ -31,6 +33,39 @@ fn limits_agree() {
     assert_eq!(linked.step_bytes, constant("LESMUTKA_STEP_BYTES"));
     assert_eq!(linked.plan_steps, constant("LESMUTKA_PLAN_STEPS"));
     assert_eq!(linked.value_bytes, constant("LESMUTKA_VALUE_BYTES"));
+}
+
+/// The table of limits in the rules.
+#[test]
+fn the_rules_say_the_same() {
+    let table = RULES
+        .lines()
+        .skip_while(|line| *line != "| name | number | meaning |")
+        .skip(2)
+        .take_while(|line| line.starts_with("| "));
+    let stated: Vec<(&str, usize)> = table
+        .map(|line| {
+            let cells: Vec<&str> = line.split(" | ").collect();
+            (cells[0].trim_start_matches("| "), cells[1].parse().expect(line))
+        })
+        .collect();
+    let linked = limits();
+    let words = std::mem::size_of::<sys::Recoder>() / 8 - 1;
+    assert_eq!(
+        stated,
+        [
+            ("NUMBER_BYTES", linked.number_bytes),
+            ("STRING_DIGITS", linked.string_digits),
+            ("STEP_BYTES", linked.step_bytes),
+            ("PLAN_STEPS", linked.plan_steps),
+            ("VALUE_BYTES", linked.value_bytes),
+            ("RECORD_BYTES", linked.record_bytes),
+            ("NUMBER_WORDS", words),
+            ("WORDS_ROOM", constant("LESMUTKA_WORDS_ROOM")),
+            ("FIXED_WINDOW_BITS", constant("LESMUTKA_FIXED_WINDOW_BITS")),
+            ("SLIDING_WINDOW_BITS", constant("LESMUTKA_SLIDING_WINDOW_BITS")),
+        ]
+    );
 }
 
 /// The widest windows are taken, and a bit more is refused.

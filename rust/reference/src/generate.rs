@@ -267,7 +267,8 @@ impl Generator {
             12 => self.sparse(),
             _ => {
                 // Around a border between two words or bytes.
-                let place = self.rng.pick(&[7, 8, 63, 64, 65, 127, 128, 191, 192, NUMBER_BITS - 1]);
+                let border = 64 * self.rng.between(1, NUMBER_BITS / 64 - 1);
+                let place = self.rng.pick(&[7, 8, border - 1, border, border + 1, NUMBER_BITS - 1]);
                 let mut bytes = power_of_two(place);
                 bytes[0] |= self.rng.next_byte();
                 bytes

@@ -51,6 +51,8 @@ use show::put_buffer;
 use show::put_number;
 use show::put_steps;
 use show::put_three;
+use taking::Recoder;
+use taking::Take;
 
 // The most room that is lent: a record more than the longest plan takes.
 const ROOM_BYTES: usize = RECORD_BYTES * (PLAN_STEPS + 2);
@@ -83,15 +85,34 @@ const WORDS_OF: u64 = 0x776f726473;
 // The first word of a comment, `#`. That of an empty line is 0.
 const COMMENT: u64 = 0x23;
 
-// Takes this many digits. What a recoder holds is fixed only once it is done: zeros.
+// What C is answered for a take: the byte of a digit, or 256 if none is left.
+fn number_of(answer: Take) -> usize {
+    match answer {
+        Take::Digit(byte) => byte as usize,
+        Take::Done => 256,
+    }
+}
+
+// Takes this many digits, in place as C does and by value. Each take is answered by one number; were
+// the two to differ, by two. What a recoder holds is fixed only once it is done: zeros.
 fn take(number: &[u8], times: usize) {
     let mut recoder = [0; NUMBER_WORDS + 1];
     let a = lesmutka_start(number, &mut recoder);
     put_number(a.refusal);
     put_number(a.place);
+    let started = Recoder::start(number);
+    let mut by_value = started.recoder;
     let mut i = 0;
     while i < times {
-        put_number(lesmutka_take(&mut recoder) as usize);
+        let answer = lesmutka_take(&mut recoder) as usize;
+        put_number(answer);
+        let taken = by_value.take();
+        by_value = taken.next;
+        let digit = taken.answer;
+        let same = number_of(digit);
+        if same != answer {
+            put_number(same);
+        }
         i += 1;
     }
     let mut k = 0;

@@ -6,10 +6,10 @@ use Rattle.cases.proofs.take.Statement.{statement}
 use Rattle.cases.proofs.take.Tie as tie
 
 abbrev Inv-loop : tie.InvT-loop
-Inv-loop number times recoder₀ i₀ recoder i = Unit {0}
+Inv-loop number times recoder₀ by-value₀ i₀ recoder by-value i = Unit {0}
 
 abbrev μ-loop : tie.MeasureT-loop
-μ-loop number times recoder₀ i₀ recoder i = times - i
+μ-loop number times recoder₀ by-value₀ i₀ recoder by-value i = times - i
 
 abbrev Inv-loop2 : tie.InvT-loop2
 Inv-loop2 number times recoder i k₀ k = Unit {0}
@@ -26,17 +26,29 @@ put-number-requires c κs = search needs
 put-number-requires-2 : tie.Need-put-number-requires-2 Inv-loop μ-loop Inv-loop2 μ-loop2
 put-number-requires-2 c κs = search needs
 
+start-requires : tie.Need-start-requires Inv-loop μ-loop Inv-loop2 μ-loop2
+start-requires c κs = search needs
+
 loop-holds : tie.Need-loop-holds Inv-loop μ-loop Inv-loop2 μ-loop2
 loop-holds c = search needs
 
 lesmutka-take-requires : tie.Need-lesmutka-take-requires Inv-loop μ-loop Inv-loop2 μ-loop2
 lesmutka-take-requires c κs = search needs
 
-cast-put-number : tie.Need-cast-put-number Inv-loop μ-loop Inv-loop2 μ-loop2
-cast-put-number c = search needs
+cast-answer : tie.Need-cast-answer Inv-loop μ-loop Inv-loop2 μ-loop2
+cast-answer c = search needs
 
 put-number-requires-3 : tie.Need-put-number-requires-3 Inv-loop μ-loop Inv-loop2 μ-loop2
 put-number-requires-3 c κs = search needs
+
+take-requires : tie.Need-take-requires Inv-loop μ-loop Inv-loop2 μ-loop2
+take-requires c κs = search needs
+
+number-of-requires : tie.Need-number-of-requires Inv-loop μ-loop Inv-loop2 μ-loop2
+number-of-requires c κs = search needs
+
+put-number-requires-4 : tie.Need-put-number-requires-4 Inv-loop μ-loop Inv-loop2 μ-loop2
+put-number-requires-4 c κs = search needs
 
 add-i : tie.Need-add-i Inv-loop μ-loop Inv-loop2 μ-loop2
 add-i c = search needs
@@ -59,8 +71,8 @@ mul-put-number c = search needs
 array-read-put-number : tie.Need-array-read-put-number Inv-loop μ-loop Inv-loop2 μ-loop2
 array-read-put-number c = search needs
 
-put-number-requires-4 : tie.Need-put-number-requires-4 Inv-loop μ-loop Inv-loop2 μ-loop2
-put-number-requires-4 c κs = search needs
+put-number-requires-5 : tie.Need-put-number-requires-5 Inv-loop μ-loop Inv-loop2 μ-loop2
+put-number-requires-5 c κs = search needs
 
 add-k : tie.Need-add-k Inv-loop μ-loop Inv-loop2 μ-loop2
 add-k c = search needs
@@ -85,10 +97,14 @@ take-spec =
     lesmutka-start-requires
     put-number-requires
     put-number-requires-2
+    start-requires
     loop-holds
     lesmutka-take-requires
-    cast-put-number
+    cast-answer
     put-number-requires-3
+    take-requires
+    number-of-requires
+    put-number-requires-4
     add-i
     loop-less
     loop-again
@@ -96,7 +112,7 @@ take-spec =
     add-loop2
     mul-put-number
     array-read-put-number
-    put-number-requires-4
+    put-number-requires-5
     add-k
     loop2-less
     loop2-again

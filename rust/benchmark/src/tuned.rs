@@ -5,7 +5,7 @@ const WORDS: usize = lesmutka::NUMBER_BYTES / 8;
 
 pub struct Recoder {
     rest: [u64; WORDS],
-    carry: bool,
+    carry: u64,
 }
 
 impl Recoder {
@@ -15,21 +15,24 @@ impl Recoder {
         for (word, bytes) in rest.iter_mut().zip(number.chunks_exact(8)) {
             *word = bytes.iter().rev().fold(0, |word, &byte| word << 8 | u64::from(byte));
         }
-        Recoder { rest, carry: false }
+        Recoder { rest, carry: 0 }
     }
 
     #[inline(always)]
     pub fn take(&mut self) -> Option<u8> {
         let low = self.rest[0];
-        if self.rest.iter().fold(0, |all, word| all | word) == 0 && !self.carry {
+        if low | self.carry == 0 && self.rest.iter().all(|&word| word == 0) {
             return None;
         }
-        let carry = u64::from(self.carry);
+        let carry = self.carry;
+        self.carry = ((low & 1) + (low >> 1 & 1) + carry) / 2;
+        // By a rotation, as the library does: a shift over two words is slow on some processors.
         for i in 0..WORDS - 1 {
-            self.rest[i] = self.rest[i] >> 1 | self.rest[i + 1] << 63;
+            let word = self.rest[i];
+            let top = word.wrapping_add(self.rest[i + 1]) << 63;
+            self.rest[i] = word.rotate_right(1).wrapping_add(top);
         }
         self.rest[WORDS - 1] >>= 1;
-        self.carry = (low & 1) + (low >> 1 & 1) + carry >= 2;
         Some([0x00, 0x01, 0x00, 0xFF][((low & 3) + carry) as usize & 3])
     }
 }

@@ -136,13 +136,16 @@ fn step_of(word: &[u8]) -> Step
     }
 }
 
+// The most words of a text: each is a step of a plan.
+const MOST_WORDS: usize = PLAN_STEPS;
+
 // Writes the steps of a text's words.
 pub fn read_steps(text: &[u8], out: &mut [u8]) -> Written
     ensures answer { λ r. ⌜ r ≡ stepsAnswer (now (text .entry)) (length (now (out .entry))) ⌝ }
     ensures buffer { λ r. ⌜ now (out .exit) ≡ stepsBuffer (now (text .entry)) (now (out .entry)) ⌝ }
 {
     let words = word_count(text);
-    if PLAN_STEPS < words {
+    if MOST_WORDS < words {
         return Written::Refused(Refusal::PlanLength);
     }
     if out.len() < STEP_BYTES * words {

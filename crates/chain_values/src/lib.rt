@@ -28,7 +28,7 @@ pub fn one() -> Value
     }
 }
 
-// The words of what is missing to one bit above them, for words that do not hold zero.
+// The two's complement of words that do not hold zero.
 pub fn negated(words: [u64; VALUE_WORDS]) -> [u64; VALUE_WORDS]
     ensures { λ r. ⌜ (0 < wordsValue words → wordsValue r + wordsValue words ≡ (2 ^ 64) ^ valueWords) ⌝ }
 {

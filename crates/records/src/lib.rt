@@ -59,8 +59,8 @@ pub fn load(space: &[u8], at: usize) -> Value
     }
 }
 
-// The sum of the sizes whose bytes stand at `a` and `b`. Each word is added as it is loaded: loaded
-// before, they would be more than there are registers.
+// The sum of the sizes whose bytes stand at `a` and `b`. Each word is added as it is loaded: all at once,
+// they would be more than there are registers.
 fn sum(space: &[u8], a: usize, b: usize) -> [u64; VALUE_WORDS]
     requires { ⌜ a + valueBytes ≤ length (now space) ⌝ }
     requires { ⌜ b + valueBytes ≤ length (now space) ⌝ }
@@ -78,8 +78,7 @@ fn sum(space: &[u8], a: usize, b: usize) -> [u64; VALUE_WORDS]
     words
 }
 
-// What is left of one size without another, and whether it is below zero: then one bit above the
-// words is missing.
+// One size less another, and whether that is below zero: then it is in two's complement.
 struct SizeDifference {
     words: [u64; VALUE_WORDS],
     below: bool,

@@ -103,7 +103,7 @@ fn spread(times: &mut [f64]) -> Spread {
 }
 
 /// What the jobs run on, for numbers of this many bytes.
-struct Inputs {
+pub struct Inputs {
     bytes: usize,
     /// Numbers whose top bit is 1.
     numbers: Vec<Vec<u8>>,

@@ -4,33 +4,17 @@ use mathlib.Core.Logic.{_↔_, _⊎_, inl, inr}
 use mathlib.Core.Bool.{Bool, true, false, cond}
 use mathlib.Core.List.{List, _++_}
 use Prim.Native.Nat.{ℕ, _+_, _-_, _/_, _^_, _<_, _≤_}
-use native.Mathlib.Nat.{div-eq-of-lt}
 use native.Mathlib.Omega.{arith}
-use borrow.Author.Tests.{ltb-true, ltb-false, leb-true, leb-false, eqb-true, eqb-false}
-use lib.Dec.{ltb, leb, eqb}
+use borrow.Author.Tests.{ltb-true, ltb-false, eqb-true, eqb-false}
+use lib.Dec.{ltb, eqb}
 use lib.ListN.{length, getD, take, drop}
-use lib.Seq.{length-take-le, take-at, take-append-le, getD-drop}
+use lib.Seq.{length-take-le, take-at, take-append-le}
 use Rattle.integers.specs.Positional.{bytesValue, bytesOf, lowBytes, Significant}
-use Rattle.integers.proofs.Positional.{positional-div, positional-nonzero}
 use Rattle.integers.proofs.LowBytes.{length-low, low-whole, low-below, low-of, low-add}
-use Rattle.integers.proofs.Shortest.{bytes-value, bytes-below, bytes-top, bytes-significant}
+use Rattle.integers.proofs.Shortest.{bytes-value, bytes-below, bytes-fit, bytes-significant}
 use Rattle.decimal.specs.Decimal.{isDigit, leading, decimalValue, byteCount, parsed, parsedBuffer}
 use Rattle.decimal.specs.declared.Parsed.the-variants.{Bytes, NotDecimal}
 use Rattle.decimal.proofs.Digits.{leading-digits, leading-end, leading-within, value-fits}
-
--- a number that m bytes hold has no more bytes than that
-bytes-fit : (v m : ℕ) → v < 256 ^ m → length (bytesOf v) ≤ m
-bytes-fit v m h = go (leb (length (bytesOf v)) m) refl
-  where
-    go : (b : Bool) → leb (length (bytesOf v)) m ≡ b → length (bytesOf v) ≤ m
-    go true e = leb-true (length (bytesOf v)) m e
-    go false e =
-        let l : List ℕ = bytesOf v in
-        let longer : m < length l = leb-false (length l) m e in
-        let none : bytesValue (drop m l) ≡ 0 = positional-div 256 l m (bytes-below v) ∙ rw (bytes-value v) (div-eq-of-lt h) in
-        let last : m + (length l - 1 - m) ≡ length l - 1 = omega arith in
-        let top : getD (drop m l) (length l - 1 - m) 0 ≡ 0 → ⊥ = rw (getD-drop, last) (bytes-top v (omega arith)) in
-        absurd (positional-nonzero 256 (drop m l) (length l - 1 - m) (omega arith) top none)
 
 -- they stand at the start of those m
 low-bytes : (v m : ℕ) (rest : List ℕ) → v < 256 ^ m → take (length (bytesOf v)) (lowBytes m v ++ rest) ≡ bytesOf v

@@ -2,15 +2,16 @@
 use mathlib.Core.Path.{_≡_, refl, sym, ap, _∙_}
 use mathlib.Core.Logic.{_≢_}
 use mathlib.Core.List.{List, [], _∷_}
-use Prim.Native.Nat.{ℕ, zero, suc, _+_, _-_, _*_, _/_, _%_, _<_, _≤_}
-use native.Mathlib.Nat.{mul-zero, add-zero}
+use Prim.Native.Nat.{ℕ, zero, suc, _+_, _-_, _*_, _/_, _%_, _^_, _<_, _≤_}
+use native.Mathlib.Decide.{decLt}
+use native.Mathlib.Nat.{mul-zero, add-zero, div-eq-of-lt}
 use native.Mathlib.Omega.{arith}
-use lib.ListN.{length, take}
-use lib.Seq.{length-take-le, getD-take}
+use lib.ListN.{length, getD, take, drop}
+use lib.Seq.{length-take-le, getD-take, getD-drop}
 use Rattle.lists.specs.Top.{TopOtherThan}
 use Rattle.lists.proofs.Top.{top-cons}
 use Rattle.integers.specs.Positional.{positional, bytesValue, bytesUpTo, bytesOf, Significant}
-use Rattle.integers.proofs.Positional.{Below, below-take, positional-split, positional-nonzero}
+use Rattle.integers.proofs.Positional.{Below, below-take, positional-div, positional-split, positional-nonzero}
 
 -- the highest element is not 0; the empty list has none
 abbrev pub TopByte : List ℕ → Type 0
@@ -88,3 +89,16 @@ bytes-significant l n b s =
     let whole : bytesValue (take n l) ≡ bytesValue l = sym (rw (positional-split 256 n l, s .whole, mul-zero, add-zero)) in
     let top : TopByte (take n l) = rw long (λ h z. s .top h (sym (getD-take n l (n - 1) 0 (omega arith)) ∙ z)) in
     bytes-only (take n l) (below-take 256 n l (omega arith) b) top ∙ ap bytesOf whole
+
+-- a number that m bytes hold has no more bytes than that
+pub bytes-fit : (v m : ℕ) → v < 256 ^ m → length (bytesOf v) ≤ m
+bytes-fit v m h = go (decLt m (length (bytesOf v)))
+  where
+    go : Dec (m < length (bytesOf v)) → length (bytesOf v) ≤ m
+    go (no l) = omega arith
+    go (yes longer) =
+        let l : List ℕ = bytesOf v in
+        let none : bytesValue (drop m l) ≡ 0 = positional-div 256 l m (bytes-below v) ∙ rw (bytes-value v) (div-eq-of-lt h) in
+        let last : m + (length l - 1 - m) ≡ length l - 1 = omega arith in
+        let top : getD (drop m l) (length l - 1 - m) 0 ≡ 0 → ⊥ = rw (getD-drop, last) (bytes-top v (omega arith)) in
+        absurd (positional-nonzero 256 (drop m l) (length l - 1 - m) (omega arith) top none)

@@ -1,4 +1,4 @@
 pub mod Examples
-pub mod HighZeros
 pub mod OwnPlans
+pub mod Spelling
 pub mod Text

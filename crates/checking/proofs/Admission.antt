@@ -1,4 +1,4 @@
--- Refusals 1, 2, 7 and 8, each by what it is given for. Assumes nothing.
+-- Refusals 1, 13, 2, 7 and 8, each by what it is given for. Assumes nothing.
 use mathlib.Core.Path.{_≡_, refl}
 use mathlib.Core.Logic.{_↔_, _≢_, _⊎_, inl, inr}
 use mathlib.Core.Bool.{Bool, true, false, not, _||_}
@@ -17,7 +17,7 @@ use Rattle.numbers.specs.Admission.{positiveVerdict, Positive}
 use Rattle.numbers.proofs.Tests.{PositiveTest, positive, positive-only, positive-test}
 use Rattle.checking.specs.Check.{roomFor, isWrongLength, admission}
 
--- none of 1, 2, 7 and 8
+-- none of 1, 13, 2, 7 and 8
 pub record Checkable (number : List ℕ) (planLength room : ℕ) : Type 0 where
   pub positive : Positive number
   pub whole : planLength % stepBytes ≡ 0

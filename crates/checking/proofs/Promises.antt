@@ -13,8 +13,8 @@ use Rattle.rules.specs.declared.Counted.the-variants.{Steps, Refused}
 use Rattle.rules.specs.declared.Verdict.{Verdict}
 use Rattle.rules.specs.declared.Verdict.the-variants.{Failed}
 use Rattle.integers.specs.Positional.{bytesValue}
-use Rattle.numbers.specs.Admission.{Admitted, Positive}
-use Rattle.numbers.proofs.Tests.{too-long, refused as not-admitted, is-zero}
+use Rattle.numbers.specs.Admission.{Padded, Admitted, Positive}
+use Rattle.numbers.proofs.Tests.{too-long, padded, refused as not-admitted, is-zero}
 use Rattle.chains.specs.Steps.{Step, stepsOf}
 use Rattle.chains.specs.Values.{at, start, valuesOf, endOf}
 use Rattle.chains.specs.Sound.{stepAt, WellFormed, Sound}
@@ -53,6 +53,7 @@ module _ (number plan : List ℕ) (room : ℕ) where
   -- each outcome with what it is given for
   pub data Given : Outcome → Type 0 where
     one : numberBytes < length number → Given (refused 1 0)
+    thirteen : length number ≤ numberBytes → Padded number → Given (refused 13 0)
     two : Admitted number → bytesValue number ≡ 0 → Given (refused 2 0)
     seven : Positive number → (length plan % stepBytes ≢ 0) ⊎ (stepBytes * planSteps < length plan) → Given (refused 7 0)
     eight : Positive number → length plan % stepBytes ≡ 0 → length plan ≤ stepBytes * planSteps → room < roomFor (length plan) → Given (refused 8 0)
@@ -79,6 +80,7 @@ module _ (number plan : List ℕ) (room : ℕ) where
 
   given-only : {o : Outcome} → Given o → outcome ≡ o
   given-only (one h) = stopped (number-refused (not-admitted (too-long h)))
+  given-only (thirteen h p) = stopped (number-refused (not-admitted (padded h p)))
   given-only (two a z) = stopped (number-refused (is-zero a z))
   given-only (seven p w) = stopped (plan-length p w)
   given-only (eight p w f l) = stopped (space-too-short p w f l)
@@ -107,6 +109,7 @@ module _ (number plan : List ℕ) (room : ℕ) where
 
       go : {v : Verdict} → Admits number (length plan) room v → Given outcome
       go (number-refused (not-admitted (too-long h))) = be (one h)
+      go (number-refused (not-admitted (padded h p))) = be (thirteen h p)
       go (number-refused (is-zero a z)) = be (two a z)
       go (plan-length p w) = be (seven p w)
       go (space-too-short p w f l) = be (eight p w f l)
@@ -118,6 +121,10 @@ module _ (number plan : List ℕ) (room : ℕ) where
   -- 1, place 0: number longer than the limit
   pub refuses-1 : outcome ≡ refused 1 0 ↔ numberBytes < length number
   refuses-1 = (λ e. elim (given e) [ one h ↦ h ], λ h. given-only (one h))
+
+  -- 13, place 0: its highest byte is zero
+  pub refuses-13 : outcome ≡ refused 13 0 ↔ (length number ≤ numberBytes) × Padded number
+  refuses-13 = (λ e. elim (given e) [ thirteen h p ↦ (h, p) ], λ h. given-only (thirteen (h .0) (h .1)))
 
   -- 2, place 0: number is zero
   pub refuses-2 : outcome ≡ refused 2 0 ↔ Admitted number × (bytesValue number ≡ 0)
@@ -163,22 +170,27 @@ module _ (number plan space : List ℕ) where
   unfolding judged
   filled a e = rw (admits-only number (length plan) (length space) (checkable a), e)
 
-  -- refusals 1 to 8 change nothing
-  pub refused-untouched : (n p : ℕ) → outcome number plan (length space) ≡ refused n p → n ≤ 8 → checkSpace number plan space ≡ space
+  -- refusals 1, 13, 2, 7 and 8 change nothing
+  pub refused-untouched : (n p : ℕ) → outcome number plan (length space) ≡ refused n p → (n ≤ 8) ⊎ (n ≡ 13) → checkSpace number plan space ≡ space
   refused-untouched n p e h = to (given number plan (length space) e) h
     where
       stays : {r : Refusal} → Admits number (length plan) (length space) (Failed r) → checkSpace number plan space ≡ space
       stays t = untouched (admits-only number (length plan) (length space) t)
 
-      to : {n p : ℕ} → Given number plan (length space) (refused n p) → n ≤ 8 → checkSpace number plan space ≡ space
+      none : {n : ℕ} → 8 < n → n ≤ 12 → (n ≤ 8) ⊎ (n ≡ 13) → ⊥
+      none l m (inl h) = omega arith
+      none l m (inr h) = omega arith
+
+      to : {n p : ℕ} → Given number plan (length space) (refused n p) → (n ≤ 8) ⊎ (n ≡ 13) → checkSpace number plan space ≡ space
       to (one l) h = stays (number-refused (not-admitted (too-long l)))
+      to (thirteen l q) h = stays (number-refused (not-admitted (padded l q)))
       to (two a z) h = stays (number-refused (is-zero a z))
       to (seven p w) h = stays (plan-length p w)
       to (eight p w f l) h = stays (space-too-short p w f l)
-      to (nine a f) h = absurd (omega arith)
-      to (ten a f) h = absurd (omega arith)
-      to (eleven a f) h = absurd (omega arith)
-      to (twelve a s q d) h = absurd (omega arith)
+      to (nine a f) h = absurd (none (omega arith) (omega arith) h)
+      to (ten a f) h = absurd (none (omega arith) (omega arith) h)
+      to (eleven a f) h = absurd (none (omega arith) (omega arith) h)
+      to (twelve a s q d) h = absurd (none (omega arith) (omega arith) h)
 
   -- at 9 to 11 it has filled records 0 to i - 1
   pub refused-filled : (n i : ℕ) → outcome number plan (length space) ≡ refused n i → 9 ≤ n → n ≤ 11
@@ -187,6 +199,7 @@ module _ (number plan space : List ℕ) where
     where
       to : {n i : ℕ} → Given number plan (length space) (refused n i) → 9 ≤ n → n ≤ 11 → checkSpace number plan space ≡ recorded (take i (valuesOf (stepsOf plan))) space
       to (one t) l h = absurd (omega arith)
+      to (thirteen t q) l h = absurd (omega arith)
       to (two a z) l h = absurd (omega arith)
       to (seven p w) l h = absurd (omega arith)
       to (eight p w f s) l h = absurd (omega arith)

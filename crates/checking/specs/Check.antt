@@ -1,4 +1,4 @@
--- Check (docs/RULES.md, "Calls"): a plan for a number, with a lent work space. Refusals in the order 1, 2, 7, 8, then the steps from the first, each
+-- Check (docs/RULES.md, "Calls"): a plan for a number, with a lent work space. Refusals in the order 1, 13, 2, 7, 8, then the steps from the first, each
 -- tested for 9 before 10 or 11, then 12.
 use Prim.Native.Nat.{ℕ, _+_, _*_, _/_, _%_}
 use mathlib.Core.Bool.{Bool, not, _||_, cond}
@@ -22,7 +22,7 @@ use Rattle.step_checking.specs.Verdicts.{stepVerdict}
 use Rattle.work_space.specs.End.{isSame}
 use Rattle.records.specs.Recording.{recorded}
 
--- ---- before the steps: 1, 2, 7, 8
+-- ---- before the steps: 1, 13, 2, 7, 8
 
 -- the room that the records of a plan of this many bytes take: record 0 and one for each step
 abbrev pub roomFor : ℕ → ℕ
@@ -63,7 +63,7 @@ stepsVerdict number plan =
     let r = length (stepsOf plan) in
     andThen (judged plan .verdict) (endVerdict number (at (judged plan .values) r) r)
 
--- ---- the answer, and the work space: untouched at 1, 2, 7 and 8; else the records of the values by then, and the bytes past these stay
+-- ---- the answer, and the work space: untouched at 1, 13, 2, 7 and 8; else the records of the values by then, and the bytes past these stay
 abbrev pub checkAnswer : List ℕ → List ℕ → ℕ → Counted
 checkAnswer number plan room = unlessFailed Refused (andThen (admission number (length plan) room) (stepsVerdict number plan)) (Steps (countsOf (stepsOf plan)))
 

@@ -19,7 +19,7 @@ ghost use Rattle.checking.specs.Check.{admission, checkAnswer, checkSpac
 // The most bytes of a plan.
 const PLAN_BYTES: usize = STEP_BYTES * PLAN_STEPS;
 
-// The tests before the steps: refusals 1, 2, 7 and 8.
+// The tests before the steps: refusals 1, 13, 2, 7 and 8.
 fn admit(number: &[u8], plan_length: usize, room: usize) -> Verdict
     ensures { λ r. ⌜ r ≡ admission (now (number .entry)) «plan_length» room ⌝ }
 {

@@ -10,7 +10,7 @@ unfoldable pub positional : ℕ → List ℕ → ℕ
 positional base [] = 0
 positional base (d ∷ ds) = d + base * positional base ds
 
--- a number (docs/RULES.md, 1.2 and 1.3): no bytes mean zero, and high zero bytes change nothing
+-- the value of a number (docs/RULES.md, 1.2): no bytes mean zero
 abbrev pub bytesValue : List ℕ → ℕ
 bytesValue bytes = positional 256 bytes
 

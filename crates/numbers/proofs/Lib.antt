@@ -1,2 +1,2 @@
 pub mod Tests
-pub mod HighZeros
+pub mod Spelling

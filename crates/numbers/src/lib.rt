@@ -1,30 +1,42 @@
 // The tests that every call makes of the number that it is handed (docs/RULES.md, "Numbers").
-use integers::significant;
 use rules::NUMBER_BYTES;
 use rules::Refusal;
 use rules::Verdict;
 ghost use mathlib.Core.Path.{_≡_};
-ghost use Rattle.numbers.specs.Admission.{numberVerdict, positiveVerdict};
+ghost use Rattle.numbers.specs.Admission.{isPadded, numberVerdict, positiveVerdict};
 
-// Refusal 1.
+// Whether the highest byte is zero. The empty number has none.
+fn is_padded(number: &[u8]) -> bool
+    ensures { λ r. ⌜ r ≡ isPadded (now (number .entry)) ⌝ }
+{
+    let length = number.len();
+    if length == 0 {
+        return false;
+    }
+    number[length - 1] == 0
+}
+
+// Refusal 1, then 13.
 pub fn number_verdict(number: &[u8]) -> Verdict
     ensures { λ r. ⌜ r ≡ numberVerdict (now (number .entry)) ⌝ }
 {
     if NUMBER_BYTES < number.len() {
-        Verdict::Failed(Refusal::NumberTooLong)
-    } else {
-        Verdict::Passed
+        return Verdict::Failed(Refusal::NumberTooLong);
     }
+    if is_padded(number) {
+        return Verdict::Failed(Refusal::HighestByteIsZero);
+    }
+    Verdict::Passed
 }
 
-// The same, then refusal 2.
+// The same, then refusal 2: past the others, only the empty number is zero.
 pub fn positive_verdict(number: &[u8]) -> Verdict
     ensures { λ r. ⌜ r ≡ positiveVerdict (now (number .entry)) ⌝ }
 {
     if let Verdict::Failed(refusal) = number_verdict(number) {
         return Verdict::Failed(refusal);
     }
-    if significant(number) == 0 {
+    if number.len() == 0 {
         return Verdict::Failed(Refusal::NumberIsZero);
     }
     Verdict::Passed

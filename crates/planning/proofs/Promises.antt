@@ -7,13 +7,13 @@ use lib.ListN.{length, drop}
 use Rattle.rules.specs.Limits.{numberBytes}
 use Rattle.rules.specs.Outcome.{Outcome, refused, answered, refusal, outcomeOf, countedOutcome, countValues}
 use Rattle.rules.specs.declared.Refusal.{Refusal}
-use Rattle.rules.specs.declared.Refusal.the-variants.{NumberTooLong, NumberIsZero, MethodOrWidth}
+use Rattle.rules.specs.declared.Refusal.the-variants.{NumberTooLong, NumberIsZero, MethodOrWidth, HighestByteIsZero}
 use Rattle.rules.specs.declared.Written.{Written}
 use Rattle.rules.proofs.Fitted.{too-small, fits, by-room}
 use Rattle.rules.proofs.Memory as memory
 use Rattle.integers.specs.Positional.{bytesValue}
-use Rattle.numbers.specs.Admission.{Admitted, Positive}
-use Rattle.numbers.proofs.Tests.{too-long, refused as number-refused, is-zero}
+use Rattle.numbers.specs.Admission.{Padded, Admitted, Positive}
+use Rattle.numbers.proofs.Tests.{too-long, padded, refused as number-refused, is-zero}
 use Rattle.chains.specs.Steps.{planBytesOf}
 use Rattle.chains.specs.Counts.{countsOf}
 use Rattle.methods.specs.declared.Method.{Method}
@@ -35,16 +35,19 @@ module _ (number : List ℕ) (method width : ℕ) where
   -- the refusals that both calls give, each with what it is given for
   pub data Refuses : Outcome → Type 0 where
     one : numberBytes < length number → Refuses (refused 1 0)
+    thirteen : length number ≤ numberBytes → Padded number → Refuses (refused 13 0)
     two : Admitted number → bytesValue number ≡ 0 → Refuses (refused 2 0)
     three : Positive number → methodOf method width ≡ Chosen.Refused MethodOrWidth → Refuses (refused 3 0)
 
   refuses-only : {o : Outcome} → Refuses o → (r : Refusal) × (request number method width ≡ Chosen.Refused r) × (refusal r ≡ o)
   refuses-only (one h) = (NumberTooLong, requests-only number method width (stopped (number-refused (too-long h))), refl)
+  refuses-only (thirteen h p) = (HighestByteIsZero, requests-only number method width (stopped (number-refused (padded h p))), refl)
   refuses-only (two a z) = (NumberIsZero, requests-only number method width (stopped (is-zero a z)), refl)
   refuses-only (three p e) = (MethodOrWidth, requests-only number method width (chosen p e), refl)
 
   refuses-one : {r : Refusal} → Requests number method width (Chosen.Refused r) → Refuses (refusal r)
   refuses-one (stopped (number-refused (too-long h))) = one h
+  refuses-one (stopped (number-refused (padded h p))) = thirteen h p
   refuses-one (stopped (is-zero a z)) = two a z
   refuses-one (chosen p e) = let q = refused-3 method width e in rw q (three p (rw q at e))
 
@@ -76,6 +79,10 @@ module _ (number : List ℕ) (method width : ℕ) where
   -- 1, place 0: the number is longer than the limit
   pub forecast-refuses-1 : forecasts ≡ refused 1 0 ↔ numberBytes < length number
   forecast-refuses-1 = (λ e. elim (forecast-given e) [ refuses (one h) ↦ h ], λ h. forecast-given-only (refuses (one h)))
+
+  -- 13, place 0: its highest byte is zero
+  pub forecast-refuses-13 : forecasts ≡ refused 13 0 ↔ (length number ≤ numberBytes) × Padded number
+  forecast-refuses-13 = (λ e. elim (forecast-given e) [ refuses (thirteen h p) ↦ (h, p) ], λ h. forecast-given-only (refuses (thirteen (h .0) (h .1))))
 
   -- 2, place 0: the number is zero
   pub forecast-refuses-2 : forecasts ≡ refused 2 0 ↔ Admitted number × (bytesValue number ≡ 0)
@@ -125,6 +132,10 @@ module _ (number : List ℕ) (method width : ℕ) where
     -- 1, place 0
     pub plan-refuses-1 : plans ≡ refused 1 0 ↔ numberBytes < length number
     plan-refuses-1 = (λ e. elim (plan-given e) [ refuses (one h) ↦ h ], λ h. plan-given-only (refuses (one h)))
+
+    -- 13, place 0
+    pub plan-refuses-13 : plans ≡ refused 13 0 ↔ (length number ≤ numberBytes) × Padded number
+    plan-refuses-13 = (λ e. elim (plan-given e) [ refuses (thirteen h p) ↦ (h, p) ], λ h. plan-given-only (refuses (thirteen (h .0) (h .1))))
 
     -- 2, place 0
     pub plan-refuses-2 : plans ≡ refused 2 0 ↔ Admitted number × (bytesValue number ≡ 0)

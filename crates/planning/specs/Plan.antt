@@ -1,4 +1,4 @@
--- Plan and forecast (docs/RULES.md, "Calls"): from number, method and width. Refusals in the order 1, 2, 3, and 6 for plan.
+-- Plan and forecast (docs/RULES.md, "Calls"): from number, method and width. Refusals in the order 1, 13, 2, 3, and 6 for plan.
 use Prim.Native.Nat.{ℕ}
 use mathlib.Core.List.{List, []}
 use lib.ListN.{length}

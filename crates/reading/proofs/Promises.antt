@@ -5,7 +5,7 @@ use mathlib.Core.List.{List, [], _∷_, _++_}
 use Prim.Native.Nat.{ℕ, zero, suc, _<_, _≤_}
 use native.Mathlib.Omega.{arith}
 use lib.IntN.{ℤ, pos, negsuc, negℤ, natAbs}
-use lib.ListN.{length, take, drop, replicate}
+use lib.ListN.{length, take, drop}
 use lib.Seq.{take-append-seam}
 use Rattle.rules.specs.Limits.{stringDigits}
 use Rattle.rules.specs.Outcome.{Outcome, refused, answered, outcomeOf}
@@ -14,9 +14,10 @@ use Rattle.rules.specs.declared.Written.the-variants.{Length, Refused}
 use Rattle.rules.proofs.Memory as memory
 use Rattle.integers.specs.Positional.{bytesValue, bytesOf}
 use Rattle.integers.specs.Signed.{signOf}
-use Rattle.integers.proofs.Positional.{Below, positional-zeros}
+use Rattle.integers.proofs.Positional.{Below}
 use Rattle.integers.proofs.Shortest.{TopByte, bytes-zero, bytes-value, bytes-below, bytes-top, bytes-only}
 use Rattle.numbers.specs.Admission.{Admitted}
+use Rattle.numbers.proofs.Spelling.{own-bytes}
 use Rattle.signed_digits.specs.Naf.{canonicalWidth}
 use Rattle.digit_strings.specs.Admission.{stringVerdict, stringValue, DigitString, LowestBad}
 use Rattle.digit_strings.proofs.Bytes.{naf-digits, naf-bytes-value}
@@ -141,16 +142,15 @@ module _ (number : List ℕ) (admitted : Admitted number) (bytes : Below 256 num
       let z : ℤ = pos (bytesValue number) in
       (naf-digits canonicalWidth (omega arith) z (omega arith) (omega (arith, recoding-length number bytes, admitted .short)), naf-bytes-value canonicalWidth (omega arith) z (omega arith))
 
-  -- read back with room enough, it gives the number's bytes
-  pub reads-recoding : (out : List ℕ) → length (bytesOf (bytesValue number)) ≤ length out
-      → (outcome (recoding number) (length out) ≡ answered (0 ∷ length (bytesOf (bytesValue number)) ∷ []))
-      × (readBackBuffer (recoding number) out ≡ bytesOf (bytesValue number) ++ drop (length (bytesOf (bytesValue number))) out)
+  -- read back with room enough, it gives the number's own bytes
+  pub reads-recoding : (out : List ℕ) → length number ≤ length out
+      → (outcome (recoding number) (length out) ≡ answered (0 ∷ length number ∷ [])) × (readBackBuffer (recoding number) out ≡ number ++ drop (length number) out)
   unfolding sizeBytes
-  reads-recoding out h =
-      let v = recoding-reads .1 in
-      let o = answers (recoding number) (length out) (0 ∷ length (bytesOf (bytesValue number)) ∷ []) .1 (recoding-reads .0, rw v h, rw v) in
-      (o, answered-leaves (recoding number) out _ o ∙ rw v)
-
--- these are the number itself, high zero bytes aside
-pub number-bytes : (number : List ℕ) (n : ℕ) → Below 256 number → TopByte number → bytesOf (bytesValue (number ++ replicate n 0)) ≡ number
-number-bytes number n b t = rw (positional-zeros 256 n number) (sym (bytes-only number b t))
+  reads-recoding out = go number (own-bytes number bytes admitted)
+    where
+      go : (own : List ℕ) → own ≡ bytesOf (bytesValue number) → length own ≤ length out
+          → (outcome (recoding number) (length out) ≡ answered (0 ∷ length own ∷ [])) × (readBackBuffer (recoding number) out ≡ own ++ drop (length own) out)
+      go own e h =
+          let v = recoding-reads .1 in
+          let o = answers (recoding number) (length out) (0 ∷ length own ∷ []) .1 (recoding-reads .0, rw (v, ← e) h, rw (v, e)) in
+          (o, answered-leaves (recoding number) out _ o ∙ rw (v, e))

@@ -2,11 +2,9 @@
 use mathlib.Core.Path.{_≡_, refl, ap, _∙_}
 use mathlib.Core.Logic.{_↔_}
 use mathlib.Core.List.{List, [], _∷_, _++_}
-use Prim.Native.Nat.{ℕ, _+_, _*_, _<_, _≤_, _^_}
-use native.Mathlib.Omega.{arith}
+use Prim.Native.Nat.{ℕ, _+_, _*_, _<_, _≤_}
 use lib.IntN.{ℤ, pos}
 use lib.ListN.{length, drop}
-use lib.Pow.{pow-add}
 use Rattle.rules.specs.Limits.{numberBytes}
 use Rattle.rules.specs.declared.Refusal.{Refusal}
 use Rattle.rules.specs.declared.Verdict.the-variants.{Failed}
@@ -14,16 +12,15 @@ use Rattle.rules.specs.Outcome.{Outcome, refused, answered, refusal, writtenOut
 use Rattle.rules.proofs.Memory as memory
 use Rattle.rules.proofs.Memory.{Writes, stopped, no-room, all-fits, writes-only, writes-one}
 use Rattle.integers.specs.Positional.{positional, bytesValue}
-use Rattle.integers.proofs.Positional.{Below, positional-lt}
-use Rattle.integers.proofs.Bits.{power-of-bytes}
-use Rattle.numbers.specs.Admission.{numberVerdict, Admitted}
-use Rattle.numbers.proofs.Tests.{NumberTest, too-long, number-only, number-test, admitted-is}
+use Rattle.integers.proofs.Positional.{Below}
+use Rattle.numbers.specs.Admission.{Padded, numberVerdict, Admitted}
+use Rattle.numbers.proofs.Tests.{NumberTest, too-long, padded, number-only, number-test, admitted-is}
 use Rattle.signed_digits.specs.Strings.{value}
 use Rattle.signed_digits.specs.Form.{Canonical}
 use Rattle.signed_digits.specs.Naf.{canonical, naf, digitsOf}
 use Rattle.signed_digits.specs.Bytes.{digitBytes}
 use Rattle.signed_digits.proofs.Canonical.{canonical-form, canonical-value, canonical-only}
-use Rattle.signed_digits.proofs.Length.{length-at-most}
+use Rattle.recoding_digits.proofs.TopByte.{most-digits}
 use Rattle.recoding.specs.Recode.{recoding, recodeAnswer, recodeBuffer}
 use Rattle.recoding.proofs.Outcomes.{length-recoding}
 
@@ -37,6 +34,7 @@ module _ (number : List ℕ) (room : ℕ) where
   -- each outcome, with what led there
   pub data Given : Outcome → Type 0 where
     one : numberBytes < length number → Given (refused 1 0)
+    thirteen : length number ≤ numberBytes → Padded number → Given (refused 13 0)
     six : {p : ℕ} → Admitted number → room < length (recoding number) → p ≡ length (recoding number) → Given (refused 6 p)
     fits : {vs : List ℕ} → Admitted number → length (recoding number) ≤ room → vs ≡ length (recoding number) ∷ [] → Given (answered vs)
 
@@ -45,11 +43,13 @@ module _ (number : List ℕ) (room : ℕ) where
 
   given-only : {o : Outcome} → Given o → outcome ≡ o
   given-only (one h) = only (stopped (number-only number (too-long h)))
+  given-only (thirteen h p) = only (stopped (number-only number (padded h p)))
   given-only (six a h e) = rw e (only (no-room (admitted-is number .1 a) h))
   given-only (fits a h e) = rw e (only (all-fits (admitted-is number .1 a) h))
 
   stops : {r : Refusal} → NumberTest number (Failed r) → Given (refusal r)
   stops (too-long h) = one h
+  stops (padded h p) = thirteen h p
 
   -- every outcome is one of these
   pub no-other : Given outcome
@@ -66,6 +66,10 @@ module _ (number : List ℕ) (room : ℕ) where
   -- 1, place 0: the number is longer than the limit
   pub refuses-1 : outcome ≡ refused 1 0 ↔ numberBytes < length number
   refuses-1 = (λ e. elim (given e) [ one h ↦ h ], λ h. given-only (one h))
+
+  -- 13, place 0: its highest byte is zero
+  pub refuses-13 : outcome ≡ refused 13 0 ↔ (length number ≤ numberBytes) × Padded number
+  refuses-13 = (λ e. elim (given e) [ thirteen h p ↦ (h, p) ], λ h. given-only (thirteen (h .0) (h .1)))
 
   -- 6, place the bytes needed: the digits are more than the bytes lent
   pub refuses-6 : (p : ℕ) → outcome ≡ refused 6 p ↔ Admitted number × (room < length (recoding number)) × (p ≡ length (recoding number))
@@ -95,12 +99,7 @@ recoding-empty = refl
 
 -- n bytes have at most 8 n + 1 digits
 pub recoding-length : (number : List ℕ) → Below 256 number → length (recoding number) ≤ 8 * length number + 1
-recoding-length number b =
-    let e : ℕ = bytesValue number in
-    let h : e < 256 ^ length number = positional-lt 256 (length number) number (omega arith) b in
-    let p : 2 ^ (8 * length number + 2) ≡ 256 ^ length number * 4 = rw (power-of-bytes (length number)) (pow-add 2 (8 * length number) 2) in
-    let q : 8 * length number + 1 + 1 ≡ 8 * length number + 2 = omega arith in
-    rw (length-recoding number) (length-at-most e (8 * length number + 1) .1 (rw (q, p) (omega arith)))
+recoding-length number b = rw (length-recoding number) (most-digits number b)
 
 -- ---- memory
 

@@ -1,4 +1,4 @@
--- Recode (docs/RULES.md, "Calls"): a number into its canonical string. Refusals in the order 1, 6.
+-- Recode (docs/RULES.md, "Calls"): a number into its canonical string. Refusals in the order 1, 13, 6.
 use Prim.Native.Nat.{ℕ}
 use mathlib.Core.List.{List}
 use lib.IntN.{pos}

@@ -6,10 +6,12 @@ use native.Mathlib.Omega.{arith}
 use lib.Count.{leadingZeros, leading-length}
 use lib.IntN.{pos}
 use lib.ListN.{length, getD}
+use lib.Pow.{pow-add}
 use Rattle.integers.specs.Positional.{bytesValue, Significant}
-use Rattle.integers.proofs.Positional.{Below, positional-nonzero}
-use Rattle.integers.proofs.Bits.{top-byte, length-from}
+use Rattle.integers.proofs.Positional.{Below, positional-lt, positional-nonzero}
+use Rattle.integers.proofs.Bits.{power-of-bytes, top-byte, length-from}
 use Rattle.signed_digits.specs.Naf.{canonical}
+use Rattle.signed_digits.proofs.Length.{length-at-most}
 use Rattle.signed_digits.proofs.Steps.{naf-zero}
 use Rattle.recoding_digits.specs.Internal.{tripleCarry}
 use Rattle.recoding_digits.proofs.Triple.{triple-div, digit-count}
@@ -40,6 +42,15 @@ module _ (number : List ℕ) (n : ℕ) (bytes : Below 256 number) (s : Significa
       least (suc zero) l = absurd (omega (arith, s .top some))
       least (suc (suc m)) l = omega arith
 
--- a number with no significant byte is zero
+-- zero has none
 pub count-zero : (number : List ℕ) → bytesValue number ≡ 0 → length (canonical (pos (bytesValue number))) ≡ 0
 count-zero number z = ap (λ (e : ℕ). length (canonical (pos e))) z ∙ ap length (naf-zero 2)
+
+-- n bytes have at most 8 n + 1 digits
+pub most-digits : (number : List ℕ) → Below 256 number → length (canonical (pos (bytesValue number))) ≤ 8 * length number + 1
+most-digits number b =
+    let e : ℕ = bytesValue number in
+    let h : e < 256 ^ length number = positional-lt 256 (length number) number (omega arith) b in
+    let p : 2 ^ (8 * length number + 2) ≡ 256 ^ length number * 4 = rw (power-of-bytes (length number)) (pow-add 2 (8 * length number) 2) in
+    let q : 8 * length number + 1 + 1 ≡ 8 * length number + 2 = omega arith in
+    length-at-most e (8 * length number + 1) .1 (rw (q, p) (omega arith))

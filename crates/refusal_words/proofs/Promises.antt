@@ -9,7 +9,7 @@ use lib.ListN.{length, getD, drop}
 use Rattle.rules.specs.Refusals.{refusalNumber}
 use Rattle.rules.specs.Outcome.{Outcome, refused, answered, writtenOutcome}
 use Rattle.rules.specs.declared.Refusal.{Refusal}
-use Rattle.rules.specs.declared.Refusal.the-variants.{NumberTooLong, NumberIsZero, MethodOrWidth, NotADigit, StringTooLong, RoomTooSmall, PlanLength, WorkSpaceTooShort, MalformedStep, ValueIsZero, ValueTooLarge, WrongEnd}
+use Rattle.rules.specs.declared.Refusal.the-variants.{NumberTooLong, NumberIsZero, MethodOrWidth, NotADigit, StringTooLong, RoomTooSmall, PlanLength, WorkSpaceTooShort, MalformedStep, ValueIsZero, ValueTooLarge, WrongEnd, HighestByteIsZero}
 use Rattle.rules.specs.declared.Written.the-variants.{Length}
 use Rattle.rules.proofs.Fitted.{fits}
 use Rattle.rules.proofs.Untested as untested
@@ -56,6 +56,7 @@ every-refusal (MalformedStep _) = omega (arith, count)
 every-refusal (ValueIsZero _) = omega (arith, count)
 every-refusal (ValueTooLarge _) = omega (arith, count)
 every-refusal (WrongEnd _) = omega (arith, count)
+every-refusal HighestByteIsZero = omega (arith, count)
 
 -- ---- each outcome is given exactly when the rules say, and no other
 

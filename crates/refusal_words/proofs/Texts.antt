@@ -58,12 +58,12 @@ part d n (t ∷ ts) (suc k) h =
 
 -- ---- of the refusals
 
-pub count : length texts ≡ 13
+pub count : length texts ≡ 14
 unfolding texts
 count = refl
 
 module _ (refusal : ℕ) where
-  pub no-such : 12 < refusal → words refusal ≡ "no such refusal"
+  pub no-such : 13 < refusal → words refusal ≡ "no such refusal"
   unfolding words
   no-such h = List·getD-eq-default texts "no such refusal" (omega (arith, count))
 
@@ -73,7 +73,7 @@ module _ (refusal : ℕ) where
   abbrev to : ℕ
   to = getD (starts 0 texts) (refusal + 1) 0
 
-  module _ (h : refusal ≤ 12) where
+  module _ (h : refusal ≤ 13) where
     its-part : Part 0 (joined texts) from to (textBytes (words refusal))
     unfolding words
     its-part = rw add-one (part "no such refusal" 0 texts refusal (omega (arith, count)))

@@ -12,7 +12,7 @@ unfoldable pub textBytes : String → List ℕ
 textBytes [] = []ᴸ
 textBytes (c ∷ text) = code c ∷ᴸ textBytes text
 
--- what the refusals say, from 0, which is none, to 12
+-- what the refusals say, from 0, which is none, to 13
 unfoldable pub texts : List String
 texts =
     "not refused"
@@ -28,6 +28,7 @@ texts =
     ∷ᴸ "the value at this step is zero"
     ∷ᴸ "the value at this step is too large"
     ∷ᴸ "the last value, at this position, is not the number"
+    ∷ᴸ "the highest byte of the number is zero"
     ∷ᴸ []ᴸ
 
 -- what a number says: a refusal's text, or that there is no such refusal

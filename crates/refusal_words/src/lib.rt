@@ -6,8 +6,8 @@ ghost use lib.ListN.{length};
 ghost use Rattle.rules.specs.Memory.{fitted, leaves};
 ghost use Rattle.refusal_words.specs.Words.{wordsAnswer, wordsBuffer};
 
-// What the refusals say, from 0, which is none, to 12, one text behind another.
-const TEXTS: [u8; 487] = *b"not refused\
+// What the refusals say, from 0, which is none, to 13, one text behind another.
+const TEXTS: [u8; 525] = *b"not refused\
     the number is too long\
     the number is zero\
     no such method, or a width that it does not allow\
@@ -19,10 +19,11 @@ const TEXTS: [u8; 487] = *b"not refused\
     this step has an unknown operation, or a position that is not below its own\
     the value at this step is zero\
     the value at this step is too large\
-    the last value, at this position, is not the number";
+    the last value, at this position, is not the number\
+    the highest byte of the number is zero";
 
 // Where each text starts, and where the last ends.
-const STARTS: [usize; 14] = [
+const STARTS: [usize; 15] = [
     0,
     11,
     33,
@@ -37,6 +38,7 @@ const STARTS: [usize; 14] = [
     401,
     436,
     487,
+    525,
 ];
 
 // Puts a text at the start of a buffer that has room for all of it.
@@ -60,7 +62,7 @@ pub fn write_words(refusal: usize, out: &mut [u8]) -> Written
     ensures answer { λ r. ⌜ r ≡ wordsAnswer refusal (length (now (out .entry))) ⌝ }
     ensures buffer { λ r. ⌜ now (out .exit) ≡ wordsBuffer refusal (now (out .entry)) ⌝ }
 {
-    if 12 < refusal {
+    if 13 < refusal {
         return copy(b"no such refusal", out);
     }
     copy(&TEXTS[STARTS[refusal]..STARTS[refusal + 1]], out)

@@ -1,4 +1,4 @@
--- What is asked for by number, method and width (docs/RULES.md, "Calls"): a method, or refusal 1, 2 or 3, in this order.
+-- What is asked for by number, method and width (docs/RULES.md, "Calls"): a method, or refusal 1, 13, 2 or 3, in this order.
 use Prim.Native.Nat.{ℕ}
 use mathlib.Core.List.{List}
 use Rattle.rules.specs.Outcome.{unlessFailed}
@@ -14,6 +14,6 @@ abbrev pub verdictOf : Chosen → Verdict
 verdictOf (Method m) = Passed
 verdictOf (Refused r) = Failed r
 
--- refusals 1 and 2, then the method that is asked for or 3
+-- refusals 1, 13 and 2, then the method that is asked for or 3
 unfoldable pub request : List ℕ → ℕ → ℕ → Chosen
 request number method width = unlessFailed Refused (positiveVerdict number) (methodOf method width)

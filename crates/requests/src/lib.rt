@@ -1,4 +1,4 @@
-// What is asked for by number, method and width: refusals 1, 2 and 3, in this order.
+// What is asked for by number, method and width: refusals 1, 13, 2 and 3, in this order.
 use methods::Chosen;
 use methods::FIXED_WINDOW_BITS;
 use methods::Method;
@@ -37,7 +37,7 @@ fn method_of(method: u32, width: u32) -> Chosen
     }
 }
 
-// The same, after refusals 1 and 2.
+// The same, after refusals 1, 13 and 2.
 pub fn requested(number: &[u8], method: u32, width: u32) -> Chosen
     ensures { λ r. ⌜ r ≡ request (now (number .entry)) method width ⌝ }
 {

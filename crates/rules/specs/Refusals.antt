@@ -1,7 +1,7 @@
 -- docs/RULES.md, 6.1: the number and the place of each refusal.
 use Prim.Native.Nat.{ℕ}
 use Rattle.rules.specs.declared.Refusal.{Refusal}
-use Rattle.rules.specs.declared.Refusal.the-variants.{NumberTooLong, NumberIsZero, MethodOrWidth, NotADigit, StringTooLong, RoomTooSmall, PlanLength, WorkSpaceTooShort, MalformedStep, ValueIsZero, ValueTooLarge, WrongEnd}
+use Rattle.rules.specs.declared.Refusal.the-variants.{NumberTooLong, NumberIsZero, MethodOrWidth, NotADigit, StringTooLong, RoomTooSmall, PlanLength, WorkSpaceTooShort, MalformedStep, ValueIsZero, ValueTooLarge, WrongEnd, HighestByteIsZero}
 
 abbrev pub refusalNumber : Refusal → ℕ
 refusalNumber NumberTooLong = 1
@@ -16,6 +16,7 @@ refusalNumber (MalformedStep i) = 9
 refusalNumber (ValueIsZero i) = 10
 refusalNumber (ValueTooLarge i) = 11
 refusalNumber (WrongEnd r) = 12
+refusalNumber HighestByteIsZero = 13
 
 abbrev pub refusalPlace : Refusal → ℕ
 refusalPlace NumberTooLong = 0
@@ -30,3 +31,4 @@ refusalPlace (MalformedStep i) = i
 refusalPlace (ValueIsZero i) = i
 refusalPlace (ValueTooLarge i) = i
 refusalPlace (WrongEnd r) = r
+refusalPlace HighestByteIsZero = 0

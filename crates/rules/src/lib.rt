@@ -7,7 +7,7 @@ ghost use Rattle.rules.specs.Limits.{documented};
 ghost use Rattle.rules.specs.Refusals.{refusalNumber, refusalPlace};
 
 // The version: 10000 * major + 100 * minor + patch.
-pub const VERSION: u32 = 300;
+pub const VERSION: u32 = 400;
 
 // The most bytes of a number.
 pub const NUMBER_BYTES: usize = 48;
@@ -81,6 +81,8 @@ pub enum Refusal {
     ValueTooLarge(usize),
     // All steps sound, and the last value, at this position, is not the number.
     WrongEnd(usize),
+    // Highest byte of the number is zero.
+    HighestByteIsZero,
 }
 
 impl Refusal {
@@ -101,6 +103,7 @@ impl Refusal {
             Refusal::ValueIsZero(_) => 10,
             Refusal::ValueTooLarge(_) => 11,
             Refusal::WrongEnd(_) => 12,
+            Refusal::HighestByteIsZero => 13,
         }
     }
 
@@ -121,6 +124,7 @@ impl Refusal {
             Refusal::ValueIsZero(step) => step,
             Refusal::ValueTooLarge(step) => step,
             Refusal::WrongEnd(step) => step,
+            Refusal::HighestByteIsZero => 0,
         }
     }
 }

@@ -27,7 +27,7 @@ returns c = rw (sym (c .before .before .before .positive-verdict .ensures) ∙ c
 enum-told : tie.Need-enum-told
 enum-told c = search needs
 
--- past refusals 1 and 2
+-- past refusals 1, 13 and 2
 passed : (c : tie.After-enum-told) → positiveVerdict (c .before .before .before .before .args .number .now) ≡ Passed
 passed c = sym (c .before .before .positive-verdict .ensures) ∙ c .enum-told .given .1
 

@@ -44,7 +44,7 @@ returns c =
 enum-told : tie.Need-enum-told Inv-loop μ-loop
 enum-told c = search needs
 
--- past refusals 1, 2, 7 and 8
+-- past refusals 1, 13, 2, 7 and 8
 passed : (c : tie.After-enum-told Inv-loop μ-loop)
     → let args = c .before .before .before .before .before .before .args in admission (args .number .now) (length (args .plan .now)) (length (args .space .now)) ≡ Passed
 passed c = sym (c .before .before .admit .ensures) ∙ c .enum-told .given .1

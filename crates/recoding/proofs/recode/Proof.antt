@@ -17,7 +17,7 @@ use borrow.Author.Needs.{needs}
 use Rattle.recoding.proofs.recode.Statement.{statement}
 use Rattle.recoding.proofs.recode.Tie as tie
 
--- past refusal 1
+-- past refusals 1 and 13
 passed : (c : tie.After-enum-told) → numberVerdict (c .before .before .before .before .before .args .number .now) ≡ Passed
 passed c = sym (c .before .before .number-verdict .ensures) ∙ c .enum-told .given .1
 

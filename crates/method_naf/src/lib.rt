@@ -2,10 +2,9 @@
 mod words;
 
 use plan_writing::Cursor;
-use recoding::recode;
+use recoding_digits::count;
 use rules::Counts;
 use rules::NUMBER_BYTES;
-use rules::Written;
 ghost use mathlib.Core.Path.{_≡_};
 ghost use mathlib.Core.Logic.{_≢_};
 ghost use mathlib.Core.List.{List, _++_};
@@ -13,7 +12,6 @@ ghost use Prim.Native.Nat.{ℕ, _+_, _*_, _≤_};
 ghost use lib.IntN.{ℤ};
 ghost use lib.ListN.{length, drop};
 ghost use Rattle.rules.specs.Limits.{stepBytes};
-ghost use Rattle.rules.specs.Memory.{lengthWritten};
 ghost use Rattle.integers.specs.Positional.{bytesValue};
 ghost use Rattle.integers.specs.Signed.{signOf};
 ghost use Rattle.numbers.specs.Admission.{Admitted, Positive};
@@ -28,22 +26,14 @@ ghost use Rattle.method_naf.specs.Digits.{Digit, Recoded};
 // The most canonical digits of a number within the limit: one more than it has bits.
 const MOST_DIGITS: usize = 8 * NUMBER_BYTES + 1;
 
-// The length that was answered.
-fn length_of(written: Written) -> usize
-    ensures { λ r. ⌜ r ≡ lengthWritten written ⌝ }
-{
-    match written {
-        Written::Length(n) => n,
-        Written::Refused(_) => 0,
-    }
-}
-
 // Puts the canonical digits of a number at the start of an array; answers how many there are.
 fn recoded(number: &[u8], digits: &mut [u8; MOST_DIGITS]) -> usize
     requires { ⌜ Admitted (now number) ⌝ }
     ensures { λ r. ⌜ Recoded (now (number .entry)) (now (digits .exit)) r ⌝ }
 {
-    length_of(recode(number, digits))
+    let length = count(number);
+    recoding_digits::write(number, digits, length);
+    length
 }
 
 // The counts of the steps for a number above zero: a doubling for each digit below the top one, which

@@ -1,23 +1,16 @@
--- What recode writes, and that it answers the length if there is room: for its own proof and those of its callers. Assumes nothing.
+-- What recode writes, for its own proof. Assumes nothing.
 use mathlib.Core.Path.{_≡_}
 use mathlib.Core.List.{List, _++_}
-use Prim.Native.Nat.{ℕ, _≤_}
+use Prim.Native.Nat.{ℕ}
 use lib.IntN.{pos}
 use lib.ListN.{length, drop, length-map}
-use Rattle.rules.specs.declared.Written.the-variants.{Length}
-use Rattle.rules.proofs.Fitted.{fits}
 use Rattle.integers.specs.Positional.{bytesValue}
 use Rattle.integers.specs.Tabulate.{tabulate}
-use Rattle.numbers.specs.Admission.{Admitted}
-use Rattle.numbers.proofs.Tests.{number-only, admitted}
 use Rattle.signed_digits.specs.Naf.{canonical}
 use Rattle.signed_digits.specs.Bytes.{digitByte}
 use Rattle.digit_strings.specs.Places.{placeByte}
 use Rattle.digit_strings.proofs.Places.{places-written}
-use Rattle.recoding.specs.Recode.{recoding, recodeAnswer}
-
-pub length-answered : (number : List ℕ) (room : ℕ) → Admitted number → length (recoding number) ≤ room → recodeAnswer number room ≡ Length (length (recoding number))
-length-answered number room a h = rw (number-only number (admitted a), fits (recoding number) room h)
+use Rattle.recoding.specs.Recode.{recoding}
 
 -- a byte a digit
 pub length-recoding : (number : List ℕ) → length (recoding number) ≡ length (canonical (pos (bytesValue number)))

@@ -2,7 +2,6 @@
 // place i is the bit of 3 e at i + 1, less that of e. So no digit waits for another, and
 // the work is linear in the number's bytes.
 use integers::byte_at;
-use integers::significant;
 ghost use mathlib.Core.Path.{_≡_};
 ghost use mathlib.Core.List.{_++_};
 ghost use Prim.Native.Nat.{_+_, _*_, _≤_};
@@ -30,12 +29,13 @@ fn carry_into(number: &[u8], n: usize) -> u64
     carry
 }
 
-// How many digits the canonical string has: one fewer than the bits of three times the number.
+// How many digits the canonical string has: one fewer than the bits of three times the number. Its
+// highest byte is not zero.
 pub fn count(number: &[u8]) -> usize
     requires { ⌜ Admitted (now number) ⌝ }
     ensures { λ r. ⌜ r ≡ length (canonical (pos (bytesValue (now (number .entry))))) ⌝ }
 {
-    let n = significant(number);
+    let n = number.len();
     if n == 0 {
         return 0;
     }

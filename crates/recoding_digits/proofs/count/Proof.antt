@@ -5,7 +5,8 @@ use native.Mathlib.Omega.{arith}
 use lib.Count.{leadingZeros}
 use lib.IntN.{pos}
 use lib.ListN.{length}
-use Rattle.integers.specs.Positional.{positional, bytesValue}
+use Rattle.integers.specs.Positional.{bytesValue}
+use Rattle.numbers.proofs.Tests.{all-significant, zero-if-empty}
 use Rattle.signed_digits.specs.Naf.{canonical}
 use Rattle.recoding_digits.proofs.Triple.{carry-small}
 use Rattle.recoding_digits.proofs.TopByte.{count-is, count-zero}
@@ -15,27 +16,18 @@ use Rattle.recoding_digits.proofs.count.Tie as tie
 
 -- at the end: the count is right, and the subtraction in it does not wrap
 counted : (c : tie.After-carry-into)
-    → (leadingZeros 64 (3 * c .before .byte-at .result + c .carry-into .result) ≤ 62)
-    × (8 * (c .before .before .before .significant .result - 1) + (63 - leadingZeros 64 (3 * c .before .byte-at .result + c .carry-into .result))
-    ≡ length (canonical (pos (bytesValue (c .before .before .before .before .before .args .number .now)))))
+    → let number = c .before .before .before .before .args .number .now in
+    (leadingZeros 64 (3 * c .before .byte-at .result + c .carry-into .result) ≤ 62)
+    × (8 * (length number - 1) + (63 - leadingZeros 64 (3 * c .before .byte-at .result + c .carry-into .result)) ≡ length (canonical (pos (bytesValue number))))
 counted c =
-    let start = c .before .before .before .before .before in
+    let start = c .before .before .before .before in
     let number = start .args .number .now in
-    let n = c .before .before .before .significant in
     let top : ℕ = 3 * c .before .byte-at .result + c .carry-into .result in
-    let small = carry-small (bytesValue number) (n .result - 1) in
-    count-is number (n .result) (λ i. c .before .before .before .before .shared-slice-known .given i .fits) (n .ensures) (search needs) top (rw (c .before .byte-at .ensures .0, c .carry-into .ensures)) (omega (arith, small, c .carry-into .ensures, c .before .byte-at .ensures))
-
-significant-requires : tie.Need-significant-requires
-significant-requires c κs = search needs
+    let small = carry-small (bytesValue number) (length number - 1) in
+    count-is number (length number) (λ i. c .before .before .before .shared-slice-known .given i .fits) (all-significant number (start .pre)) (search needs) top (rw (c .before .byte-at .ensures .0, c .carry-into .ensures)) (omega (arith, small, c .carry-into .ensures, c .before .byte-at .ensures))
 
 returns : tie.Need-returns
-unfolding positional
-returns c =
-    let n = c .before .significant in
-    let number = c .before .before .before .args .number .now in
-    let z : n .result ≡ 0 = c .if1 .taken in
-    sym (count-zero number (rw z at (n .ensures .whole)))
+returns c = let start = c .before .before in sym (count-zero (start .args .number .now) (zero-if-empty (start .args .number .now) (start .pre) (c .if1 .taken)))
 
 sub-byte-at : tie.Need-sub-byte-at
 sub-byte-at c = search needs
@@ -54,8 +46,8 @@ carry-into-requires c κs = search needs
 
 add-top : tie.Need-add-top
 add-top c =
-    let start = c .before .before .before .before .before in
-    omega (arith, carry-small (bytesValue (start .args .number .now)) (c .before .before .before .significant .result - 1), c .carry-into .ensures, c .before .byte-at .ensures)
+    let number = c .before .before .before .before .args .number .now in
+    omega (arith, carry-small (bytesValue number) (length number - 1), c .carry-into .ensures, c .before .byte-at .ensures)
 
 sub-result : tie.Need-sub-result
 sub-result c = search needs
@@ -79,7 +71,6 @@ pub count-spec : {M : Type 1} → statement M
 count-spec =
     tie.close
     (tie.spec
-    significant-requires
     returns
     sub-byte-at
     byte-at-requires

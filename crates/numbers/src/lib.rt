@@ -21,12 +21,12 @@ pub fn number_verdict(number: &[u8]) -> Verdict
     ensures { λ r. ⌜ r ≡ numberVerdict (now (number .entry)) ⌝ }
 {
     if NUMBER_BYTES < number.len() {
-        return Verdict::Failed(Refusal::NumberTooLong);
+        Verdict::Failed(Refusal::NumberTooLong)
+    } else if is_padded(number) {
+        Verdict::Failed(Refusal::HighestByteIsZero)
+    } else {
+        Verdict::Passed
     }
-    if is_padded(number) {
-        return Verdict::Failed(Refusal::HighestByteIsZero);
-    }
-    Verdict::Passed
 }
 
 // The same, then refusal 2: past the others, only the empty number is zero.

@@ -66,7 +66,7 @@ impl Value {
 /// Checks that a plan is sound and ends at the number; answers its counts.
 /// The value at each position goes into its record in `space`.
 ///
-/// Refusals in order: 1, 2, 7, 8, then for each step 9, and 10 or 11, then 12.
+/// Refusals in order: 1, 13, 2, 7, 8, then for each step 9, and 10 or 11, then 12.
 pub fn check(number: &[u8], plan: &[u8], space: &mut [u8]) -> Result<Counts, Refusal> {
     let number = Number::read_nonzero(number)?;
     if plan.len() % STEP_BYTES != 0 || plan.len() > PLAN_ROOM {

@@ -75,7 +75,7 @@ impl<const N: usize> Naf<N> {
 
 /// Recodes a number into its canonical string; answers the length.
 ///
-/// Refusals in order: 1, 6.
+/// Refusals in order: 1, 13, 6.
 pub fn recode(number: &[u8], out: &mut [u8]) -> Result<usize, Refusal> {
     let number = Number::read(number)?;
     Naf::of(&number.widened::<RECODE_WORDS>()).write(out)
@@ -110,7 +110,7 @@ impl Recoder {
         carry: false,
     };
 
-    /// Refusal 1 for a number too long; the recoder is then that of zero.
+    /// Refusals in order: 1, 13; the recoder is then that of zero.
     pub fn start(number: &[u8]) -> (Recoder, Result<(), Refusal>) {
         match Number::read(number) {
             Ok(number) => {

@@ -1,7 +1,8 @@
-//! The number, least significant byte first.
+//! The number, least significant byte first. The highest byte is not zero, so each number has one
+//! spelling; zero has no bytes.
 
 use crate::limits::{NUMBER_BYTES, NUMBER_WORDS};
-use crate::refusal::{NUMBER_IS_ZERO, NUMBER_TOO_LONG};
+use crate::refusal::{HIGHEST_BYTE_IS_ZERO, NUMBER_IS_ZERO, NUMBER_TOO_LONG};
 use crate::{words, Refusal};
 
 #[derive(Clone, Copy, PartialEq, Eq, Debug)]
@@ -10,17 +11,20 @@ pub(crate) struct Number {
 }
 
 impl Number {
-    /// Refusal 1: too many bytes, even if the high ones are zero.
+    /// Refusal 1: too many bytes, even if the high ones are zero. Refusal 13: the highest byte is zero.
     pub(crate) fn read(bytes: &[u8]) -> Result<Number, Refusal> {
         if bytes.len() > NUMBER_BYTES {
             return Err(Refusal::new(NUMBER_TOO_LONG, 0));
+        }
+        if bytes.last() == Some(&0) {
+            return Err(Refusal::new(HIGHEST_BYTE_IS_ZERO, 0));
         }
         Ok(Number {
             words: words::from_bytes(bytes),
         })
     }
 
-    /// Refusal 1, then refusal 2: the number is zero.
+    /// Refusals 1 and 13, then refusal 2: the number is zero.
     pub(crate) fn read_nonzero(bytes: &[u8]) -> Result<Number, Refusal> {
         let number = Number::read(bytes)?;
         if words::is_zero(&number.words) {

@@ -32,7 +32,7 @@ impl Method {
 
 /// Writes the plan for a number by a method; answers the counts of its steps.
 ///
-/// Refusals in order: 1, 2, 3, 6.
+/// Refusals in order: 1, 13, 2, 3, 6.
 pub fn plan(number: &[u8], method: u32, width: u32, out: &mut [u8]) -> Result<Counts, Refusal> {
     let number = Number::read_nonzero(number)?;
     let method = Method::select(method, width)?;
@@ -50,7 +50,7 @@ pub fn plan(number: &[u8], method: u32, width: u32, out: &mut [u8]) -> Result<Co
 
 /// The counts of the plan that the same inputs give, without the plan.
 ///
-/// Refusals in order: 1, 2, 3.
+/// Refusals in order: 1, 13, 2, 3.
 pub fn forecast(number: &[u8], method: u32, width: u32) -> Result<Counts, Refusal> {
     let number = Number::read_nonzero(number)?;
     let method = Method::select(method, width)?;

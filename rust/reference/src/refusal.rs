@@ -25,6 +25,7 @@ pub const MALFORMED_STEP: u8 = 9;
 pub const VALUE_IS_ZERO: u8 = 10;
 pub const VALUE_TOO_LARGE: u8 = 11;
 pub const WRONG_END: u8 = 12;
+pub const HIGHEST_BYTE_IS_ZERO: u8 = 13;
 
 /// The highest number of a refusal.
-pub const LAST: usize = 12;
+pub const LAST: usize = 13;

@@ -125,7 +125,7 @@ fn position(digits: &[u8]) -> Option<[u8; 2]> {
 }
 
 /// What each refusal says, by its number; 0 is none.
-const WORDS: [&str; 13] = [
+const WORDS: [&str; 14] = [
     "not refused",
     "the number is too long",
     "the number is zero",
@@ -139,6 +139,7 @@ const WORDS: [&str; 13] = [
     "the value at this step is zero",
     "the value at this step is too large",
     "the last value, at this position, is not the number",
+    "the highest byte of the number is zero",
 ];
 
 pub fn words(refusal: usize) -> &'static str {

@@ -72,9 +72,10 @@ fn recoding() {
         (43, &[1, 0, -1, 0, -1, 0, -1]),
     ];
     for (number, digits) in table {
-        assert_eq!(recoded(&[number]), bytes(digits));
-        assert_eq!(recoded(&[number, 0, 0]), bytes(digits));
-        let (mut recoder, result) = Recoder::start(&[number, 0]);
+        // Zero has no bytes.
+        let number = &[number][usize::from(number == 0)..];
+        assert_eq!(recoded(number), bytes(digits));
+        let (mut recoder, result) = Recoder::start(number);
         assert_eq!(result, Ok(()));
         for digit in bytes(digits) {
             assert_eq!(recoder.take(), Some(digit));
@@ -82,7 +83,6 @@ fn recoding() {
         let end = recoder;
         assert_eq!((recoder.take(), recoder), (None, end));
     }
-    assert_eq!(recoded(&[]), Vec::<u8>::new());
 }
 
 #[test]
@@ -121,7 +121,7 @@ fn plan_for_3() {
 #[test]
 fn one_below_a_power_of_two() {
     for k in 2..=NUMBER_BITS {
-        let mut number = [0; NUMBER_BYTES];
+        let mut number = vec![0; (k + 7) / 8];
         for place in 0..k {
             number[place / 8] |= 1 << (place % 8);
         }
@@ -143,7 +143,9 @@ fn longest_number() {
 
 #[test]
 fn number_too_long() {
-    for number in [[0; NUMBER_BYTES + 1], [0xFF; NUMBER_BYTES + 1]] {
+    let mut padded = [0xFF; NUMBER_BYTES + 1];
+    padded[NUMBER_BYTES] = 0;
+    for number in [[0; NUMBER_BYTES + 1], [0xFF; NUMBER_BYTES + 1], padded] {
         assert_eq!(recode(&number, &mut []), Err(refusal(NUMBER_TOO_LONG, 0)));
         assert_eq!(plan(&number, 9, 9, &mut []), Err(refusal(NUMBER_TOO_LONG, 0)));
         assert_eq!(forecast(&number, 9, 9), Err(refusal(NUMBER_TOO_LONG, 0)));
@@ -153,6 +155,43 @@ fn number_too_long() {
         assert_eq!(recoder, Recoder::start(&[]).0);
         assert_eq!((recoder.take(), recoder), (None, Recoder::start(&[]).0));
     }
+}
+
+/// Refused whatever is wrong besides; only the length is tested before.
+#[test]
+fn highest_byte_is_zero() {
+    let refused = refusal(HIGHEST_BYTE_IS_ZERO, 0);
+    let mut longest = [0xFF; NUMBER_BYTES];
+    longest[NUMBER_BYTES - 1] = 0;
+    for number in [
+        &[0][..],
+        &[0, 0, 0],
+        &[1, 0],
+        &[43, 0],
+        &[43, 0, 0],
+        &[0, 1, 0],
+        &[0; NUMBER_BYTES],
+        &longest,
+    ] {
+        for room in [0, 1000] {
+            let mut out = vec![7; room];
+            assert_eq!(recode(number, &mut out), Err(refused));
+            for (method, width) in [(1, 0), (4, 0), (9, 9)] {
+                assert_eq!(plan(number, method, width, &mut out), Err(refused));
+                assert_eq!(forecast(number, method, width), Err(refused));
+            }
+            for steps in [vec![], vec![0; STEP_BYTES - 1], step(0, 0, 0), step(2, 0, 0)] {
+                assert_eq!(check(number, &steps, &mut out), Err(refused));
+            }
+            assert_eq!(out, vec![7; room]);
+        }
+        let (mut recoder, result) = Recoder::start(number);
+        assert_eq!(result, Err(refused));
+        assert_eq!(recoder, Recoder::start(&[]).0);
+        assert_eq!((recoder.take(), recoder), (None, Recoder::start(&[]).0));
+    }
+    // A zero byte below the highest is no fault.
+    assert_eq!(forecast(&[0, 1], 1, 0).unwrap().total(), 8);
 }
 
 #[test]
@@ -301,7 +340,8 @@ fn methods_and_widths() {
                 assert_eq!(forecast(&[5], method, width), Err(refusal(METHOD_OR_WIDTH, 0)));
                 assert_eq!(plan(&[5], method, width, &mut []), Err(refusal(METHOD_OR_WIDTH, 0)));
             }
-            assert_eq!(forecast(&[0], method, width), Err(refusal(NUMBER_IS_ZERO, 0)));
+            assert_eq!(forecast(&[], method, width), Err(refusal(NUMBER_IS_ZERO, 0)));
+            assert_eq!(forecast(&[0], method, width), Err(refusal(HIGHEST_BYTE_IS_ZERO, 0)));
         }
     }
 }

@@ -3,11 +3,23 @@
 
 use reference::generate::methods;
 use reference::limits::*;
+use reference::refusal::HIGHEST_BYTE_IS_ZERO;
 use reference::*;
+
+/// The bytes of a number, the highest not zero.
+fn spelled(number: u64) -> Vec<u8> {
+    let mut bytes = Vec::new();
+    let mut rest = number;
+    while rest > 0 {
+        bytes.push((rest % 256) as u8);
+        rest /= 256;
+    }
+    bytes
+}
 
 fn recoded(number: u64) -> Vec<i8> {
     let mut out = [0; 70];
-    let length = recode(&number.to_le_bytes(), &mut out).unwrap();
+    let length = recode(&spelled(number), &mut out).unwrap();
     out[..length].iter().map(|&digit| digit as i8).collect()
 }
 
@@ -31,6 +43,27 @@ fn recode_is_the_non_adjacent_form() {
         assert!(digits.windows(2).all(|pair| pair[0] == 0 || pair[1] == 0));
         assert_ne!(digits.last(), Some(&0));
     }
+}
+
+/// Of all strings of up to two bytes, each number has one that is taken.
+#[test]
+fn one_spelling_each() {
+    let mut spellings = vec![0; 1 << 16];
+    for length in 0..=2 {
+        for (value, times) in spellings.iter_mut().enumerate().take(1 << (8 * length)) {
+            let bytes = &value.to_le_bytes()[..length];
+            let recoded = recode(bytes, &mut [0; 20]);
+            let (_, started) = Recoder::start(bytes);
+            assert_eq!(recoded.map(|_| ()), started);
+            match recoded {
+                Ok(_) => *times += 1,
+                Err(refusal) => assert_eq!((refusal.number, refusal.place), (HIGHEST_BYTE_IS_ZERO, 0)),
+            }
+            let planned = forecast(bytes, 4, 0);
+            assert_eq!(planned.is_ok(), recoded.is_ok() && value > 0);
+        }
+    }
+    assert!(spellings.iter().all(|&times| times == 1));
 }
 
 /// All strings of nine digits: none of the same value has fewer nonzero ones,
@@ -70,7 +103,7 @@ fn recode_has_fewest_nonzero_digits() {
 #[test]
 fn plans_end_at_the_number() {
     for number in 1..2000i128 {
-        let bytes = (number as u16).to_le_bytes();
+        let bytes = spelled(number as u64);
         for (method, width) in methods() {
             let mut out = [0; PLAN_ROOM];
             let counts = plan(&bytes, method, width, &mut out).unwrap();
@@ -140,7 +173,7 @@ fn published_totals() {
         let mut binary = 0;
         let mut naf = 0;
         for number in count..2 * count {
-            let bytes = (number as u64).to_le_bytes();
+            let bytes = spelled(number as u64);
             let counts = forecast(&bytes, 1, 0).unwrap();
             binary += counts.doublings + counts.additions;
             assert_eq!(counts.subtractions, 0);

@@ -1,5 +1,5 @@
-//! Document 01 once more, written for the tests: slow, with vectors, and by
-//! other ways than the library takes. Each call answers the outcome and the
+//! Documents 01 and 02 once more, written for the tests: slow, with vectors, and
+//! by other ways than the library takes. Each call answers the outcome and the
 //! whole buffer as it must stand afterwards.
 
 #![allow(dead_code)]
@@ -156,9 +156,12 @@ pub fn value_of(digits: &[u8]) -> Big {
 }
 
 fn read_number(number: &[u8]) -> Result<Big, Refusal> {
+    let value = Big::from_bytes(number);
     match number.len() {
-        0..=NUMBER_BYTES => Ok(Big::from_bytes(number)),
-        _ => Err(refusal(NUMBER_TOO_LONG, 0)),
+        length if length > NUMBER_BYTES => Err(refusal(NUMBER_TOO_LONG, 0)),
+        // A highest byte of zero makes the number longer than its value.
+        length if length > value.size.len() => Err(refusal(HIGHEST_BYTE_IS_ZERO, 0)),
+        _ => Ok(value),
     }
 }
 

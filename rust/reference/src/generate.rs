@@ -127,14 +127,14 @@ impl Generator {
 
     pub fn recode_case(&mut self) -> RecodeCase {
         let number = self.number();
-        let needed = recode(&number, &mut [0; RECODE_ROOM]).unwrap_or(RECODE_ROOM);
+        let needed = recode(trimmed(&number), &mut [0; RECODE_ROOM]).unwrap_or(RECODE_ROOM);
         let room = self.room(needed);
         RecodeCase { number, room }
     }
 
     pub fn take_case(&mut self) -> TakeCase {
         let number = self.number();
-        let digits = recode(&number, &mut [0; RECODE_ROOM]).unwrap_or(0);
+        let digits = recode(trimmed(&number), &mut [0; RECODE_ROOM]).unwrap_or(0);
         let takes = match self.rng.below(4) {
             0 => self.rng.below(digits + 1),
             1 => digits,
@@ -163,7 +163,7 @@ impl Generator {
     pub fn plan_case(&mut self) -> PlanCase {
         let number = self.number();
         let (method, width) = self.method_and_width();
-        let needed = match forecast(&number, method, width) {
+        let needed = match forecast(trimmed(&number), method, width) {
             Ok(counts) => STEP_BYTES * counts.total(),
             Err(_) => PLAN_ROOM,
         };
@@ -184,11 +184,13 @@ impl Generator {
 
     pub fn check_case(&mut self) -> CheckCase {
         let (number, plan) = self.number_and_plan();
-        // Now and then the number does not belong to the plan at all.
+        // Now and then the number does not belong to the plan at all, or is refused for itself alone.
         let number = match self.rng.below(16) {
             0 => self.number(),
-            1 => self.zero(),
+            1 => Vec::new(),
             2 => self.too_long(),
+            3 => self.padded_number(),
+            4 => self.padded(number),
             _ => number,
         };
         let room = self.space(plan.len() / STEP_BYTES);
@@ -197,24 +199,46 @@ impl Generator {
 
     // Numbers.
 
-    /// A number, mostly within the limit.
+    /// A number, mostly within the limit and with a highest byte other than zero.
     pub fn number(&mut self) -> Vec<u8> {
         match self.rng.below(16) {
-            0 => self.zero(),
+            0 => Vec::new(),
             1 => self.too_long(),
+            2 | 3 => self.padded_number(),
             _ => self.nonzero_number(),
         }
     }
 
-    fn zero(&mut self) -> Vec<u8> {
-        let length = self
-            .rng
-            .pick(&[0, 0, 1, 2, 8, NUMBER_BYTES - 1, NUMBER_BYTES, NUMBER_BYTES]);
-        vec![0; length]
+    /// A number within the limit whose highest byte is zero: zero itself, 1, any other, or all ones
+    /// below the highest byte.
+    fn padded_number(&mut self) -> Vec<u8> {
+        let number = match self.rng.below(8) {
+            0 => return vec![0],
+            1 => Vec::new(),
+            2 => vec![1],
+            3 => vec![0xFF; NUMBER_BYTES - 1],
+            _ => self.nonzero_number(),
+        };
+        self.padded(number)
+    }
+
+    /// A number with high zero bytes, within the limit: the longest loses its highest byte.
+    fn padded(&mut self, mut number: Vec<u8>) -> Vec<u8> {
+        number.truncate(NUMBER_BYTES - 1);
+        let length = match self.rng.below(3) {
+            0 => number.len() + 1,
+            1 => NUMBER_BYTES,
+            _ => self.rng.between(number.len() + 1, NUMBER_BYTES),
+        };
+        number.resize(length, 0);
+        number
     }
 
     fn too_long(&mut self) -> Vec<u8> {
-        let length = self.rng.between(NUMBER_BYTES + 1, NUMBER_BYTES + 8);
+        let length = match self.rng.one_in(2) {
+            true => NUMBER_BYTES + 1,
+            false => self.rng.between(NUMBER_BYTES + 1, NUMBER_BYTES + 8),
+        };
         match self.rng.below(4) {
             0 => vec![0; length],
             1 => vec![0xFF; length],
@@ -227,9 +251,9 @@ impl Generator {
         }
     }
 
-    /// A number within the limit that is not zero.
+    /// A number within the limit that is not zero; nor is its highest byte.
     fn nonzero_number(&mut self) -> Vec<u8> {
-        let mut number = match self.rng.below(14) {
+        let number = match self.rng.below(14) {
             0 | 1 => {
                 let length = self.rng.between(1, NUMBER_BYTES);
                 self.rng.bytes(length)
@@ -274,14 +298,10 @@ impl Generator {
                 bytes
             }
         };
-        if number.iter().all(|&byte| byte == 0) {
-            number = vec![self.rng.between(1, 255) as u8];
+        match trimmed(&number) {
+            [] => vec![self.rng.between(1, 255) as u8],
+            number => number.to_vec(),
         }
-        if self.rng.one_in(4) {
-            let length = self.rng.between(number.len(), NUMBER_BYTES);
-            number.resize(length, 0);
-        }
-        number
     }
 
     /// Long runs of ones and zeros in turn.
@@ -517,7 +537,7 @@ impl Generator {
                 // The next number, or one 255 below it.
                 let mut other = number;
                 other[0] = other[0].wrapping_add(1);
-                return (other, steps);
+                return (trimmed(&other).to_vec(), steps);
             }
             9 | 10 => {
                 let length = self.rng.pick(&[1, 2, 3, 5, 8, 20, 60]);
@@ -545,8 +565,7 @@ impl Generator {
                 let number = match self.rng.below(4) {
                     0 => number,
                     1 => vec![2],
-                    2 => vec![1],
-                    _ => vec![1, 0, 0],
+                    _ => vec![1],
                 };
                 return (number, Vec::new());
             }
@@ -753,8 +772,14 @@ impl Generator {
         if record[0] != 0 || above.iter().any(|&byte| byte != 0) {
             return None;
         }
-        Some(size.to_vec())
+        Some(trimmed(size).to_vec())
     }
+}
+
+/// The number without its high zero bytes.
+pub fn trimmed(number: &[u8]) -> &[u8] {
+    let length = number.iter().rposition(|&byte| byte != 0).map_or(0, |top| top + 1);
+    &number[..length]
 }
 
 fn power_of_two(place: usize) -> Vec<u8> {

@@ -4,15 +4,17 @@
 
 mod common;
 
-use reference::generate::{methods, Generator};
+use reference::generate::{methods, trimmed, Generator};
 use reference::limits::*;
-use reference::refusal::{LAST, WRONG_END};
+use reference::refusal::{HIGHEST_BYTE_IS_ZERO, LAST, WRONG_END};
 use reference::*;
 
 /// How often each outcome came up: index 0 for success.
 struct Tally {
     call: &'static str,
     outcomes: [usize; LAST + 1],
+    /// Of the cases that were refused for high zero bytes: the outcomes without these bytes.
+    without: [usize; LAST + 1],
 }
 
 impl Tally {
@@ -20,13 +22,24 @@ impl Tally {
         Tally {
             call,
             outcomes: [0; LAST + 1],
+            without: [0; LAST + 1],
         }
     }
 
     fn note<T>(&mut self, result: &Result<T, Refusal>) {
-        match result {
-            Ok(_) => self.outcomes[0] += 1,
-            Err(refusal) => self.outcomes[usize::from(refusal.number)] += 1,
+        self.outcomes[outcome(result)] += 1;
+    }
+
+    /// As `note`, for a call that takes a number; `call` is the same call for another one.
+    fn note_number<T>(
+        &mut self,
+        result: &Result<T, Refusal>,
+        number: &[u8],
+        call: impl Fn(&[u8]) -> Result<T, Refusal>,
+    ) {
+        self.note(result);
+        if outcome(result) == usize::from(HIGHEST_BYTE_IS_ZERO) {
+            self.without[outcome(&call(trimmed(number)))] += 1;
         }
     }
 
@@ -43,6 +56,22 @@ impl Tally {
             }
         }
     }
+
+    /// High zero bytes come up alone, and beside each of these later refusals.
+    fn assert_without(&self, later: &[usize]) {
+        println!("{:10} without high zero bytes: {:?}", self.call, self.without);
+        for (outcome, &times) in self.without.iter().enumerate() {
+            let is_possible = outcome == 0 || later.contains(&outcome);
+            assert_eq!(times >= 5, is_possible, "{} {}", self.call, outcome);
+        }
+    }
+}
+
+fn outcome<T>(result: &Result<T, Refusal>) -> usize {
+    match result {
+        Ok(_) => 0,
+        Err(refusal) => usize::from(refusal.number),
+    }
 }
 
 const CASES: usize = 20_000;
@@ -58,9 +87,10 @@ fn recode_cases() {
         let result = recode(&case.number, &mut out);
         let expected = common::recode(&case.number, &mut expected_out);
         assert_eq!((&result, &out), (&expected, &expected_out), "{:?}", case);
-        tally.note(&result);
+        tally.note_number(&result, &case.number, |number| recode(number, &mut vec![0; case.room]));
     }
-    tally.assert_all(&[0, 1, 6]);
+    tally.assert_all(&[0, 1, 6, 13]);
+    tally.assert_without(&[6]);
 }
 
 #[test]
@@ -71,7 +101,7 @@ fn take_cases() {
     for _ in 0..CASES {
         let case = generator.take_case();
         let (mut recoder, result) = Recoder::start(&case.number);
-        tally.note(&result);
+        tally.note_number(&result, &case.number, |number| Recoder::start(number).1);
         let mut digits = vec![0; RECODE_ROOM];
         let expected = common::recode(&case.number, &mut digits);
         digits.truncate(expected.unwrap_or(0));
@@ -89,7 +119,8 @@ fn take_cases() {
             }
         }
     }
-    tally.assert_all(&[0, 1]);
+    tally.assert_all(&[0, 1, 13]);
+    tally.assert_without(&[]);
     assert!(dones > CASES / 10);
 }
 
@@ -155,12 +186,15 @@ fn plan_cases() {
         let result = plan(&case.number, case.method, case.width, &mut out);
         let expected = common::plan(&case.number, case.method, case.width, &mut expected_out);
         assert_eq!((&result, &out), (&expected, &expected_out), "{:?}", case);
-        tally.note(&result);
+        tally.note_number(&result, &case.number, |number| {
+            plan(number, case.method, case.width, &mut vec![0; case.room])
+        });
         if result.is_ok() {
             *planned.entry((case.method, case.width)).or_insert(0) += 1;
         }
     }
-    tally.assert_all(&[0, 1, 2, 3, 6]);
+    tally.assert_all(&[0, 1, 2, 3, 6, 13]);
+    tally.assert_without(&[2, 3, 6]);
     for method in methods() {
         assert!(planned[&method] > CASES / 100);
     }
@@ -175,9 +209,12 @@ fn forecast_cases() {
         let result = forecast(&case.number, case.method, case.width);
         let expected = common::forecast(&case.number, case.method, case.width);
         assert_eq!(result, expected, "{:?}", case);
-        tally.note(&result);
+        tally.note_number(&result, &case.number, |number| {
+            forecast(number, case.method, case.width)
+        });
     }
-    tally.assert_all(&[0, 1, 2, 3]);
+    tally.assert_all(&[0, 1, 2, 3, 13]);
+    tally.assert_without(&[2, 3]);
 }
 
 #[test]
@@ -193,7 +230,9 @@ fn check_cases() {
         let expected = common::check(&case.number, &case.plan, &mut expected_space);
         assert_eq!(result, expected, "{:?}", case);
         assert!(space == expected_space, "{:?}", case);
-        tally.note(&result);
+        tally.note_number(&result, &case.number, |number| {
+            check(number, &case.plan, &mut vec![0; case.room])
+        });
 
         let steps = case.plan.len() / STEP_BYTES;
         let mut records = space.chunks(RECORD_BYTES).take(steps + 1);
@@ -213,9 +252,47 @@ fn check_cases() {
             _ => {}
         }
     }
-    tally.assert_all(&[0, 1, 2, 7, 8, 9, 10, 11, 12]);
+    tally.assert_all(&[0, 1, 2, 7, 8, 9, 10, 11, 12, 13]);
+    tally.assert_without(&[2, 7, 8, 9, 10, 11, 12]);
     println!("{:?}", (full, empty, below_zero, minus, large));
     assert!(full > 100 && empty > 100 && below_zero > 100 && minus > 100 && large > 100);
+}
+
+/// Every kind of padding comes up in every call that takes a number.
+#[test]
+fn kinds_of_padding() {
+    type Kind = fn(&[u8]) -> bool;
+    let kinds: [(&str, Kind); 5] = [
+        ("zero in one byte", |number| number == [0]),
+        ("zero in several", |number| {
+            (2..=NUMBER_BYTES).contains(&number.len()) && trimmed(number).is_empty()
+        }),
+        ("1", |number| {
+            (2..=NUMBER_BYTES).contains(&number.len()) && trimmed(number) == [1]
+        }),
+        ("the longest", |number| {
+            number.len() == NUMBER_BYTES && number.ends_with(&[0])
+        }),
+        ("too long", |number| {
+            number.len() == NUMBER_BYTES + 1 && number.ends_with(&[0])
+        }),
+    ];
+    type Next = fn(&mut Generator) -> Vec<u8>;
+    let calls: [(&str, Next); 5] = [
+        ("recode", |generator| generator.recode_case().number),
+        ("take", |generator| generator.take_case().number),
+        ("plan", |generator| generator.plan_case().number),
+        ("forecast", |generator| generator.forecast_case().number),
+        ("check", |generator| generator.check_case().number),
+    ];
+    for (call, next) in calls {
+        let mut generator = Generator::new(9);
+        let numbers: Vec<Vec<u8>> = (0..CASES).map(|_| next(&mut generator)).collect();
+        for (kind, is_it) in kinds {
+            let times = numbers.iter().filter(|number| is_it(number)).count();
+            assert!(times > 100, "{}: {}: {}", call, kind, times);
+        }
+    }
 }
 
 #[test]

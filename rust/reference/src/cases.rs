@@ -172,10 +172,27 @@ fn small(number: usize) -> Vec<u8> {
     bytes
 }
 
+/// The same with high zero bytes.
 fn padded(number: usize, length: usize) -> Vec<u8> {
     let mut bytes = small(number);
     bytes.resize(length, 0);
     bytes
+}
+
+/// Numbers within the limit whose highest byte is zero: zero, small ones, and all ones below it.
+fn high_zeros() -> Vec<Vec<u8>> {
+    let mut longest = vec![0xFF; NUMBER_BYTES];
+    longest[NUMBER_BYTES - 1] = 0;
+    vec![
+        padded(0, 1),
+        padded(0, 2),
+        padded(0, NUMBER_BYTES),
+        padded(1, 2),
+        padded(3, 3),
+        padded(43, 2),
+        padded(43, NUMBER_BYTES),
+        longest,
+    ]
 }
 
 /// 2^k - 1.
@@ -346,15 +363,14 @@ impl Requests {
         self.recoded(&[0; NUMBER_BYTES + 1]);
         self.recoded(&[0xFF; NUMBER_BYTES + 1]);
         self.recode(0, &[0xFF; NUMBER_BYTES + 1]);
-        self.title("High zero bytes");
-        for number in [
-            padded(0, 1),
-            padded(0, NUMBER_BYTES),
-            padded(3, 2),
-            padded(3, NUMBER_BYTES),
-        ] {
+        self.title("A highest byte of zero, also into no room; a zero byte below it; a byte too many");
+        for number in high_zeros() {
             self.recoded(&number);
+            self.recode(0, &number);
         }
+        self.recoded(&small(256));
+        self.recoded(&padded(43, NUMBER_BYTES + 1));
+        self.recode(0, &padded(43, NUMBER_BYTES + 1));
         self.title("Room");
         self.recode(0, &[]);
         for room in [7, 6, 40, 0] {
@@ -538,19 +554,21 @@ impl Requests {
             self.planned(&small(43), method, width);
         }
         self.planned(&small(3), 1, 0);
-        self.title("The number 1, and high zero bytes");
+        self.title("The number 1");
         let widest = *WINDOW_WIDTHS.end();
         for (method, width) in [(1, 0), (2, 1), (2, widest), (3, 1), (3, widest), (4, 0)] {
             self.planned(&small(1), method, width);
         }
-        self.planned(&padded(43, 2), 1, 0);
-        self.planned(&padded(43, NUMBER_BYTES), 4, 0);
         self.title("Numbers that are refused");
         self.planned(&[0x00; NUMBER_BYTES + 1], 1, 0);
         self.planned(&[0xFF; NUMBER_BYTES + 1], 4, 0);
+        self.planned(&padded(43, NUMBER_BYTES + 1), 1, 0);
         self.planned(&[], 1, 0);
-        self.planned(&padded(0, 1), 2, 2);
-        self.planned(&padded(0, NUMBER_BYTES), 4, 0);
+        self.planned(&[], 2, 2);
+        for number in high_zeros() {
+            self.planned(&number, 4, 0);
+        }
+        self.planned(&padded(43, 2), 2, 2);
         self.title("Methods and widths that are refused");
         let wide = WINDOW_WIDTHS.end() + 1;
         for (method, width) in [
@@ -576,10 +594,18 @@ impl Requests {
         self.plan(44, &small(43), 2, 3);
         self.plan(0, &small(43), 4, 0);
         self.plan(0, &small(1), 1, 0);
-        self.title("Order: 1, 2, 3, 6");
-        self.plan(0, &[0; NUMBER_BYTES + 1], 0, 0);
-        self.plan(0, &padded(0, 1), 0, 0);
-        self.plan(0, &small(43), 0, 0);
+        self.title("Order: 1, 13, 2, 3, 6");
+        for number in [
+            &[0; NUMBER_BYTES + 1][..],
+            &padded(0, 1),
+            &padded(43, 2),
+            &[],
+            &small(43),
+        ] {
+            self.plan(0, number, 0, 0);
+            self.forecast(number, 0, 0);
+        }
+        self.plan(0, &padded(43, 2), 4, 0);
     }
 
     fn checks(&mut self) {
@@ -624,15 +650,24 @@ impl Requests {
         self.check(FEW, &small(1), &subtract(1, 1));
         self.check(FEW, &small(1), &[subtract(0, 0), add(2, 2)].concat());
         self.check(FEW, &small(1), &[add(1, 1), subtract(0, 0)].concat());
-        self.title("Order: 1, 2, 7, 8, then the steps");
-        self.check(0, &[0; NUMBER_BYTES + 1], &[0; STEP_BYTES - 1]);
-        self.check(0, &padded(0, 1), &[0; STEP_BYTES - 1]);
+        self.title("Order: 1, 13, 2, 7, 8, then the steps");
+        for number in [&[0; NUMBER_BYTES + 1][..], &padded(0, 1), &padded(1, 2), &[]] {
+            self.check(0, number, &[0; STEP_BYTES - 1]);
+        }
+        self.check(0, &padded(1, 2), &[]);
+        self.check(FEW, &padded(1, 2), &[0; STEP_BYTES - 1]);
+        self.check(FEW, &padded(1, 2), &step(2, 0, 0));
         self.check(0, &[], &[]);
         self.check(0, &small(1), &[0; STEP_BYTES - 1]);
         self.check(0, &small(1), &step(2, 0, 0));
-        self.title("High zero bytes, and one too many");
+        self.title("A highest byte of zero, where all else is as it should be; a byte too many");
+        self.check(FEW, &padded(1, 2), &[]);
+        self.check(FEW, &padded(2, 2), &add(0, 0));
         self.check(FEW, &padded(2, NUMBER_BYTES), &add(0, 0));
         self.check(FEW, &padded(2, NUMBER_BYTES + 1), &add(0, 0));
+        for number in high_zeros() {
+            self.check(FEW, &number, &add(0, 0));
+        }
         self.title("Work spaces that just fit, and a byte less");
         self.check(work_space(1), &small(2), &add(0, 0));
         self.check(work_space(1) - 1, &small(2), &add(0, 0));

@@ -3,8 +3,8 @@
 //! agrees with the rules and with the tables of Bosma, "Signed bits and fast exponentiation".
 
 use reference::cases::{answers, requests, ONES, SMALL, UNANSWERED};
-use reference::limits::NUMBER_BITS;
-use reference::refusal::{LAST, WORK_SPACE_TOO_SHORT};
+use reference::limits::{NUMBER_BITS, NUMBER_BYTES};
+use reference::refusal::{HIGHEST_BYTE_IS_ZERO, LAST, MALFORMED_STEP, NUMBER_TOO_LONG, WRONG_END};
 
 const STDIN: &str = include_str!("../../../crates/cases/stdin");
 const STDOUT: &str = include_str!("../../../crates/cases/stdout");
@@ -66,7 +66,7 @@ fn section(title: &str) -> Vec<Stored> {
         .collect()
 }
 
-/// Refusals 1 to 8 leave what was lent as it was.
+/// All refusals but 9 to 12 leave what was lent as it was.
 #[test]
 fn every_refusal_is_stored() {
     let mut seen = [0; LAST + 1];
@@ -76,12 +76,38 @@ fn every_refusal_is_stored() {
         let refusal = stored.field(0);
         seen[refusal] += 1;
         let lends = !["take", "forecast"].contains(&stored.request[0]);
-        if lends && refusal > 0 && refusal <= usize::from(WORK_SPACE_TOO_SHORT) {
+        let of_steps = usize::from(MALFORMED_STEP)..=usize::from(WRONG_END);
+        if lends && refusal > 0 && !of_steps.contains(&refusal) {
             let buffer = *stored.answer.last().unwrap();
             assert_eq!(buffer, format!("+{}", stored.request[1]), "{:?}", stored.request);
         }
     }
     assert!(seen.iter().all(|&times| times > 0), "{:?}", seen);
+}
+
+/// In every call that takes a number a highest byte of zero is refused, whatever else is wrong, unless the
+/// number is too long; the takes then answer done.
+#[test]
+fn highest_bytes_of_zero_are_stored() {
+    for call in ["recode", "take", "plan", "forecast", "check"] {
+        let mut seen = [0; 2];
+        let padded = STDOUT
+            .lines()
+            .filter_map(Stored::read)
+            .filter(|stored| stored.request[0] == call && stored.request[2].ends_with("00") && stored.answer.len() > 1);
+        for stored in padded {
+            let is_long = stored.request[2].len() > 2 * NUMBER_BYTES;
+            let refusal = if is_long { NUMBER_TOO_LONG } else { HIGHEST_BYTE_IS_ZERO };
+            assert_eq!(stored.field(0), usize::from(refusal), "{:?}", stored.request);
+            assert_eq!(stored.field(1), 0, "{:?}", stored.request);
+            if call == "take" {
+                let takes: usize = stored.request[1].parse().unwrap();
+                assert!(takes > 0 && stored.answer[2..2 + takes].iter().all(|&taken| taken == "256"));
+            }
+            seen[usize::from(is_long)] += 1;
+        }
+        assert!(seen[0] > 5 && seen[1] > 0, "{}: {:?}", call, seen);
+    }
 }
 
 /// Both readers answer with a number and without, and where there is none, nothing is written.

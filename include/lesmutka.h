@@ -64,8 +64,8 @@
  *
  *   Order      Every buffer is least significant first: bytes of a number, digits of a string. Only
  *              text is read as people write it, most significant first.
- *   Number     At most LESMUTKA_NUMBER_BYTES bytes. No bytes means zero. High zero bytes are
- *              allowed and change nothing.
+ *   Number     At most LESMUTKA_NUMBER_BYTES bytes. No bytes means zero. The highest byte is not
+ *              zero, so each number has one spelling.
  *   Digits     One byte a digit: 0x00 is 0, 0x01 is 1, 0xFF is minus 1. A digit string that is
  *              handed in has at most LESMUTKA_STRING_DIGITS of them.
  *   Canonical  The canonical string is the NAF: of two neighbouring digits at least one is 0, and
@@ -111,6 +111,7 @@
  *                                            more than LESMUTKA_VALUE_BYTES bytes
  *   12  LESMUTKA_WRONG_END                   all r steps sound, the last value is      r
  *                                            not the number
+ *   13  LESMUTKA_HIGHEST_BYTE_IS_ZERO        highest byte of the number is zero        0
  *
  *   Where more than one could be given, each function names the order in which they are tested.
  */
@@ -178,7 +179,8 @@ enum {
     LESMUTKA_MALFORMED_STEP = 9,
     LESMUTKA_VALUE_IS_ZERO = 10,
     LESMUTKA_VALUE_TOO_LARGE = 11,
-    LESMUTKA_WRONG_END = 12
+    LESMUTKA_WRONG_END = 12,
+    LESMUTKA_HIGHEST_BYTE_IS_ZERO = 13
 };
 
 /* Methods, for a number e above zero. "Latest" is the position filled last, at first 0; the methods
@@ -272,7 +274,7 @@ typedef struct {
 /** Recode a number into its canonical string.
  *
  *  Returns: the length of the string, the bytes written.
- *           Refused: 1, then 6; nothing is written.
+ *           Refused: 1, then 13, then 6; nothing is written.
  *  In:      number: the number, number_length bytes.
  *  Out:     out: room for the digits, out_length bytes. LESMUTKA_RECODE_ROOM is always enough.
  */
@@ -282,7 +284,7 @@ lesmutka_length lesmutka_recode(const uint8_t *number, size_t number_length, uin
 /** Start taking the canonical digits of a number one by one.
  *
  *  Returns: nothing but the refusal.
- *           Refused: 1; the recoder is then that of zero.
+ *           Refused: 1, then 13; the recoder is then that of zero.
  *  In:      number: the number, number_length bytes. No later take reads it again.
  *  Out:     recoder: the recoder, moved on by lesmutka_take.
  */
@@ -327,7 +329,7 @@ lesmutka_value lesmutka_read_back(const uint8_t *digits, size_t digits_length, u
  *
  *  Returns: the counts of the plan's steps; their sum times LESMUTKA_STEP_BYTES is how many bytes
  *           were written.
- *           Refused: 1, then 2, then 3, then 6; nothing is written.
+ *           Refused: 1, then 13, then 2, then 3, then 6; nothing is written.
  *  In:      number: the number, number_length bytes.
  *           method: LESMUTKA_BINARY, LESMUTKA_FIXED_WINDOWS, LESMUTKA_SLIDING_WINDOWS or
  *                   LESMUTKA_NAF.
@@ -342,7 +344,7 @@ lesmutka_counts lesmutka_plan(const uint8_t *number, size_t number_length, uint3
  *  without the plan.
  *
  *  Returns: the counts.
- *           Refused: 1, then 2, then 3.
+ *           Refused: 1, then 13, then 2, then 3.
  *  In:      number, method, width: as for lesmutka_plan.
  */
 lesmutka_counts lesmutka_forecast(const uint8_t *number, size_t number_length, uint32_t method,
@@ -351,9 +353,10 @@ lesmutka_counts lesmutka_forecast(const uint8_t *number, size_t number_length, u
 /** Check a plan for a number: each step sound, and the last value the number.
  *
  *  Returns: the counts of the plan's steps.
- *           Refused: 1, then 2, then 7, then 8: nothing is written. Then the steps from the first,
- *           each tested for 9, then 10 or 11: the work space then holds records 0 to i - 1. Then
- *           12: it holds records 0 to r, as after success. Bytes past these records stay.
+ *           Refused: 1, then 13, then 2, then 7, then 8: nothing is written. Then the steps from
+ *           the first, each tested for 9, then 10 or 11: the work space then holds records 0 to
+ *           i - 1. Then 12: it holds records 0 to r, as after success. Bytes past these records
+ *           stay.
  *  In:      number: the number, number_length bytes.
  *           plan: the plan, plan_length bytes.
  *  Out:     space: the work space, space_length bytes, at least LESMUTKA_WORK_SPACE(steps). Record
@@ -365,7 +368,7 @@ lesmutka_counts lesmutka_check(const uint8_t *number, size_t number_length, cons
 
 /** Read a number from hexadecimal text, most significant digit first, in either case, with 0x or 0X
  *  in front or without. Its bytes are those that the text writes: two digits a byte, and leading
- *  zeros count.
+ *  zeros count. A number with a leading zero byte is one that every call refuses, with 13.
  *
  *  Returns: is_number 1, and the length: the digits halved, rounded up; the bytes written.
  *           Where the text is no number, all fields are 0 and nothing is written: it has no digit,
@@ -380,8 +383,8 @@ lesmutka_parsed lesmutka_hexadecimal(const uint8_t *text, size_t text_length, ui
 
 /** Read a number from decimal text, most significant digit first.
  *
- *  Returns: is_number 1, and the length of the number without high zero bytes: 0 for zero. The
- *           place is 0.
+ *  Returns: is_number 1, and the length of the number without high zero bytes, as the calls take
+ *           it: 0 for zero. The place is 0.
  *           Where the text is no number, is_number and length are 0, nothing is written, and the
  *           place is how many digits come before the first byte that is none. It is text_length
  *           where all bytes are digits, but there are none or out is too short.
@@ -460,6 +463,7 @@ static inline const char *lesmutka_words(size_t refusal) {
         "the value at this step is zero",
         "the value at this step is too large",
         "the last value, at this position, is not the number",
+        "the highest byte of the number is zero",
     };
     return refusal < sizeof words / sizeof words[0] ? words[refusal] : "no such refusal";
 }

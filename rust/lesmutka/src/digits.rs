@@ -8,7 +8,7 @@ const NUMBER_WORDS: usize = NUMBER_BYTES / 8;
 ///
 /// # Errors
 ///
-/// Refusal 1.
+/// Refusals 1, 13.
 ///
 /// ```
 /// let digits = lesmutka::digits(&[43])?;

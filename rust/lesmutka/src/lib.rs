@@ -1,10 +1,11 @@
 //! Plans for multiplying a curve point by a public number, and their check: safe calls over the
 //! proved library.
 //!
-//! Every buffer is least significant first. A number is at most [`NUMBER_BYTES`] bytes; a digit is
-//! 0, 1 or -1; a plan is steps of [`STEP_BYTES`] bytes. The calls write into buffers that they are
-//! lent, never allocate, and hand back the part that they wrote; the rest of a buffer stays as it
-//! was. A refusal changes nothing, but for the records that [`check`] has filled by then.
+//! Every buffer is least significant first. A number is at most [`NUMBER_BYTES`] bytes, the highest
+//! of which is not zero, so each number has one spelling; zero has no bytes. A digit is 0, 1 or -1; a
+//! plan is steps of [`STEP_BYTES`] bytes. The calls write into buffers that they are lent, never
+//! allocate, and hand back the part that they wrote; the rest of a buffer stays as it was. A refusal
+//! changes nothing, but for the records that [`check`] has filled by then.
 //!
 //! ```
 //! use lesmutka::{check, plan, work_space, Method, PLAN_ROOM};
@@ -119,11 +120,13 @@ fn written(answer: sys::Length) -> Result<usize, Refusal> {
 ///
 /// # Errors
 ///
-/// Refusals 1, 6. [`RECODE_ROOM`] is always enough.
+/// Refusals 1, 13, 6. [`RECODE_ROOM`] is always enough.
 ///
 /// ```
 /// let mut room = [0; lesmutka::RECODE_ROOM];
 /// assert_eq!(lesmutka::recode(&[3], &mut room)?, [-1, 0, 1]);
+/// // A number has one spelling.
+/// assert_eq!(lesmutka::recode(&[3, 0], &mut room), Err(lesmutka::Refusal::HighestByteIsZero));
 /// # Ok::<(), lesmutka::Refusal>(())
 /// ```
 pub fn recode<'a>(number: &[u8], out: &'a mut [i8]) -> Result<&'a [i8], Refusal> {
@@ -172,7 +175,7 @@ pub fn read_back<'a>(digits: &[i8], out: &'a mut [u8]) -> Result<Value<'a>, Refu
 ///
 /// # Errors
 ///
-/// Refusals 1, 2, 3, 6. [`PLAN_ROOM`] is always enough.
+/// Refusals 1, 13, 2, 3, 6. [`PLAN_ROOM`] is always enough.
 pub fn plan<'a>(number: &[u8], method: Method, out: &'a mut [u8]) -> Result<Plan<'a>, Refusal> {
     let counts = Counts::try_from(sys::plan(number, method.number(), method.width(), out))?;
     Ok(Plan {
@@ -185,7 +188,7 @@ pub fn plan<'a>(number: &[u8], method: Method, out: &'a mut [u8]) -> Result<Plan
 ///
 /// # Errors
 ///
-/// Refusals 1, 2, 3.
+/// Refusals 1, 13, 2, 3.
 ///
 /// ```
 /// use lesmutka::{forecast, Method};
@@ -204,15 +207,16 @@ pub fn forecast(number: &[u8], method: Method) -> Result<Counts, Refusal> {
 ///
 /// # Errors
 ///
-/// Refusals 1, 2, 7, 8, then 9, 10 or 11 at the first step that is not sound, then 12. At 9 to 11
-/// the records below that step are filled, at 12 all.
+/// Refusals 1, 13, 2, 7, 8, then 9, 10 or 11 at the first step that is not sound, then 12. At 9 to
+/// 11 the records below that step are filled, at 12 all.
 pub fn check(number: &[u8], plan: &[u8], space: &mut [u8]) -> Result<Counts, Refusal> {
     Counts::try_from(sys::check(number, plan, space))
 }
 
 /// Reads a hexadecimal number, with `0x` or `0X` in front or without: writes its bytes and hands
-/// them back, one for two digits, so zeros in front count. None if there is no digit, if there is
-/// anything else, or if the room is too small. [`text_room`] of the text's length is always enough.
+/// them back, one for two digits. Zeros in front count; a number with a zero byte in front is one that
+/// every call refuses, with 13. None if there is no digit, if there is anything else, or if the room is
+/// too small. [`text_room`] of the text's length is always enough.
 ///
 /// ```
 /// use lesmutka::hexadecimal;
@@ -230,8 +234,8 @@ pub fn hexadecimal<'a>(text: &[u8], out: &'a mut [u8]) -> Option<&'a [u8]> {
     }
 }
 
-/// Reads a decimal number: writes its bytes and hands them back without high zero bytes. The room
-/// has to be [`text_room`] of the text's length, and all of that is written.
+/// Reads a decimal number: writes its bytes and hands them back without high zero bytes, as the calls
+/// take them. The room has to be [`text_room`] of the text's length, and all of that is written.
 ///
 /// # Errors
 ///

@@ -47,6 +47,8 @@ pub enum Refusal {
         /// How many steps there are.
         steps: usize,
     },
+    /// 13: the highest byte of the number is zero.
+    HighestByteIsZero,
     /// Any other, of a library that is newer than this crate.
     Other {
         /// Its number.
@@ -72,6 +74,7 @@ impl Refusal {
             Refusal::ValueIsZero { .. } => 10,
             Refusal::ValueTooLarge { .. } => 11,
             Refusal::WrongEnd { .. } => 12,
+            Refusal::HighestByteIsZero => 13,
             Refusal::Other { number, .. } => number,
         }
     }
@@ -105,6 +108,7 @@ impl Refusal {
             Refusal::ValueIsZero { .. } => "the value at this step is zero",
             Refusal::ValueTooLarge { .. } => "the value at this step is too large",
             Refusal::WrongEnd { .. } => "the last value, at this position, is not the number",
+            Refusal::HighestByteIsZero => "the highest byte of the number is zero",
             Refusal::Other { .. } => "no such refusal",
         }
     }
@@ -125,6 +129,7 @@ impl Refusal {
             10 => Refusal::ValueIsZero { step: place },
             11 => Refusal::ValueTooLarge { step: place },
             12 => Refusal::WrongEnd { steps: place },
+            13 => Refusal::HighestByteIsZero,
             number => Refusal::Other { number, place },
         })
     }

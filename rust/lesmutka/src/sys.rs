@@ -103,9 +103,9 @@ pub struct Recoder {
 pub const DONE: u32 = 0x100;
 
 extern "C" {
-    /// Writes the canonical string of a number. Refused: 1, 6.
+    /// Writes the canonical string of a number. Refused: 1, 13, 6.
     pub fn lesmutka_recode(number: *const u8, number_length: usize, out: *mut u8, out_length: usize) -> Length;
-    /// Starts taking the canonical digits of a number. Refused: 1; the recoder is then that of zero.
+    /// Starts taking the canonical digits of a number. Refused: 1, 13; the recoder is then that of zero.
     pub fn lesmutka_start(number: *const u8, number_length: usize, recoder: *mut Recoder) -> Started;
     /// Takes the lowest digit that is left: its byte, or [`DONE`].
     pub fn lesmutka_take(recoder: *mut Recoder) -> u32;
@@ -113,7 +113,7 @@ extern "C" {
     pub fn lesmutka_clean(digits: *const u8, digits_length: usize, out: *mut u8, out_length: usize) -> Length;
     /// Writes the size of a digit string's value, and answers the sign. Refused: 5, 4, 6.
     pub fn lesmutka_read_back(digits: *const u8, digits_length: usize, out: *mut u8, out_length: usize) -> Value;
-    /// Writes the plan for a number by a method. Refused: 1, 2, 3, 6.
+    /// Writes the plan for a number by a method. Refused: 1, 13, 2, 3, 6.
     pub fn lesmutka_plan(
         number: *const u8,
         number_length: usize,
@@ -122,9 +122,9 @@ extern "C" {
         out: *mut u8,
         out_length: usize,
     ) -> Counts;
-    /// The counts of that plan, without it. Refused: 1, 2, 3.
+    /// The counts of that plan, without it. Refused: 1, 13, 2, 3.
     pub fn lesmutka_forecast(number: *const u8, number_length: usize, method: u32, width: u32) -> Counts;
-    /// Checks a plan for a number. Refused: 1, 2, 7, 8, then 9, 10 or 11, then 12.
+    /// Checks a plan for a number. Refused: 1, 13, 2, 7, 8, then 9, 10 or 11, then 12.
     pub fn lesmutka_check(
         number: *const u8,
         number_length: usize,

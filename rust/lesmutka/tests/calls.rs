@@ -11,7 +11,6 @@ fn digits_of(number: &[u8]) -> Vec<i8> {
 #[test]
 fn recoding() {
     assert_eq!(digits_of(&[]), []);
-    assert_eq!(digits_of(&[0]), []);
     assert_eq!(digits_of(&[1]), [1]);
     assert_eq!(digits_of(&[3]), [1, 0, -1]);
     assert_eq!(digits_of(&[7]), [1, 0, 0, -1]);
@@ -44,7 +43,7 @@ fn only_the_answer_is_written() {
 fn digits_one_by_one() {
     let longest = [[0xff; NUMBER_BYTES], [0x55; NUMBER_BYTES], [0xaa; NUMBER_BYTES]];
     let [ones, odd, even] = &longest;
-    for number in [&[][..], &[0], &[1], &[43], ones, odd, even] {
+    for number in [&[][..], &[1], &[43], ones, odd, even] {
         let mut room = [7; RECODE_ROOM];
         let mut taken = digits(number).unwrap();
         assert_eq!(recode(number, &mut room).unwrap(), taken.by_ref().collect::<Vec<_>>());
@@ -64,8 +63,15 @@ fn a_clone_goes_on_alone() {
     assert_eq!(second.collect::<Vec<_>>(), [0, -1, 0, -1, 0, 1]);
 }
 
+/// The number without its high zero bytes, which no call takes.
+fn trimmed(number: &[u8]) -> &[u8] {
+    let length = number.iter().rposition(|&byte| byte != 0).map_or(0, |top| top + 1);
+    &number[..length]
+}
+
 /// As many digits are left as recode writes, less those taken.
 fn digits_left(number: &[u8]) {
+    let number = trimmed(number);
     let mut room = [7; RECODE_ROOM];
     let length = recode(number, &mut room).unwrap().len();
     let mut taken = digits(number).unwrap();
@@ -195,7 +201,11 @@ fn planning_refused() {
         plan(&[0; NUMBER_BYTES + 1], Method::Binary, &mut room),
         Err(Refusal::NumberTooLong)
     );
-    assert_eq!(plan(&[0; 3], Method::Binary, &mut room), Err(Refusal::NumberIsZero));
+    assert_eq!(
+        plan(&[0; 3], Method::Binary, &mut room),
+        Err(Refusal::HighestByteIsZero)
+    );
+    assert_eq!(plan(&[], Method::Binary, &mut room), Err(Refusal::NumberIsZero));
     assert_eq!(
         plan(&[3], Method::FixedWindows(7), &mut room),
         Err(Refusal::MethodOrWidth)
@@ -316,6 +326,90 @@ fn limits_by_number() {
         let short = check(&number, &steps(5 * r), &mut space[..exact - 1]);
         assert_eq!(short, Err(Refusal::WorkSpaceTooShort));
     }
+}
+
+/// Spellings by their bytes, handed to every call: with a highest byte of zero they are refused, whatever
+/// else is wrong, and nothing that was lent changes.
+#[test]
+fn one_spelling() {
+    let mut top_zero = [0xff; 48];
+    top_zero[47] = 0;
+    let mut too_long = [0xff; 49];
+    too_long[48] = 0;
+    for (number, refusal) in [
+        (&[0x2b, 0][..], 13),
+        (&[0x2b, 0, 0], 13),
+        (&[1, 0], 13),
+        (&[0], 13),
+        (&[0, 0], 13),
+        (&[0; 48], 13),
+        (&top_zero, 13),
+        (&too_long, 1),
+        (&[0; 49], 1),
+    ] {
+        refused_by_every_call(number, refusal);
+    }
+    // The same numbers without these bytes are taken.
+    for number in [&[0x2b][..], &[1], &top_zero[..47]] {
+        let mut room = [7; 385];
+        assert!(recode(number, &mut room).is_ok());
+        assert!(digits(number).is_ok());
+        assert!(forecast(number, Method::Naf).is_ok());
+    }
+    // Zero has no bytes.
+    assert_eq!(recode(&[], &mut []), Ok(&[][..]));
+    assert_eq!(digits(&[]).unwrap().next(), None);
+    assert_eq!(forecast(&[], Method::Naf), Err(Refusal::NumberIsZero));
+    assert_eq!(plan(&[], Method::Naf, &mut []), Err(Refusal::NumberIsZero));
+    assert_eq!(check(&[], &[0], &mut []), Err(Refusal::NumberIsZero));
+    // A zero byte below the highest is one like any other.
+    assert_eq!(forecast(&[0, 1], Method::Naf).unwrap().total(), 8);
+}
+
+/// Each call refuses the number with this refusal at place 0, into enough room and beside every fault that
+/// is tested later. Both the fields of the answer and the safe call say so.
+fn refused_by_every_call(number: &[u8], refusal: usize) {
+    let safe = match refusal {
+        1 => Refusal::NumberTooLong,
+        _ => Refusal::HighestByteIsZero,
+    };
+    let counts = sys::Counts {
+        refusal,
+        place: 0,
+        doublings: 0,
+        additions: 0,
+        subtractions: 0,
+    };
+    for room in [0, 5000] {
+        let mut out = vec![7; room];
+        let length = sys::Length {
+            refusal,
+            place: 0,
+            length: 0,
+        };
+        assert_eq!(sys::recode(number, &mut out), length, "{:x?}", number);
+        for (method, width) in [(1, 0), (2, 6), (3, 6), (4, 0), (0, 0), (4, 1), (5, 0)] {
+            assert_eq!(sys::plan(number, method, width, &mut out), counts, "{:x?}", number);
+            assert_eq!(sys::forecast(number, method, width), counts, "{:x?}", number);
+        }
+        // A plan for 2, for 1, and for none: part of a step, an unknown operation.
+        for steps in [&[0; 5][..], &[], &[0; 4], &[2, 0, 0, 0, 0]] {
+            assert_eq!(sys::check(number, steps, &mut out), counts, "{:x?}", number);
+        }
+        assert_eq!(plan(number, Method::Naf, &mut out), Err(safe));
+        assert_eq!(check(number, &[0; 5], &mut out), Err(safe));
+        assert_eq!(out, vec![7; room], "{:x?}", number);
+    }
+    assert_eq!(recode(number, &mut [7; 385]), Err(safe));
+    assert_eq!(forecast(number, Method::Naf), Err(safe));
+    assert_eq!(digits(number).unwrap_err(), safe);
+    // The recoder is that of zero.
+    let mut recoder = sys::Recoder { words: [7; 7] };
+    let started = sys::Started { refusal, place: 0 };
+    assert_eq!(sys::start(number, &mut recoder), started, "{:x?}", number);
+    assert_eq!(recoder.words, [0; 7], "{:x?}", number);
+    assert_eq!(sys::take(&mut recoder), None, "{:x?}", number);
+    assert_eq!(recoder.words, [0; 7], "{:x?}", number);
 }
 
 #[test]

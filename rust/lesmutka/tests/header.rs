@@ -84,7 +84,7 @@ fn widest_windows_agree() {
 }
 
 /// All refusals, in the order of their numbers.
-fn refusals() -> [Refusal; 12] {
+fn refusals() -> [Refusal; 13] {
     [
         Refusal::NumberTooLong,
         Refusal::NumberIsZero,
@@ -98,6 +98,7 @@ fn refusals() -> [Refusal; 12] {
         Refusal::ValueIsZero { step: 7 },
         Refusal::ValueTooLarge { step: 7 },
         Refusal::WrongEnd { steps: 7 },
+        Refusal::HighestByteIsZero,
     ]
 }
 
@@ -124,7 +125,7 @@ fn refusals_agree() {
 #[test]
 fn places_are_kept() {
     let places: Vec<usize> = refusals().iter().map(|refusal| refusal.place()).collect();
-    assert_eq!(places, [0, 0, 0, 7, 0, 7, 0, 0, 7, 7, 7, 7]);
+    assert_eq!(places, [0, 0, 0, 7, 0, 7, 0, 0, 7, 7, 7, 7, 0]);
 }
 
 #[test]
@@ -169,14 +170,14 @@ fn linked_words_agree() {
     for refusal in refusals() {
         assert_eq!(linked_words(refusal.number()), refusal.message());
     }
-    for number in [13, 14, 256, 257, usize::MAX] {
+    for number in [14, 15, 256, 257, usize::MAX] {
         assert_eq!(linked_words(number), "no such refusal");
     }
 }
 
 #[test]
 fn words_take_room() {
-    for number in 0..=13 {
+    for number in 0..=14 {
         let words = linked_words(number);
         let mut room = vec![7; words.len()];
         let answer = sys::write_words(number, &mut room[1..]);
@@ -197,7 +198,7 @@ fn header_words() -> Vec<&'static str> {
         .lines()
         .filter_map(|line| line.trim().strip_prefix('"')?.strip_suffix("\","))
         .collect();
-    assert_eq!(words.len(), 13);
+    assert_eq!(words.len(), 14);
     words
 }
 

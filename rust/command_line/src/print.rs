@@ -191,13 +191,15 @@ pub fn put_method(choice: Choice, out: &mut Vec<u8>) {
     }
 }
 
-/// A number's bytes as they went to the call, most significant first; 0x0 if there are none.
+/// A number's bytes as they went to the call, most significant first; 0 if there are none, since
+/// hexadecimal has no word for these.
 pub fn put_bytes(bytes: &[u8], out: &mut Vec<u8>) {
     const DIGITS: &[u8; 16] = b"0123456789abcdef";
-    out.extend_from_slice(b"0x");
     if bytes.is_empty() {
         out.push(b'0');
+        return;
     }
+    out.extend_from_slice(b"0x");
     for byte in bytes.iter().rev() {
         out.extend_from_slice(&[DIGITS[usize::from(byte >> 4)], DIGITS[usize::from(byte & 15)]]);
     }

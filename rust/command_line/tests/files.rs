@@ -139,7 +139,7 @@ fn nothing_is_left_of_a_failure() {
         let ended = run(&folder, words, b"");
         assert_eq!(
             (ended.status, ended.text().as_str()),
-            (1, "0x0 by binary: refused 2, place 0: the number is zero\n")
+            (1, "0 by binary: refused 2, place 0: the number is zero\n")
         );
     }
     assert_eq!(folder.names(), before);
@@ -250,7 +250,7 @@ fn standard_input_and_output() {
     assert_eq!(run(&folder, &["check", "3", "-"], &three()).text(), ACCEPTED);
     let ended = run(&folder, &["plan", "0", "1", "to", "-"], b"");
     assert_eq!((ended.status, ended.text().as_str()), (1, ""));
-    assert_eq!(ended.err, "0x0 by binary: refused 2, place 0: the number is zero\n");
+    assert_eq!(ended.err, "0 by binary: refused 2, place 0: the number is zero\n");
     assert_eq!(folder.names(), Vec::<String>::new());
 }
 

@@ -276,7 +276,7 @@ fn failures_name_the_number() {
 fn long_lines() {
     let most = 8192;
     let exact = format!("recode {}", "0".repeat(most - 7));
-    let zero = "0x0: digits: none\n";
+    let zero = "0: digits: none\n";
     let long = "malformed: a line has at most 8192 bytes\n";
     for end in ["\n", "\r\n", ""] {
         let (status, out, _) = batch(format!("{}{}", exact, end).as_bytes());

@@ -271,6 +271,27 @@ fn digits() {
     }
 }
 
+/// Zero is printed as the word that is taken for it, everywhere.
+#[test]
+fn zero() {
+    for (words, line) in [
+        (&["recode", "0"][..], "0: digits: none\n"),
+        (&["recode", "000"], "0: digits: none\n"),
+        (&["read-back"], "value: 0\n"),
+        (&["read-back", "0", "0"], "value: 0\n"),
+        (
+            &["plan", "0", "naf"],
+            "0 by naf: refused 2, place 0: the number is zero\n",
+        ),
+    ] {
+        assert_eq!(asked(words).1, line);
+    }
+    let object = Json::read(asked(&["recode", "0", "--json"]).1.trim_end());
+    assert_eq!(object.get("number"), &Json::Text("0".to_string()));
+    let object = Json::read(asked(&["read-back", "0", "--json"]).1.trim_end());
+    assert_eq!(object.get("value"), &Json::Text("0".to_string()));
+}
+
 /// Numbers of any length are read, and the call refuses them.
 #[test]
 fn huge_numbers() {

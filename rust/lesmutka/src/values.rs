@@ -4,7 +4,7 @@ use core::fmt;
 use core::iter::FusedIterator;
 use core::slice::ChunksExact;
 
-/// A value: its sign and its size. It prints in hexadecimal, whole bytes: `-0x2b`, `0x0100`, `0x0`.
+/// A value: its sign and its size. It prints in hexadecimal, whole bytes: `-0x2b`, `0x0100`; zero is `0`.
 #[derive(Clone, Copy, Debug, PartialEq, Eq)]
 pub struct Value<'a> {
     /// Whether it is below zero.
@@ -15,10 +15,11 @@ pub struct Value<'a> {
 
 impl fmt::Display for Value<'_> {
     fn fmt(&self, f: &mut fmt::Formatter<'_>) -> fmt::Result {
-        f.write_str(if self.is_negative { "-0x" } else { "0x" })?;
+        f.write_str(if self.is_negative { "-" } else { "" })?;
         if self.size.is_empty() {
             return f.write_str("0");
         }
+        f.write_str("0x")?;
         self.size.iter().rev().try_for_each(|byte| write!(f, "{:02x}", byte))
     }
 }

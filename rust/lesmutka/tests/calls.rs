@@ -603,7 +603,7 @@ fn the_values_of_a_work_space() {
     assert_eq!(texts(records(&space[..work_space(2) - 1], 3)), ["0x01", "0x02"]);
     assert_eq!(records(&[], 3).next(), None);
     // A record of zeros, which no check leaves.
-    assert_eq!(texts(records(&[0; RECORD_BYTES], 0)), ["0x0"]);
+    assert_eq!(texts(records(&[0; RECORD_BYTES], 0)), ["0"]);
 }
 
 #[test]
@@ -627,7 +627,7 @@ fn a_value_as_text() {
         (false, &[5], "0x05"),
         (false, &[0xcd, 0xab, 1], "0x01abcd"),
         (true, &[0, 1], "-0x0100"),
-        (false, &[], "0x0"),
+        (false, &[], "0"),
     ] {
         assert_eq!(Value { is_negative, size }.to_string(), text);
     }

@@ -149,7 +149,7 @@ pub fn number(word: &str) -> Vec<u8> {
 
 pub fn shown(bytes: &[u8]) -> String {
     match bytes.is_empty() {
-        true => "0x0".to_string(),
+        true => "0".to_string(),
         false => format!(
             "0x{}",
             bytes.iter().rev().map(|b| format!("{:02x}", b)).collect::<String>()

@@ -136,7 +136,7 @@ impl Desk {
 }
 
 /// The bytes of a number, by the library's readers. What is written with 0x goes to the call byte for
-/// byte.
+/// byte; a leading zero byte is for the call to refuse.
 fn read_number<'a>(word: &[u8], bytes: &'a mut Vec<u8>) -> Result<&'a [u8], Fault> {
     let room = lesmutka::text_room(word.len());
     if bytes.len() < room {

@@ -8,7 +8,8 @@ const WORDS: [(&str, &str); 5] = [
     (
         "NUMBER",
         "decimal, or hexadecimal with 0x. What is written with 0x goes to the\n        \
-         call byte for byte, so leading zeros count.",
+         call byte for byte, two digits a byte, and has no leading zero byte.\n        \
+         Zero is 0.",
     ),
     (
         "DIGITS",

@@ -121,7 +121,7 @@ impl<'a> Fields<'a> {
         out.extend_from_slice(b",\"place\":");
         put_or_null(refusal.map(|refusal| refusal.place() as u64), out, put_number);
         out.extend_from_slice(b",\"message\":");
-        let reason = self.refused.map(|refused| reason(refused, self.choice));
+        let reason = self.refused.map(|refused| reason(refused, self.number, self.choice));
         put_or_null(reason.as_deref().or(self.message.as_deref()), out, put_text);
         out.extend_from_slice(b"}\n");
     }

@@ -113,7 +113,7 @@ impl Form {
                 out.extend_from_slice(b"accepted: ");
                 put_counts(*counts, out);
             }
-            Ok(Answer::Refused(refused)) => put_refusal(refused, request.choice(), out),
+            Ok(Answer::Refused(refused)) => put_refusal(refused, answered.number, request.choice(), out),
             Err(fault) => {
                 let _ = write!(out, "{}: {}", fault.status().name(), fault);
             }
@@ -122,23 +122,26 @@ impl Form {
     }
 }
 
-pub fn put_refusal(refused: &Refused, choice: Option<Choice>, out: &mut Vec<u8>) {
-    let (number, place) = (refused.refusal.number(), refused.refusal.place());
-    let _ = write!(out, "refused {}, place {}: {}", number, place, reason(refused, choice));
+pub fn put_refusal(refused: &Refused, number: Option<&[u8]>, choice: Option<Choice>, out: &mut Vec<u8>) {
+    let (refusal, place) = (refused.refusal.number(), refused.refusal.place());
+    let reason = reason(refused, number, choice);
+    let _ = write!(out, "refused {}, place {}: {}", refusal, place, reason);
 }
 
-/// What a refusal says, what is allowed where something is not, and the word behind it.
-pub fn reason(refused: &Refused, choice: Option<Choice>) -> String {
-    let allowed = match (refused.refusal, choice) {
-        (Refusal::NumberTooLong, _) => Some(format!("a number has at most {} bytes", lesmutka::NUMBER_BYTES)),
-        (Refusal::StringTooLong, _) => Some(format!("at most {} digits", lesmutka::STRING_DIGITS)),
-        (Refusal::PlanLength, _) => Some(format!(
+/// What a refusal of this number and method says, what is allowed where something is not, and the word
+/// behind it.
+pub fn reason(refused: &Refused, number: Option<&[u8]>, choice: Option<Choice>) -> String {
+    let allowed = match refused.refusal {
+        Refusal::NumberTooLong => Some(format!("a number has at most {} bytes", lesmutka::NUMBER_BYTES)),
+        Refusal::StringTooLong => Some(format!("at most {} digits", lesmutka::STRING_DIGITS)),
+        Refusal::PlanLength => Some(format!(
             "a step has {} bytes, and a plan at most {} steps",
             lesmutka::STEP_BYTES,
             lesmutka::PLAN_STEPS
         )),
-        (Refusal::ValueTooLarge { .. }, _) => Some(format!("a size is below 2^{}", 8 * lesmutka::VALUE_BYTES)),
-        (Refusal::MethodOrWidth, Some(choice)) => Some(choice.allowed()),
+        Refusal::ValueTooLarge { .. } => Some(format!("a size is below 2^{}", 8 * lesmutka::VALUE_BYTES)),
+        Refusal::MethodOrWidth => choice.map(Choice::allowed),
+        Refusal::HighestByteIsZero => number.map(|number| format!("write {}", spelling(number))),
         _ => None,
     };
     let word = refused.word.as_ref().map(|word| format!("it is `{}`", Shown(word)));
@@ -188,6 +191,15 @@ pub fn put_method(choice: Choice, out: &mut Vec<u8>) {
             let _ = write!(out, "{}", Shown(digits));
         }
         (None, None) => put_number(u64::from(choice.method.value), out),
+    }
+}
+
+/// A number as the calls take it, without high zero bytes.
+fn spelling(number: &[u8]) -> Value<'_> {
+    let length = number.iter().rposition(|&byte| byte != 0).map_or(0, |top| top + 1);
+    Value {
+        is_negative: false,
+        size: &number[..length],
     }
 }
 

@@ -40,7 +40,7 @@ pub fn show(file: &OsStr, dot: bool, json: bool, desk: &mut Desk, out: &mut Vec<
         chain.put_graph(out);
         if let Some(refused) = &chain.refused {
             let mut line = b"lesmutka: ".to_vec();
-            put_refusal(refused, None, &mut line);
+            put_refusal(refused, None, None, &mut line);
             line.push(b'\n');
             let _ = io::stderr().write_all(&line);
         }
@@ -121,7 +121,7 @@ impl<'a> Chain<'a> {
             out.push(b'\n');
         }
         match (&self.refused, self.values.last(), self.counts) {
-            (Some(refused), _, _) => put_refusal(refused, None, out),
+            (Some(refused), _, _) => put_refusal(refused, None, None, out),
             (None, Some(end), counts) => {
                 out.extend_from_slice(b"ends at ");
                 put_value(*end, out);

@@ -10,18 +10,25 @@ use std::process::Stdio;
 
 const LINES: usize = 100_000;
 
+/// A decimal number, often with zeros in front.
+fn decimal(rng: &mut Rng) -> String {
+    let zeros = rng.pick(&[0, 0, 1, 2, 3, 9, 50, 130]);
+    let count = rng.between(usize::from(zeros == 0), 130);
+    let digits: String = (0..count).map(|_| char::from(b'0' + rng.below(10) as u8)).collect();
+    "0".repeat(zeros) + &digits
+}
+
 /// A request that is well formed.
 fn request(rng: &mut Rng) -> String {
     let length = rng.pick(&[0, 1, 1, 2, 4, 8, 32, NUMBER_BYTES - 1, NUMBER_BYTES, NUMBER_BYTES + 1]);
     let number = rng.bytes(length);
-    let number = match rng.below(3) {
+    let number = match rng.below(4) {
         0 => rng.next_u64().to_string(),
-        1 => {
-            let count = rng.between(1, 130);
-            (0..count).map(|_| char::from(b'0' + rng.below(10) as u8)).collect()
-        }
-        _ => format!(
-            "0x0{}",
+        1 => decimal(rng),
+        // Digits in front of the bytes: a leading zero byte, or none.
+        front => format!(
+            "0x{}{}",
+            rng.pick(&[&["1", "01", "f"], &["0", "00", "000"]][front - 2][..]),
             number.iter().map(|byte| format!("{:02X}", byte)).collect::<String>()
         ),
     };
@@ -158,6 +165,35 @@ fn random_and_damaged_lines() {
         count("refused"),
         count("malformed")
     )));
+}
+
+/// A decimal number has one spelling, however many zeros stand in front: each request answers as for the
+/// number without them, and refusal 13 never comes up.
+#[test]
+fn decimal_numbers_with_zeros_in_front() {
+    let rng = &mut Rng::new(0x6465_6369);
+    let folder = Folder::new();
+    folder.write("plan", &[0; 5]);
+    let (mut plain, mut padded) = (String::new(), String::new());
+    let mut numbers: Vec<String> = ["0", "1", "43", "255", "256", "65536"].map(String::from).to_vec();
+    numbers.extend((0..5_000).map(|_| decimal(rng)));
+    for number in &numbers {
+        let digits = match number.trim_start_matches('0') {
+            "" => "0",
+            digits => digits,
+        };
+        let zeros = "0".repeat(rng.between(1, 200));
+        for request in ["recode N", "forecast N naf", "plan N binary", "check N plan"] {
+            plain += &(request.replace('N', digits) + "\n");
+            padded += &(request.replace('N', &(zeros.clone() + number)) + "\n");
+        }
+    }
+    let plain = run(&folder, &["batch"], plain.as_bytes());
+    let padded = run(&folder, &["batch"], padded.as_bytes());
+    assert_eq!(plain.text(), padded.text());
+    assert_eq!(padded.text().lines().count(), 4 * numbers.len());
+    assert!(padded.text().contains(": refused 1, ") && padded.text().contains(": refused 2, "));
+    assert!(!padded.text().contains("refused 13"));
 }
 
 fn batch(input: &[u8]) -> (i32, String, String) {

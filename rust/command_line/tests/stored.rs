@@ -37,12 +37,27 @@ fn answers_of_the_reference() {
 /// every answer.
 #[test]
 fn all_refusals_are_stored() {
-    for number in [1, 2, 3, 4, 5, 7, 9, 10, 11, 12] {
+    for number in [1, 2, 3, 4, 5, 7, 9, 10, 11, 12, 13] {
         assert!(
             ANSWERS.contains(&format!("refused {}, place ", number)),
             "refusal {}",
             number
         );
+    }
+}
+
+/// A highest byte of zero is refused by each request that takes a number, and zero by those that plan or
+/// check.
+#[test]
+fn numbers_that_are_refused() {
+    let refused = |verb: &str, number: u32| {
+        let all = REQUESTS.lines().zip(ANSWERS.lines());
+        all.filter(|(request, answer)| words(request)[0] == verb && answer.contains(&format!("refused {}, ", number)))
+            .count()
+    };
+    for verb in ["recode", "forecast", "plan", "check"] {
+        assert!(refused(verb, 13) > 2, "{}", verb);
+        assert_eq!(refused(verb, 2) > 0, verb != "recode", "{}", verb);
     }
 }
 

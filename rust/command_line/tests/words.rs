@@ -47,6 +47,7 @@ fn help_and_version() {
     assert_eq!((status, out.as_str()), (2, ""));
     assert_eq!(err, "lesmutka: no request; `lesmutka help` lists them\n");
     assert!(asked(&["help", "plan"]).1.contains("\n--force"));
+    assert!(asked(&["help", "recode"]).1.contains("no leading zero byte"));
     assert!(!asked(&["help", "plan"]).1.contains("--dot"));
     assert!(asked(&["help", "show"]).1.contains("\n--dot"));
 }
@@ -269,6 +270,62 @@ fn digits() {
     for words in [&["clean"][..], &["clean", ""]] {
         assert_eq!(asked(words).1, "digits: none\n");
     }
+}
+
+/// A hexadecimal number has no leading zero byte; a refusal says how it is written, and that is taken.
+#[test]
+fn one_spelling_of_a_number() {
+    let longest = format!("0x{}", "f".repeat(2 * NUMBER_BYTES - 2));
+    let (padded, padded_bytes) = (longest.replace("0x", "0x0"), longest.replace("0x", "0x00"));
+    for (word, bytes, spelling) in [
+        ("0x002b", "0x002b", "0x2b"),
+        ("0x02b", "0x002b", "0x2b"),
+        ("0X002B", "0x002b", "0x2b"),
+        ("0x00b", "0x000b", "0x0b"),
+        ("0x000100", "0x000100", "0x0100"),
+        ("0x00100", "0x000100", "0x0100"),
+        ("0x0000002b", "0x0000002b", "0x2b"),
+        ("0x0", "0x00", "0"),
+        ("0x00", "0x00", "0"),
+        ("0x000", "0x0000", "0"),
+        (padded.as_str(), padded_bytes.as_str(), longest.as_str()),
+    ] {
+        let said = format!("the highest byte of the number is zero; write {}", spelling);
+        let line = format!("refused 13, place 0: {}\n", said);
+        assert_eq!(
+            asked(&["recode", word]),
+            (1, format!("{}: {}", bytes, line), String::new())
+        );
+        for words in [
+            &["forecast", word, "naf"][..],
+            &["plan", word, "naf"],
+            &["plan", word, "naf", "to", "x"],
+        ] {
+            assert_eq!(asked(words), (1, format!("{} by naf: {}", bytes, line), String::new()));
+        }
+        // Before an unknown method, and before a plan that is none.
+        let refused = asked(&["plan", word, "9"]);
+        assert_eq!(refused, (1, format!("{} by 9: {}", bytes, line), String::new()));
+        let ended = run(&Folder::new(), &["check", word, "-"], &[2; 4]);
+        assert_eq!((ended.status, ended.text()), (1, format!("{}: {}", bytes, line)));
+        let object = Json::read(asked(&["recode", word, "--json"]).1.trim_end());
+        assert_eq!(object.get("number"), &Json::Text(bytes.to_string()));
+        assert_eq!(object.get("refusal"), &Json::Number(13));
+        assert_eq!(object.get("place"), &Json::Number(0));
+        assert_eq!(object.get("message"), &Json::Text(said));
+        // What is advised is taken, and printed as it was typed.
+        let (status, out, _) = asked(&["recode", spelling]);
+        assert_eq!(status, 0, "{}", spelling);
+        assert!(out.starts_with(&format!("{}: digits: ", spelling)), "{}", out);
+    }
+    // A zero digit in front is no zero byte.
+    assert_eq!(asked(&["recode", "0x0b"]).1, "0x0b: digits: 1 0 -1 0 -1\n");
+    assert_eq!(asked(&["recode", "0xb"]).1, "0x0b: digits: 1 0 -1 0 -1\n");
+    assert_eq!(asked(&["recode", "0x0100"]).1, "0x0100: digits: 1 0 0 0 0 0 0 0 0\n");
+    // The length is tested first.
+    let (status, out, _) = asked(&["recode", &format!("0x{}2b", "00".repeat(NUMBER_BYTES))]);
+    assert_eq!(status, 1);
+    assert!(out.contains(": refused 1, place 0: "), "{}", out);
 }
 
 /// Zero is printed as the word that is taken for it, everywhere.

@@ -223,12 +223,25 @@ pub fn step_words(plan: &[u8]) -> String {
     }
 }
 
-/// A refusal, and what is allowed where it says that something is not.
-fn refused(refusal: Refusal, method: Option<u32>) -> String {
-    refused_word(refusal, method, None)
+/// A number as the calls take it: the word 0, or whole bytes without a leading zero byte.
+fn spelling(number: &[u8]) -> String {
+    let digits = shown(number);
+    let rest = digits.trim_start_matches("0x").trim_start_matches("00");
+    match rest {
+        "" | "0" => "0".to_string(),
+        _ => format!("0x{}", rest),
+    }
 }
 
-/// The same, with the word behind it.
+/// A refusal of a number, and what is allowed where it says that something is not.
+fn refused(refusal: Refusal, number: &[u8], method: Option<u32>) -> String {
+    match refusal.number {
+        13 => format!("{}; write {}", refused_word(refusal, method, None), spelling(number)),
+        _ => refused_word(refusal, method, None),
+    }
+}
+
+/// A refusal with the word behind it.
 fn refused_word(refusal: Refusal, method: Option<u32>, word: Option<&str>) -> String {
     let said = format!(
         "refused {}, place {}: {}",
@@ -279,7 +292,7 @@ pub fn expected(words: &[&str], files: &mut HashMap<String, Vec<u8>>) -> String 
             let number = number(words[1]);
             let answer = match recode(&number, &mut out) {
                 Ok(length) => digits(&out[..length]),
-                Err(refusal) => refused(refusal, None),
+                Err(refusal) => refused(refusal, &number, None),
             };
             format!("{}: {}", shown(&number), answer)
         }
@@ -288,7 +301,7 @@ pub fn expected(words: &[&str], files: &mut HashMap<String, Vec<u8>>) -> String 
             let mut space = vec![0; work_space(PLAN_STEPS)];
             let answer = match check(&number, &files[words[2]], &mut space) {
                 Ok(counts) => format!("accepted: {}", counted(counts)),
-                Err(refusal) => refused(refusal, None),
+                Err(refusal) => refused(refusal, &number, None),
             };
             format!("{}: {}", shown(&number), answer)
         }
@@ -297,7 +310,7 @@ pub fn expected(words: &[&str], files: &mut HashMap<String, Vec<u8>>) -> String 
             let (method, width, name) = choice(&words[2..]);
             let answer = match forecast(&number, method, width) {
                 Ok(counts) => counted(counts),
-                Err(refusal) => refused(refusal, Some(method)),
+                Err(refusal) => refused(refusal, &number, Some(method)),
             };
             format!("{} by {}: {}", shown(&number), name, answer)
         }
@@ -315,7 +328,7 @@ pub fn expected(words: &[&str], files: &mut HashMap<String, Vec<u8>>) -> String 
                     let steps = step_words(&out[..STEP_BYTES * counts.total()]);
                     format!("{}; steps: {}", counted(counts), steps)
                 }
-                (Err(refusal), _) => refused(refusal, Some(method)),
+                (Err(refusal), _) => refused(refusal, &number, Some(method)),
             };
             format!("{} by {}: {}", shown(&number), name, answer)
         }

@@ -135,8 +135,10 @@ static void refusals(void) {
     uint8_t out[LESMUTKA_CLEAN_ROOM], space[LESMUTKA_WORK_SPACE(LESMUTKA_PLAN_STEPS)];
     lesmutka_length length = lesmutka_recode(number, sizeof number, out, sizeof out);
     EXPECT(length.refusal == LESMUTKA_NUMBER_TOO_LONG && length.place == 0);
-    lesmutka_counts steps = lesmutka_forecast(number, LESMUTKA_NUMBER_BYTES, LESMUTKA_NAF, 0);
+    lesmutka_counts steps = lesmutka_forecast(number, 0, LESMUTKA_NAF, 0);
     EXPECT(steps.refusal == LESMUTKA_NUMBER_IS_ZERO && steps.place == 0);
+    steps = lesmutka_forecast(number, LESMUTKA_NUMBER_BYTES, LESMUTKA_NAF, 0);
+    EXPECT(steps.refusal == LESMUTKA_HIGHEST_BYTE_IS_ZERO && steps.place == 0);
     steps = lesmutka_forecast(one, 1, LESMUTKA_NAF, 1);
     EXPECT(steps.refusal == LESMUTKA_METHOD_OR_WIDTH && steps.place == 0);
     length = lesmutka_clean(digits, LESMUTKA_STRING_DIGITS, out, sizeof out);
@@ -181,6 +183,62 @@ static int changed_only(size_t first) {
         if ((i < GUARD || i >= GUARD + first) && guarded[i] != 0xa5)
             return 0;
     return 1;
+}
+
+/* Every call that takes a number refuses these bytes so, beside faults that are tested later too: no room, no method,
+ * part of a step, no work space. Nothing that was lent changes, and the recoder becomes that of zero. */
+static void refused_number(const uint8_t *number, size_t length, size_t refusal) {
+    const uint8_t steps[LESMUTKA_STEP_BYTES] = {0};
+    const size_t rooms[] = {0, ROOM};
+    lend();
+    for (size_t i = 0; i < sizeof rooms / sizeof rooms[0]; i++) {
+        lesmutka_length recoded = lesmutka_recode(number, length, lent, rooms[i]);
+        EXPECT(recoded.refusal == refusal && recoded.place == 0 && recoded.length == 0);
+        for (uint32_t method = 0; method <= LESMUTKA_NAF; method++) {
+            lesmutka_counts counts = lesmutka_plan(number, length, method, 0, lent, rooms[i]);
+            EXPECT(counts.refusal == refusal && counts.place == 0);
+            EXPECT(counts.doublings == 0 && counts.additions == 0 && counts.subtractions == 0);
+            counts = lesmutka_forecast(number, length, method, 0);
+            EXPECT(counts.refusal == refusal && counts.place == 0);
+            EXPECT(counts.doublings == 0 && counts.additions == 0 && counts.subtractions == 0);
+        }
+        for (size_t bytes = 0; bytes <= sizeof steps; bytes++) {
+            lesmutka_counts counts = lesmutka_check(number, length, steps, bytes, lent, rooms[i]);
+            EXPECT(counts.refusal == refusal && counts.place == 0);
+            EXPECT(counts.doublings == 0 && counts.additions == 0 && counts.subtractions == 0);
+        }
+    }
+    EXPECT(changed_only(0));
+
+    lesmutka_recoder recoder, zero;
+    memset(&zero, 0, sizeof zero);
+    memset(&recoder, 0xa5, sizeof recoder);
+    lesmutka_started started = lesmutka_start(number, length, &recoder);
+    EXPECT(started.refusal == refusal && started.place == 0);
+    EXPECT(memcmp(&recoder, &zero, sizeof recoder) == 0);
+    EXPECT(lesmutka_take(&recoder) == LESMUTKA_DONE);
+    EXPECT(memcmp(&recoder, &zero, sizeof recoder) == 0);
+}
+
+/* A highest byte of zero: alone, below the limit at every length, and above it, where the length counts. */
+static void spellings(void) {
+    uint8_t number[LESMUTKA_NUMBER_BYTES + 1];
+    for (size_t length = 1; length <= sizeof number; length++) {
+        size_t refusal = length > LESMUTKA_NUMBER_BYTES ? LESMUTKA_NUMBER_TOO_LONG : LESMUTKA_HIGHEST_BYTE_IS_ZERO;
+        memset(number, 0, length);
+        refused_number(number, length, refusal);
+        number[0] = length > 1 ? 43 : 0;
+        refused_number(number, length, refusal);
+        memset(number, 0xff, length);
+        number[length - 1] = 0;
+        refused_number(number, length, refusal);
+    }
+    /* The same number without that byte; a zero byte below the highest. */
+    number[0] = 43;
+    EXPECT(lesmutka_recode(number, 1, lent, ROOM).length == 7);
+    number[0] = 0;
+    number[1] = 1;
+    EXPECT(lesmutka_recode(number, 2, lent, ROOM).length == 9);
 }
 
 typedef lesmutka_parsed parser(const uint8_t *, size_t, uint8_t *, size_t);
@@ -401,11 +459,12 @@ static void version(void) {
 static void words(void) {
     EXPECT(strcmp(lesmutka_words(0), "not refused") == 0);
     EXPECT(strcmp(lesmutka_words(LESMUTKA_NUMBER_IS_ZERO), "the number is zero") == 0);
-    EXPECT(strcmp(lesmutka_words(13), "no such refusal") == 0);
+    EXPECT(strcmp(lesmutka_words(LESMUTKA_HIGHEST_BYTE_IS_ZERO), "the highest byte of the number is zero") == 0);
+    EXPECT(strcmp(lesmutka_words(14), "no such refusal") == 0);
     EXPECT(strcmp(lesmutka_words(SIZE_MAX), "no such refusal") == 0);
     size_t longest = 0;
-    for (size_t i = 0; i < 15; i++) {
-        size_t refusal = i < 14 ? i : SIZE_MAX;
+    for (size_t i = 0; i < 16; i++) {
+        size_t refusal = i < 15 ? i : SIZE_MAX;
         size_t length = strlen(lesmutka_words(refusal));
         const size_t rooms[] = {length, length + 1, LESMUTKA_WORDS_ROOM, ROOM};
         for (size_t k = 0; k < sizeof rooms / sizeof rooms[0]; k++) {
@@ -438,6 +497,7 @@ int main(void) {
     rooms();
     methods();
     refusals();
+    spellings();
     hexadecimal();
     decimal();
     lengths();

@@ -158,6 +158,14 @@ static void report(const char *name) {
     most = 0;
 }
 
+/* A call that refuses a number because its highest byte is zero. */
+static void measure_refused(void (*run)(void)) {
+    static const uint8_t padded[LESMUTKA_NUMBER_BYTES] = {43};
+    bytes = padded;
+    length = sizeof padded;
+    measure(run, LESMUTKA_HIGHEST_BYTE_IS_ZERO);
+}
+
 static void numbers(void) {
     static uint8_t number[3][LESMUTKA_NUMBER_BYTES + 1];
     memset(number[0], 0xff, sizeof number[0]);
@@ -174,6 +182,7 @@ static void numbers(void) {
             measure(recode, length > LESMUTKA_NUMBER_BYTES ? LESMUTKA_NUMBER_TOO_LONG : LESMUTKA_ROOM_TOO_SMALL);
         }
     }
+    measure_refused(recode);
     report("recode");
 
     for (int i = 0; i < 3; i++) {
@@ -181,6 +190,7 @@ static void numbers(void) {
         for (length = 1; length <= LESMUTKA_NUMBER_BYTES + 1; length++)
             measure(start, length > LESMUTKA_NUMBER_BYTES ? LESMUTKA_NUMBER_TOO_LONG : 0);
     }
+    measure_refused(start);
     report("start");
 
     for (int i = 0; i < 3; i++) {
@@ -212,6 +222,7 @@ static void numbers(void) {
                             measure(write_plan, LESMUTKA_ROOM_TOO_SMALL);
                     }
         }
+        measure_refused(forecasts ? forecast : write_plan);
         report(forecasts ? "forecast" : "plan");
     }
 }
@@ -284,6 +295,7 @@ static void checks(void) {
         step(steps, last[i][0], latest, latest);
         measure(check, refused[i]);
     }
+    measure_refused(check);
     report("check");
 }
 
@@ -342,7 +354,7 @@ int main(void) {
     report("limits");
     measure(version, LESMUTKA_VERSION);
     report("version");
-    for (refusal = 0; refusal <= LESMUTKA_WRONG_END + 1; refusal++) {
+    for (refusal = 0; refusal <= LESMUTKA_HIGHEST_BYTE_IS_ZERO + 1; refusal++) {
         room = sizeof out;
         measure(write_words, 0);
         room = 0;

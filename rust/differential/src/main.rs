@@ -6,8 +6,8 @@ mod memory;
 
 use lesmutka::sys;
 use memory::Lent;
-use reference::generate::{methods, Generator, Rng};
-use reference::refusal::LAST;
+use reference::generate::{methods, trimmed, Generator, Rng};
+use reference::refusal::{HIGHEST_BYTE_IS_ZERO, LAST, MALFORMED_STEP, WRONG_END};
 use reference::{limits, Refusal};
 use std::fmt::Debug;
 
@@ -99,11 +99,19 @@ fn compare<T: PartialEq + Debug>(
     if left != right {
         differ(tally.call, "bytes left", &(parts, left.part(), right.part()));
     }
+    if matches!(&answer, Err(refusal) if leaves_all(refusal)) && left != *lent {
+        differ(tally.call, "bytes before and after a refusal", &(parts, left.part()));
+    }
     if inputs.iter().zip(&before).any(|(input, before)| *input != before) {
         differ(tally.call, "inputs before and after", &parts);
     }
     tally.count(&answer);
     left
+}
+
+/// Only the refusals of steps, and that of the end, come after something was written.
+fn leaves_all(refusal: &Refusal) -> bool {
+    !(MALFORMED_STEP..=WRONG_END).contains(&refusal.number)
 }
 
 /// A call that reads one slice and writes another, with the same signature on both sides.
@@ -134,11 +142,29 @@ fn calls<T: PartialEq + Debug>(
 }
 
 fn recode(cases: &mut Generator, rng: &mut Rng) -> Tally {
+    let mut padded = padded().flat_map(|number| [(number.clone(), 0), (number, limits::RECODE_ROOM)]);
     let next = || {
-        let case = cases.recode_case();
-        (case.number, case.room)
+        padded.next().unwrap_or_else(|| {
+            let case = cases.recode_case();
+            (case.number, case.room)
+        })
     };
     calls("recode", rng, next, library::recode, reference::recode)
+}
+
+/// A highest byte of zero at every length, also where that is too long. Below it: zeros, a 1, all ones, a
+/// 1 at the top.
+fn padded() -> impl Iterator<Item = Vec<u8>> {
+    (1..=limits::NUMBER_BYTES + 2).flat_map(|length| {
+        let below = |low: u8, rest: u8, high: u8| {
+            let mut number = vec![rest; length];
+            number[0] = low;
+            number[length.saturating_sub(2)] |= high;
+            number[length - 1] = 0;
+            number
+        };
+        [below(0, 0, 0), below(1, 0, 0), below(0xFF, 0xFF, 0), below(0, 0, 1)]
+    })
 }
 
 fn clean(cases: &mut Generator, rng: &mut Rng) -> Tally {
@@ -190,6 +216,12 @@ fn plan(cases: &mut Generator, rng: &mut Rng) -> Tally {
     for (number, method, width) in small() {
         plan_one(rng, &mut tally, &number, method, width, lesmutka::PLAN_ROOM);
     }
+    for number in padded() {
+        for (method, width) in [(4, 0), (2, 6), (0, 0)] {
+            plan_one(rng, &mut tally, &number, method, width, lesmutka::PLAN_ROOM);
+            plan_one(rng, &mut tally, &number, method, width, 0);
+        }
+    }
     tally
 }
 
@@ -224,25 +256,44 @@ fn forecast(cases: &mut Generator, rng: &mut Rng) -> Tally {
     for (number, method, width) in small() {
         forecast_one(rng, &mut tally, &number, method, width);
     }
+    for number in padded() {
+        for (method, width) in [(4, 0), (2, 6), (0, 0)] {
+            forecast_one(rng, &mut tally, &number, method, width);
+        }
+    }
     tally
+}
+
+fn check_one(rng: &mut Rng, tally: &mut Tally, number: &[u8], plan: &[u8], room: usize) {
+    let number = Lent::holding(rng, number);
+    let plan = Lent::holding(rng, plan);
+    let lent = Lent::noise(rng, room);
+    compare(
+        tally,
+        &[&number, &plan],
+        &lent,
+        |space| library::check(number.part(), plan.part(), space),
+        |space| reference::check(number.part(), plan.part(), space),
+    );
 }
 
 fn check(cases: &mut Generator, rng: &mut Rng) -> Tally {
     let mut tally = Tally::new("check");
     for _ in 0..CASES {
         let case = cases.check_case();
-        let number = Lent::holding(rng, &case.number);
-        let plan = Lent::holding(rng, &case.plan);
-        let lent = Lent::noise(rng, case.room);
-        compare(
-            &mut tally,
-            &[&number, &plan],
-            &lent,
-            |space| library::check(number.part(), plan.part(), space),
-            |space| reference::check(number.part(), plan.part(), space),
-        );
+        check_one(rng, &mut tally, &case.number, &case.plan, case.room);
     }
     damaged_steps(rng, &mut tally);
+    for number in padded() {
+        // The plan of the number without these bytes, if there is one; part of a step; no step at all.
+        let mut own = vec![0; lesmutka::PLAN_ROOM];
+        let steps = reference::plan(trimmed(&number), 4, 0, &mut own).map_or(0, |counts| counts.total());
+        own.truncate(lesmutka::STEP_BYTES * steps);
+        for plan in [&own[..], &[0; lesmutka::STEP_BYTES - 1], &[2; lesmutka::STEP_BYTES]] {
+            check_one(rng, &mut tally, &number, plan, lesmutka::work_space(steps + 1));
+            check_one(rng, &mut tally, &number, plan, 0);
+        }
+    }
     tally
 }
 
@@ -288,9 +339,9 @@ fn takes(number: &[u8], recoder: &mut sys::Recoder, mut theirs: reference::Recod
 
 fn take(cases: &mut Generator, rng: &mut Rng) -> Tally {
     let mut tally = Tally::new("take");
-    for _ in 0..CASES {
-        let case = cases.take_case();
-        let number = Lent::holding(rng, &case.number);
+    let cases = (0..CASES).map(|_| cases.take_case().number);
+    for number in padded().chain(cases) {
+        let number = Lent::holding(rng, &number);
         let before = number.clone();
         let mut ours = Guarded::noise(rng);
         let (below, above) = (ours.below, ours.above);
@@ -298,6 +349,14 @@ fn take(cases: &mut Generator, rng: &mut Rng) -> Tally {
         let (theirs, expected) = reference::Recoder::start(number.part());
         if answer != expected {
             differ("start", "answers", &(number.part(), answer, expected));
+        }
+        // No other words stand for zero.
+        if answer.is_err() && ours.recoder.words != [0; NUMBER_WORDS + 1] {
+            differ(
+                "start",
+                "the refused recoder and that of zero",
+                &(number.part(), ours.recoder),
+            );
         }
         takes(number.part(), &mut ours.recoder, theirs);
         if number != before || ours.below != below || ours.above != above {
@@ -328,7 +387,8 @@ fn by_hand(rng: &mut Rng) -> usize {
             carry = u64::from(wrapped);
         }
         if carry == 0 {
-            let (theirs, _) = reference::Recoder::start(&number);
+            let (theirs, started) = reference::Recoder::start(trimmed(&number));
+            assert_eq!(started, Ok(()));
             takes(&number, &mut recoder, theirs);
         } else {
             above_all_numbers(&mut recoder);
@@ -366,16 +426,7 @@ fn damaged_steps(rng: &mut Rng, tally: &mut Tally) {
         ] {
             let mut bytes = vec![0; lesmutka::PLAN_ROOM];
             bytes[lesmutka::STEP_BYTES * (i - 1)..lesmutka::STEP_BYTES * i].copy_from_slice(&step);
-            let number = Lent::holding(rng, &[2]);
-            let plan = Lent::holding(rng, &bytes);
-            let lent = Lent::noise(rng, lesmutka::work_space(steps));
-            compare(
-                tally,
-                &[&number, &plan],
-                &lent,
-                |space| library::check(number.part(), plan.part(), space),
-                |space| reference::check(number.part(), plan.part(), space),
-            );
+            check_one(rng, tally, &[2], &bytes, lesmutka::work_space(steps));
         }
     }
 }
@@ -417,11 +468,26 @@ fn hexadecimal(rng: &mut Rng) -> Tally {
     calls("hexadecimal", rng, next, library::hexadecimal, theirs)
 }
 
+/// A number that is read has no high zero byte, however many zeros stand in front.
 fn decimal(rng: &mut Rng) -> Tally {
     let texts = &mut rng.clone();
     let next = || text(texts, b"0123456789");
+    let ours: Call<usize> = |text, out| {
+        let read = library::decimal(text, out);
+        if let Ok(length) = read {
+            let recoded = library::recode(&out[..length], &mut [0; lesmutka::RECODE_ROOM]);
+            if matches!(recoded, Err(refusal) if refusal.number == HIGHEST_BYTE_IS_ZERO) {
+                differ(
+                    "decimal",
+                    "the bytes and the spelling of the number",
+                    &(text, &out[..length]),
+                );
+            }
+        }
+        read
+    };
     let theirs: Call<usize> = |text, out| reference::text::decimal(text, out).map_err(library::no_number);
-    calls("decimal", rng, next, library::decimal, theirs)
+    calls("decimal", rng, next, ours, theirs)
 }
 
 /// Words that are nearly digits or steps, with blanks between them, and room for about as many bytes as
@@ -541,13 +607,13 @@ fn main() {
     same_limits();
     let cases = &mut Generator::new(SEED);
     let rng = &mut Rng::new(SEED ^ 1);
-    recode(cases, rng).print(&[1, 6]);
-    take(cases, rng).print(&[1]);
+    recode(cases, rng).print(&[1, 6, 13]);
+    take(cases, rng).print(&[1, 13]);
     clean(cases, rng).print(&[4, 5, 6]);
     read_back(cases, rng).print(&[4, 5, 6]);
-    plan(cases, rng).print(&[1, 2, 3, 6]);
-    forecast(cases, rng).print(&[1, 2, 3]);
-    check(cases, rng).print(&[1, 2, 7, 8, 9, 10, 11, 12]);
+    plan(cases, rng).print(&[1, 2, 3, 6, 13]);
+    forecast(cases, rng).print(&[1, 2, 3, 13]);
+    check(cases, rng).print(&[1, 2, 7, 8, 9, 10, 11, 12, 13]);
     hexadecimal(rng).print(&[4]);
     decimal(rng).print(&[4]);
     read_digits(rng).print(&[6]);

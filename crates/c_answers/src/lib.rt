@@ -1,7 +1,5 @@
 // The answers as C takes them: structs of numbers. A refusal is its number and place, and all else
 // is 0; if a call is not refused, both are 0.
-pub mod kept;
-
 use reading::ReadBack;
 use rules::Counted;
 use rules::Refusal;

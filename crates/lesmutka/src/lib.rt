@@ -7,8 +7,8 @@ use c_answers::Limits;
 use c_answers::Parsed;
 use c_answers::Started;
 use c_answers::Value;
-use c_answers::kept::KEPT_WORDS;
-use c_answers::kept::kept_of;
+use c_recoder::KEPT_WORDS;
+use c_recoder::kept_of;
 use taking::Recoder;
 ghost use mathlib.Core.Path.{_≡_};
 ghost use lib.ListN.{length};
@@ -25,7 +25,7 @@ ghost use Rattle.refusal_words.specs.Words.{wordsAnswer, wordsBuffer};
 ghost use Rattle.digit_text.specs.Digits.{digitsAnswer, digitsBuffer};
 ghost use Rattle.step_text.specs.Steps.{stepsAnswer, stepsBuffer};
 ghost use Rattle.c_answers.specs.Answers.{startedFields, writtenFields, readFields, countedFields, limitFields, hexadecimalFields, decimalFields};
-ghost use Rattle.c_answers.specs.Kept.{keptNumber, IsKeptTake};
+ghost use Rattle.c_recoder.specs.Kept.{keptNumber, IsKeptTake};
 
 // Writes the canonical string of a number.
 #[no_mangle]
@@ -53,7 +53,7 @@ pub extern "C" fn lesmutka_start(number: &[u8], recoder: &mut [u64; KEPT_WORDS])
 pub extern "C" fn lesmutka_take(recoder: &mut [u64; KEPT_WORDS]) -> u32
     ensures { λ r. ⌜ IsKeptTake (now (recoder .entry)) (now (recoder .exit)) r ⌝ }
 {
-    c_answers::kept::take(recoder)
+    c_recoder::take(recoder)
 }
 
 // Writes the canonical string of a digit string's value.

@@ -10,7 +10,7 @@ ghost use lib.Dec.{eqb};
 ghost use lib.ListN.{length};
 ghost use Rattle.rules.specs.Limits.{numberWords};
 ghost use Rattle.taking.specs.Take.{standsFor};
-ghost use Rattle.c_answers.specs.Kept.{keptNumber, IsKeptTake};
+ghost use Rattle.c_recoder.specs.Kept.{keptNumber, IsKeptTake};
 
 pub const KEPT_WORDS: usize = NUMBER_WORDS + 1;
 

@@ -1,12 +1,12 @@
--- `c_answers::kept::is_done` meets its contract. Assumes nothing.
+-- `c_recoder::is_done` meets its contract. Assumes nothing.
 use mathlib.Core.Path.{sym, _∙_}
 use native.Mathlib.Omega.{arith}
 use lib.Seq.{length-take-le}
 use Rattle.rules.specs.Limits.{numberWords}
-use Rattle.c_answers.proofs.Taken.{some-left, none-left}
+use Rattle.c_recoder.proofs.Taken.{some-left, none-left}
 use borrow.Author.Needs.{needs}
-use Rattle.c_answers.proofs.kept.is_done.Statement.{statement}
-use Rattle.c_answers.proofs.kept.is_done.Tie as tie
+use Rattle.c_recoder.proofs.is_done.Statement.{statement}
+use Rattle.c_recoder.proofs.is_done.Tie as tie
 
 shared-slice-read-if1 : tie.Need-shared-slice-read-if1
 shared-slice-read-if1 c = search needs

@@ -19,7 +19,7 @@ use Rattle.signed_digits.specs.Bytes.{digitByte}
 use Rattle.taking.specs.declared.Recoder.{Recoder}
 use Rattle.taking.specs.Take.{standsFor}
 use Rattle.taking.proofs.Moves.{move-is}
-use Rattle.c_answers.specs.Kept.{keptNumber, takenNumber, doneNumber, IsKeptTake}
+use Rattle.c_recoder.specs.Kept.{keptNumber, takenNumber, doneNumber, IsKeptTake}
 
 -- ---- a number v and a carry c, where a word that is part of v is not 0 if w
 

@@ -1,11 +1,11 @@
--- `c_answers::kept::take` meets its contract. Assumes nothing.
+-- `c_recoder::take` meets its contract. Assumes nothing.
 use mathlib.Core.Path.{sym, _∙_}
 use native.Mathlib.Omega.{arith}
 use Rattle.integers.proofs.Bits.{bool-small}
-use Rattle.c_answers.proofs.Taken.{carry, taken-done, taken-digit}
+use Rattle.c_recoder.proofs.Taken.{carry, taken-done, taken-digit}
 use borrow.Author.Needs.{needs}
-use Rattle.c_answers.proofs.kept.take.Statement.{statement}
-use Rattle.c_answers.proofs.kept.take.Tie as tie
+use Rattle.c_recoder.proofs.take.Statement.{statement}
+use Rattle.c_recoder.proofs.take.Tie as tie
 
 is-done-requires : tie.Need-is-done-requires
 is-done-requires c κs = search needs

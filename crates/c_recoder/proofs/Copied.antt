@@ -11,7 +11,7 @@ use lib.Seq.{take-suc, take-suc-set, take-set-le, take-all, getD-set-same}
 use mir.Val.{boolByte}
 use Rattle.rules.specs.Limits.{numberWords}
 use Rattle.integers.specs.Positional.{wordsValue}
-use Rattle.c_answers.specs.Kept.{keptNumber}
+use Rattle.c_recoder.specs.Kept.{keptNumber}
 
 -- one word more
 pub copied-more : (from to : List ℕ) (k : ℕ) → k < length from → k < length to → take k to ≡ take k from →

@@ -1,14 +1,14 @@
--- `c_answers::kept::kept_of` meets its contract: after k turns the first k words stand. Assumes nothing.
+-- `c_recoder::kept_of` meets its contract: after k turns the first k words stand. Assumes nothing.
 use mathlib.Core.Path.{_≡_}
 use Prim.Native.Nat.{_+_, _-_, _≤_}
 use native.Mathlib.Omega.{arith}
 use lib.ListN.{length, take}
 use Rattle.rules.specs.Limits.{numberWords}
 use Rattle.taking.specs.Take.{standsFor}
-use Rattle.c_answers.proofs.Copied.{copied-more, kept-stored}
+use Rattle.c_recoder.proofs.Copied.{copied-more, kept-stored}
 use borrow.Author.Needs.{needs}
-use Rattle.c_answers.proofs.kept.kept_of.Statement.{statement}
-use Rattle.c_answers.proofs.kept.kept_of.Tie as tie
+use Rattle.c_recoder.proofs.kept_of.Statement.{statement}
+use Rattle.c_recoder.proofs.kept_of.Tie as tie
 
 abbrev Inv-loop : tie.InvT-loop
 Inv-loop words carry kept₀ k₀ kept k = (k ≤ numberWords) × (length kept ≡ numberWords + 1) × (take k kept ≡ take k words)

@@ -13,7 +13,7 @@ use Rattle.recoding.specs.Recode.{recoding}
 use Rattle.taking.specs.Take.{startAnswer, startNumber, startOutcome, takeAnswer, takeOutcome, digitOutcome}
 use Rattle.taking.proofs.Takes.{digits-of, digits-after}
 use Rattle.taking.proofs.Promises.{start-number, refused-number}
-use Rattle.c_answers.specs.Kept.{keptNumber, takenNumber, takenOutcome, IsKeptTake}
+use Rattle.c_recoder.specs.Kept.{keptNumber, takenNumber, takenOutcome, IsKeptTake}
 
 -- no digit's byte is the number of done
 a-digit : (n : ℕ) → takenOutcome (digitByte (lowDigit 2 n)) ≡ answered (digitByte (lowDigit 2 n) ∷ [])

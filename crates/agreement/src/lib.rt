@@ -1,1 +1,1 @@
-// What the planner and the checker owe each other: theorems in proofs/, and no code.
+// What holds across calls: theorems in proofs/, and no code.

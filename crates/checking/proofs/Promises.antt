@@ -170,18 +170,18 @@ module _ (number plan space : List ℕ) where
   unfolding judged
   filled a e = rw (admits-only number (length plan) (length space) (checkable a), e)
 
-  -- refusals 1, 13, 2, 7 and 8 change nothing
-  pub refused-untouched : (n p : ℕ) → outcome number plan (length space) ≡ refused n p → (n ≤ 8) ⊎ (n ≡ 13) → checkSpace number plan space ≡ space
+  -- refusals other than 9 to 12 change nothing
+  pub refused-untouched : (n p : ℕ) → outcome number plan (length space) ≡ refused n p → (n ≤ 8) ⊎ (12 < n) → checkSpace number plan space ≡ space
   refused-untouched n p e h = to (given number plan (length space) e) h
     where
       stays : {r : Refusal} → Admits number (length plan) (length space) (Failed r) → checkSpace number plan space ≡ space
       stays t = untouched (admits-only number (length plan) (length space) t)
 
-      none : {n : ℕ} → 8 < n → n ≤ 12 → (n ≤ 8) ⊎ (n ≡ 13) → ⊥
+      none : {n : ℕ} → 8 < n → n ≤ 12 → (n ≤ 8) ⊎ (12 < n) → ⊥
       none l m (inl h) = omega arith
       none l m (inr h) = omega arith
 
-      to : {n p : ℕ} → Given number plan (length space) (refused n p) → (n ≤ 8) ⊎ (n ≡ 13) → checkSpace number plan space ≡ space
+      to : {n p : ℕ} → Given number plan (length space) (refused n p) → (n ≤ 8) ⊎ (12 < n) → checkSpace number plan space ≡ space
       to (one l) h = stays (number-refused (not-admitted (too-long l)))
       to (thirteen l q) h = stays (number-refused (not-admitted (padded l q)))
       to (two a z) h = stays (number-refused (is-zero a z))

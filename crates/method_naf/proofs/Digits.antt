@@ -1,4 +1,4 @@
--- The bytes of canonical digits, and what they are in an array with room for every number. Assumes nothing.
+-- The bytes of canonical digits, and these bytes at the start of an array with room for every number. Assumes nothing.
 use mathlib.Core.Path.{_≡_, refl}
 use mathlib.Core.Logic.{_≢_}
 use mathlib.Core.List.{List, _++_}

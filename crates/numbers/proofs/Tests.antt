@@ -1,8 +1,8 @@
 -- Each verdict on a number with what it is given for, and no other. Assumes nothing.
-use mathlib.Core.Path.{_≡_}
+use mathlib.Core.Path.{_≡_, refl}
 use mathlib.Core.Logic.{_↔_, _≢_, _⊎_, inl, inr}
 use mathlib.Core.Bool.{true, false}
-use mathlib.Core.List.{List}
+use mathlib.Core.List.{List, [], _∷_}
 use Prim.Native.Nat.{ℕ, _-_, _<_, _≤_}
 use borrow.Author.Tests.{lt-ltb, le-ltb, eq-eqb, ne-eqb}
 use native.Mathlib.Decide.{decLt, ℕ-discrete}
@@ -16,7 +16,7 @@ use Rattle.rules.specs.declared.Verdict.{Verdict}
 use Rattle.rules.specs.declared.Verdict.the-variants.{Passed, Failed}
 use Rattle.lists.specs.Top.{TopOtherThan}
 use Rattle.integers.specs.Positional.{positional, bytesValue, Significant}
-use Rattle.integers.proofs.Positional.{significant-none, significant-some}
+use Rattle.integers.proofs.Positional.{significant-some}
 use Rattle.numbers.specs.Admission.{Padded, isPadded, numberVerdict, positiveVerdict, Admitted, Positive}
 
 module _ (number : List ℕ) where
@@ -24,7 +24,7 @@ module _ (number : List ℕ) where
 
   pub padded-true : Padded number → isPadded number ≡ true
   unfolding isPadded
-  padded-true p = rw (lt-ltb 0 (length number) (p .some), eq-eqb (getD number (length number - 1) 0) 0 (p .zero-on-top))
+  padded-true p = rw (lt-ltb 0 (length number) (p .some), eq-eqb (getD number (length number - 1) 0) 0 (p .highest-zero))
 
   pub padded-false : TopOtherThan 0 number → isPadded number ≡ false
   unfolding isPadded
@@ -40,7 +40,7 @@ module _ (number : List ℕ) where
       go : Dec (0 < length number) → Dec (getD number (length number - 1) 0 ≡ 0) → Padded number ⊎ TopOtherThan 0 number
       go (no h) _ = inr (λ l. absurd (h l))
       go (yes h) (no n) = inr (λ l. n)
-      go (yes h) (yes z) = inl (record { some = h; zero-on-top = z })
+      go (yes h) (yes z) = inl (record { some = h; highest-zero = z })
 
   -- ---- refusals 1 and 13
 
@@ -90,14 +90,20 @@ module _ (number : List ℕ) where
       go Passed (admitted a) (yes z) = let p = is-zero a z in rw (positive-only p) p
       go Passed (admitted a) (no n) = let p = positive (record { admitted = a; nonzero = n }) in rw (positive-only p) p
 
+-- ---- the empty number is admitted and zero, and no other admitted number is zero
+
+pub empty-admitted : Admitted []
+empty-admitted = record { short = omega arith; top = λ h. absurd (omega arith) }
+
+pub zero-if-empty : (number : List ℕ) → length number ≡ 0 → bytesValue number ≡ 0
+unfolding positional
+zero-if-empty [] h = refl
+zero-if-empty (x ∷ l) h = absurd (omega arith)
+
 -- all bytes of an admitted number are significant
 pub all-significant : (number : List ℕ) → Admitted number → Significant number (length number)
 unfolding positional
 all-significant number a = record { within = omega arith; whole = rw (drop-length number); top = a .top }
-
--- so the empty one is zero, and no other
-pub zero-if-empty : (number : List ℕ) → Admitted number → length number ≡ 0 → bytesValue number ≡ 0
-zero-if-empty number a = significant-none number (length number) (all-significant number a)
 
 pub nonzero-if-some : (number : List ℕ) → Admitted number → length number ≢ 0 → bytesValue number ≢ 0
 nonzero-if-some number a = significant-some number (length number) (all-significant number a)

@@ -17,7 +17,7 @@ use Rattle.integers.specs.Positional.{bytesValue}
 -- the highest byte is zero; the empty number has none
 pub record Padded (number : List ℕ) : Type 0 where
   pub some : 0 < length number
-  pub zero-on-top : getD number (length number - 1) 0 ≡ 0
+  pub highest-zero : getD number (length number - 1) 0 ≡ 0
 
 unfoldable pub isPadded : List ℕ → Bool
 isPadded number = ltb 0 (length number) && eqb (getD number (length number - 1) 0) 0

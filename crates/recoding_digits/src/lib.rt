@@ -29,8 +29,8 @@ fn carry_into(number: &[u8], n: usize) -> u64
     carry
 }
 
-// How many digits the canonical string has: one fewer than the bits of three times the number. Its
-// highest byte is not zero.
+// How many digits the canonical string has: one fewer than the bits of three times the number,
+// whose highest byte is not zero, so that its top bit is there.
 pub fn count(number: &[u8]) -> usize
     requires { ⌜ Admitted (now number) ⌝ }
     ensures { λ r. ⌜ r ≡ length (canonical (pos (bytesValue (now (number .entry))))) ⌝ }

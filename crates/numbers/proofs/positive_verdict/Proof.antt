@@ -24,7 +24,7 @@ passed : (c : tie.After-enum-told) → Admitted (c .before .before .before .befo
 passed c = admitted-is _ .0 (sym (c .before .before .number-verdict .ensures) ∙ c .enum-told .given .1)
 
 returns-2 : tie.Need-returns-2
-returns-2 c = let a = passed (c .before) in sym (positive-only _ (is-zero a (zero-if-empty _ a (c .if1 .taken))))
+returns-2 c = let a = passed (c .before) in sym (positive-only _ (is-zero a (zero-if-empty _ (c .if1 .taken))))
 
 returns-3 : tie.Need-returns-3
 returns-3 c = let a = passed (c .before) in sym (positive-only _ (positive (record { admitted = a; nonzero = nonzero-if-some _ a (c .if1 .left) })))

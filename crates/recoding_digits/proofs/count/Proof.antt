@@ -27,7 +27,7 @@ counted c =
     count-is number (length number) (λ i. c .before .before .before .shared-slice-known .given i .fits) (all-significant number (start .pre)) (search needs) top (rw (c .before .byte-at .ensures .0, c .carry-into .ensures)) (omega (arith, small, c .carry-into .ensures, c .before .byte-at .ensures))
 
 returns : tie.Need-returns
-returns c = let start = c .before .before in sym (count-zero (start .args .number .now) (zero-if-empty (start .args .number .now) (start .pre) (c .if1 .taken)))
+returns c = let number = c .before .before .args .number .now in sym (count-zero number (zero-if-empty number (c .if1 .taken)))
 
 sub-byte-at : tie.Need-sub-byte-at
 sub-byte-at c = search needs

@@ -6,7 +6,8 @@ use native.Mathlib.Nat.{pow-zero, pow-suc, pow-succ', mul-add, mul-assoc, mul-co
 use native.Mathlib.Omega.{arith}
 use lib.Arith.{digits-lt}
 use lib.ListN.{length, getD, take, drop, length-take, replicate, length-replicate, getD-replicate}
-use lib.Seq.{take-append-seam, drop-append-seam, take-nil}
+use lib.Seq.{take-append-seam, drop-append-seam, drop-length, take-nil}
+use Rattle.lists.specs.Top.{TopOtherThan}
 use Rattle.integers.specs.Positional.{positional, bytesValue, Significant}
 
 -- every element is below the base
@@ -107,9 +108,18 @@ positional-zeros base n l =
     let z : positional base (replicate n 0) ≡ 0 = positional-zero base (replicate n 0) (λ i h. getD-replicate n i 0 0 (omega (arith, length-replicate {A = ℕ} n 0))) in
     rw (positional-append base l (replicate n 0), z, mul-zero, add-zero)
 
--- a number is zero exactly where it has no significant byte
-pub significant-none : (l : List ℕ) (n : ℕ) → Significant l n → n ≡ 0 → bytesValue l ≡ 0
-significant-none l n s z = rw z at (s .whole)
+-- ---- significant bytes
+
+-- no bytes are zero
+pub zero-if-empty : (l : List ℕ) → length l ≡ 0 → bytesValue l ≡ 0
+unfolding positional
+zero-if-empty [] h = refl
+zero-if-empty (x ∷ l) h = absurd (omega arith)
+
+-- all are significant where the highest is not zero
+pub all-significant : (l : List ℕ) → TopOtherThan 0 l → Significant l (length l)
+unfolding positional
+all-significant l top = record { within = omega arith; whole = rw (drop-length l); top = top }
 
 pub significant-some : (l : List ℕ) (n : ℕ) → Significant l n → (n ≡ 0 → ⊥) → bytesValue l ≡ 0 → ⊥
 significant-some l n s some = positional-nonzero 256 l (n - 1) (omega arith) (s .top (omega arith))

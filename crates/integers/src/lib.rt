@@ -5,6 +5,7 @@ ghost use Prim.Native.Nat.{_+_, _*_, _/_, _%_, _^_, _<_, _≤_};
 ghost use lib.Count;
 ghost use lib.ListN.{length, take, drop, getD};
 ghost use Rattle.rules.specs.Limits.{numberBytes};
+ghost use Rattle.lists.specs.Top.{TopOtherThan};
 ghost use Rattle.integers.specs.Bits.{bit, bitLength};
 ghost use Rattle.integers.specs.Positional.{bytesValue, wordsValue, Significant};
 
@@ -58,12 +59,13 @@ pub fn bits_at(number: &[u8], place: usize, count: usize) -> u64
     (bytes >> (place % 8)) % power_of_two(count)
 }
 
-// How many bits a number has.
+// How many bits a number has. Its highest byte is not zero, so the top bit is in that byte.
 pub fn bit_length(number: &[u8]) -> usize
     requires { ⌜ length (now number) ≤ numberBytes ⌝ }
+    requires { ⌜ TopOtherThan 0 (now number) ⌝ }
     ensures { λ r. ⌜ r ≡ bitLength (bytesValue (now (number .entry))) ⌝ }
 {
-    let n = significant(number);
+    let n = number.len();
     if n == 0 {
         return 0;
     }

@@ -1,22 +1,21 @@
 -- Each verdict on a number with what it is given for, and no other. Assumes nothing.
-use mathlib.Core.Path.{_≡_, refl}
+use mathlib.Core.Path.{_≡_}
 use mathlib.Core.Logic.{_↔_, _≢_, _⊎_, inl, inr}
 use mathlib.Core.Bool.{true, false}
-use mathlib.Core.List.{List, [], _∷_}
+use mathlib.Core.List.{List, []}
 use Prim.Native.Nat.{ℕ, _-_, _<_, _≤_}
 use borrow.Author.Tests.{lt-ltb, le-ltb, eq-eqb, ne-eqb}
 use native.Mathlib.Decide.{decLt, ℕ-discrete}
 use native.Mathlib.Omega.{arith}
 use lib.ListN.{length, getD}
-use lib.Seq.{drop-length}
 use Rattle.rules.specs.Limits.{numberBytes}
 use Rattle.rules.specs.declared.Refusal.{Refusal}
 use Rattle.rules.specs.declared.Refusal.the-variants.{NumberTooLong, NumberIsZero, HighestByteIsZero}
 use Rattle.rules.specs.declared.Verdict.{Verdict}
 use Rattle.rules.specs.declared.Verdict.the-variants.{Passed, Failed}
 use Rattle.lists.specs.Top.{TopOtherThan}
-use Rattle.integers.specs.Positional.{positional, bytesValue, Significant}
-use Rattle.integers.proofs.Positional.{significant-some}
+use Rattle.integers.specs.Positional.{bytesValue}
+use Rattle.integers.proofs.Positional.{all-significant, significant-some}
 use Rattle.numbers.specs.Admission.{Padded, isPadded, numberVerdict, positiveVerdict, Admitted, Positive}
 
 module _ (number : List ℕ) where
@@ -90,20 +89,10 @@ module _ (number : List ℕ) where
       go Passed (admitted a) (yes z) = let p = is-zero a z in rw (positive-only p) p
       go Passed (admitted a) (no n) = let p = positive (record { admitted = a; nonzero = n }) in rw (positive-only p) p
 
--- ---- the empty number is admitted and zero, and no other admitted number is zero
+-- ---- the empty number is admitted, and zero; no other admitted number is zero
 
 pub empty-admitted : Admitted []
 empty-admitted = record { short = omega arith; top = λ h. absurd (omega arith) }
 
-pub zero-if-empty : (number : List ℕ) → length number ≡ 0 → bytesValue number ≡ 0
-unfolding positional
-zero-if-empty [] h = refl
-zero-if-empty (x ∷ l) h = absurd (omega arith)
-
--- all bytes of an admitted number are significant
-pub all-significant : (number : List ℕ) → Admitted number → Significant number (length number)
-unfolding positional
-all-significant number a = record { within = omega arith; whole = rw (drop-length number); top = a .top }
-
 pub nonzero-if-some : (number : List ℕ) → Admitted number → length number ≢ 0 → bytesValue number ≢ 0
-nonzero-if-some number a = significant-some number (length number) (all-significant number a)
+nonzero-if-some number a = significant-some number (length number) (all-significant number (a .top))

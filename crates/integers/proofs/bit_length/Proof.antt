@@ -1,20 +1,16 @@
 -- `integers::bit_length` meets its contract. Assumes nothing.
-use mathlib.Core.Path.{_≡_, sym}
+use mathlib.Core.Path.{sym}
 use native.Mathlib.Omega.{arith}
 use lib.Count.{leading-le}
+use lib.ListN.{length}
+use Rattle.integers.proofs.Positional.{zero-if-empty, all-significant}
 use Rattle.integers.proofs.Bits.{zero-length, length-by-top}
 use borrow.Author.Needs.{needs}
 use Rattle.integers.proofs.bit_length.Statement.{statement}
 use Rattle.integers.proofs.bit_length.Tie as tie
 
-significant-requires : tie.Need-significant-requires
-significant-requires c κs = search needs
-
 returns : tie.Need-returns
-returns c =
-    let n = c .before .significant in
-    let z : n .result ≡ 0 = c .if1 .taken in
-    sym (zero-length (c .before .before .before .args .number .now) (rw z at (n .ensures .whole)))
+returns c = let number = c .before .before .args .number .now in sym (zero-length number (zero-if-empty number (c .if1 .taken)))
 
 sub-result : tie.Need-sub-result
 sub-result c = search needs
@@ -39,15 +35,14 @@ add-result c = search needs
 
 returns-2 : tie.Need-returns-2
 returns-2 c =
-    let number = c .before .before .before .before .args .number .now in
-    let n = c .before .before .significant in
-    rw (c .byte-at .ensures .0) (length-by-top number (n .result) (λ i. c .before .before .before .shared-slice-known .given i .fits) (n .ensures) (search needs))
+    let start = c .before .before .before in
+    let number = start .args .number .now in
+    rw (c .byte-at .ensures .0) (length-by-top number (length number) (λ i. c .before .before .shared-slice-known .given i .fits) (all-significant number (start .pre .1)) (search needs))
 
 pub bit-length-spec : {M : Type 1} → statement M
 bit-length-spec =
     tie.close
     (tie.spec
-    significant-requires
     returns
     sub-result
     mul-result

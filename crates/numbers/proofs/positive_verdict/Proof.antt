@@ -1,7 +1,8 @@
 -- `numbers::positive_verdict` meets its contract. Assumes nothing.
 use mathlib.Core.Path.{sym, _∙_}
+use Rattle.integers.proofs.Positional.{zero-if-empty}
 use Rattle.numbers.specs.Admission.{positiveVerdict, Admitted}
-use Rattle.numbers.proofs.Tests.{admitted-is, is-zero, positive, positive-only, zero-if-empty, nonzero-if-some}
+use Rattle.numbers.proofs.Tests.{admitted-is, is-zero, positive, positive-only, nonzero-if-some}
 use borrow.Author.Needs.{needs}
 use Rattle.numbers.proofs.positive_verdict.Statement.{statement}
 use Rattle.numbers.proofs.positive_verdict.Tie as tie

@@ -6,7 +6,7 @@ use lib.Count.{leadingZeros}
 use lib.IntN.{pos}
 use lib.ListN.{length}
 use Rattle.integers.specs.Positional.{bytesValue}
-use Rattle.numbers.proofs.Tests.{all-significant, zero-if-empty}
+use Rattle.integers.proofs.Positional.{zero-if-empty, all-significant}
 use Rattle.signed_digits.specs.Naf.{canonical}
 use Rattle.recoding_digits.proofs.Triple.{carry-small}
 use Rattle.recoding_digits.proofs.TopByte.{count-is, count-zero}
@@ -24,7 +24,7 @@ counted c =
     let number = start .args .number .now in
     let top : ℕ = 3 * c .before .byte-at .result + c .carry-into .result in
     let small = carry-small (bytesValue number) (length number - 1) in
-    count-is number (length number) (λ i. c .before .before .before .shared-slice-known .given i .fits) (all-significant number (start .pre)) (search needs) top (rw (c .before .byte-at .ensures .0, c .carry-into .ensures)) (omega (arith, small, c .carry-into .ensures, c .before .byte-at .ensures))
+    count-is number (length number) (λ i. c .before .before .before .shared-slice-known .given i .fits) (all-significant number (start .pre .top)) (search needs) top (rw (c .before .byte-at .ensures .0, c .carry-into .ensures)) (omega (arith, small, c .carry-into .ensures, c .before .byte-at .ensures))
 
 returns : tie.Need-returns
 returns c = let number = c .before .before .args .number .now in sym (count-zero number (zero-if-empty number (c .if1 .taken)))

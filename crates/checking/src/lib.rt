@@ -60,13 +60,8 @@ pub fn check(number: &[u8], plan: &[u8], space: &mut [u8]) -> Counted
         }
         n += 1;
     }
-    // Field by field: if the struct is copied whole, the compiler counts by parts of its words.
     if ends_at(number, space, steps) {
-        return Counted::Steps(Counts {
-            doublings: counts.doublings,
-            additions: counts.additions,
-            subtractions: counts.subtractions,
-        });
+        return Counted::Steps(counts);
     }
     Counted::Refused(Refusal::WrongEnd(steps))
 }

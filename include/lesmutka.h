@@ -368,8 +368,8 @@ lesmutka_counts lesmutka_check(const uint8_t *number, size_t number_length, cons
 
 /** Read a number from hexadecimal text, most significant digit first, in either case, with 0x or 0X
  *  in front or without. Its bytes are those that the text writes: two digits a byte, and leading
- *  zeros count. A number with a leading zero byte is refused by every call that takes a number: with
- *  13, or with 1 where it is too long.
+ *  zeros count. Every call that takes a number refuses one with a leading zero byte: with 13, or
+ *  with 1 where it is too long.
  *
  *  Returns: is_number 1, and the length: the digits halved, rounded up; the bytes written.
  *           Where the text is no number, all fields are 0 and nothing is written: it has no digit,

@@ -27,7 +27,8 @@ impl Number {
     /// Refusals 1 and 13, then refusal 2: the number is zero.
     pub(crate) fn read_nonzero(bytes: &[u8]) -> Result<Number, Refusal> {
         let number = Number::read(bytes)?;
-        if words::is_zero(&number.words) {
+        // No other number is zero: its highest byte would be.
+        if bytes.is_empty() {
             return Err(Refusal::new(NUMBER_IS_ZERO, 0));
         }
         Ok(number)

@@ -21,7 +21,7 @@ use Rattle.decimal.specs.declared.Parsed.the-variants.{Bytes}
 use Rattle.decimal.specs.Decimal.{parsed, parsedBuffer}
 use Rattle.decimal.proofs.Value.{parsed-bytes}
 
--- ---- a number that one call refuses with neither, none does: whatever else they are handed, they admit the same numbers
+-- ---- if one call refuses a number with neither 1 nor 13, no call does: whatever else they are handed, they admit the same numbers
 
 module _ (number : List ℕ) where
   pub recode-admits : (room : ℕ) → Admitting (recode.outcome number room) ↔ Admitted number
@@ -54,7 +54,7 @@ module _ (number : List ℕ) where
   some-admits (plan-does method width room s) = plan-admits method width room .0 s
   some-admits (check-does steps room s) = check-admits steps room .0 s
 
--- ---- two such numbers with equal values are the same input; that they are bytes, every slice of a caller has
+-- ---- two such numbers with equal values are the same input. Every slice that a caller hands over has elements below 256
 
 module _ (a b : List ℕ) (bytes-a : Below 256 a) (bytes-b : Below 256 b) (some-a : SomeAdmits a) (some-b : SomeAdmits b) where
   pub same-bytes : bytesValue a ≡ bytesValue b ↔ a ≡ b

@@ -7,8 +7,7 @@ use native.Mathlib.Omega.{arith}
 use lib.Arith.{digits-lt}
 use lib.ListN.{length, getD, take, drop, length-take, replicate, length-replicate, getD-replicate}
 use lib.Seq.{take-append-seam, drop-append-seam, drop-length, take-nil}
-use Rattle.lists.specs.Top.{TopOtherThan}
-use Rattle.integers.specs.Positional.{positional, bytesValue, Significant}
+use Rattle.integers.specs.Positional.{positional, bytesValue, Unpadded, Significant}
 
 -- every element is below the base
 abbrev pub Below : ℕ → List ℕ → Type 0
@@ -110,14 +109,14 @@ positional-zeros base n l =
 
 -- ---- significant bytes
 
--- no bytes are zero
+-- a number without bytes is zero
 pub zero-if-empty : (l : List ℕ) → length l ≡ 0 → bytesValue l ≡ 0
 unfolding positional
 zero-if-empty [] h = refl
 zero-if-empty (x ∷ l) h = absurd (omega arith)
 
 -- all are significant where the highest is not zero
-pub all-significant : (l : List ℕ) → TopOtherThan 0 l → Significant l (length l)
+pub all-significant : (l : List ℕ) → Unpadded l → Significant l (length l)
 unfolding positional
 all-significant l top = record { within = omega arith; whole = rw (drop-length l); top = top }
 

@@ -8,14 +8,9 @@ use native.Mathlib.Nat.{mul-zero, add-zero, div-eq-of-lt}
 use native.Mathlib.Omega.{arith}
 use lib.ListN.{length, getD, take, drop}
 use lib.Seq.{length-take-le, getD-take, getD-drop}
-use Rattle.lists.specs.Top.{TopOtherThan}
 use Rattle.lists.proofs.Top.{top-cons}
-use Rattle.integers.specs.Positional.{positional, bytesValue, bytesUpTo, bytesOf, Significant}
+use Rattle.integers.specs.Positional.{positional, bytesValue, Unpadded, bytesUpTo, bytesOf, Significant}
 use Rattle.integers.proofs.Positional.{Below, below-take, positional-div, positional-split, positional-nonzero}
-
--- the highest element is not 0; the empty list has none
-abbrev pub TopByte : List ℕ → Type 0
-TopByte l = TopOtherThan 0 l
 
 -- n bytes are enough for n, and more change nothing
 enough : (f g n : ℕ) → n ≤ f → n ≤ g → bytesUpTo f n ≡ bytesUpTo g n
@@ -61,10 +56,10 @@ bytes-below = by-bytes (λ n. Below 256 (bytesOf n)) (λ i. rw bytes-zero (omega
     cons n b zero = omega arith
     cons n b (suc i) = b i
 
-pub bytes-top : (n : ℕ) → TopByte (bytesOf n)
+pub bytes-top : (n : ℕ) → Unpadded (bytesOf n)
 unfolding positional
 bytes-top =
-    by-bytes (λ n. TopByte (bytesOf n)) (rw bytes-zero (λ h. absurd (omega arith)))
+    by-bytes (λ n. Unpadded (bytesOf n)) (rw bytes-zero (λ h. absurd (omega arith)))
     (λ n h t. rw (bytes-step n h) (top-cons 0 (n % 256) (bytesOf (n / 256)) .1 (λ z. above n h z (bytesOf (n / 256)) (bytes-value (n / 256)), t)))
   where
     above : (n : ℕ) → 0 < n → n % 256 ≡ 0 → (l : List ℕ) → bytesValue l ≡ n / 256 → 0 < length l
@@ -72,7 +67,7 @@ bytes-top =
     above n h z (x ∷ l) v = omega arith
 
 -- bytes whose highest is not 0 are the bytes of their value
-pub bytes-only : (l : List ℕ) → Below 256 l → TopByte l → l ≡ bytesOf (bytesValue l)
+pub bytes-only : (l : List ℕ) → Below 256 l → Unpadded l → l ≡ bytesOf (bytesValue l)
 unfolding positional
 bytes-only [] b t = sym bytes-zero
 bytes-only (x ∷ l) b t =
@@ -87,7 +82,7 @@ pub bytes-significant : (l : List ℕ) (n : ℕ) → Below 256 l → Significant
 bytes-significant l n b s =
     let long : length (take n l) ≡ n = length-take-le n l (s .within) in
     let whole : bytesValue (take n l) ≡ bytesValue l = sym (rw (positional-split 256 n l, s .whole, mul-zero, add-zero)) in
-    let top : TopByte (take n l) = rw long (λ h z. s .top h (sym (getD-take n l (n - 1) 0 (omega arith)) ∙ z)) in
+    let top : Unpadded (take n l) = rw long (λ h z. s .top h (sym (getD-take n l (n - 1) 0 (omega arith)) ∙ z)) in
     bytes-only (take n l) (below-take 256 n l (omega arith) b) top ∙ ap bytesOf whole
 
 -- a number that m bytes hold has no more bytes than that

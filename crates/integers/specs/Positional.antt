@@ -4,6 +4,7 @@ use mathlib.Core.Logic.{_≢_}
 use mathlib.Core.List.{List, [], _∷_}
 use Prim.Native.Nat.{ℕ, zero, suc, _+_, _-_, _*_, _/_, _%_, _^_, _<_, _≤_}
 use lib.ListN.{length, getD, drop}
+use Rattle.lists.specs.Top.{TopOtherThan}
 
 -- the sum of each element times the base to the power of its place
 unfoldable pub positional : ℕ → List ℕ → ℕ
@@ -17,6 +18,10 @@ bytesValue bytes = positional 256 bytes
 -- the same of words of eight bytes
 abbrev pub wordsValue : List ℕ → ℕ
 wordsValue words = positional (2 ^ 64) words
+
+-- the highest byte is not zero; no bytes have none
+abbrev pub Unpadded : List ℕ → Type 0
+Unpadded bytes = TopOtherThan 0 bytes
 
 -- the bytes of a number with no high zero byte, at most f of them; n itself is enough
 unfoldable pub bytesUpTo : ℕ → ℕ → List ℕ

@@ -5,9 +5,8 @@ ghost use Prim.Native.Nat.{_+_, _*_, _/_, _%_, _^_, _<_, _≤_};
 ghost use lib.Count;
 ghost use lib.ListN.{length, take, drop, getD};
 ghost use Rattle.rules.specs.Limits.{numberBytes};
-ghost use Rattle.lists.specs.Top.{TopOtherThan};
 ghost use Rattle.integers.specs.Bits.{bit, bitLength};
-ghost use Rattle.integers.specs.Positional.{bytesValue, wordsValue, Significant};
+ghost use Rattle.integers.specs.Positional.{bytesValue, wordsValue, Unpadded, Significant};
 
 // The byte at a place: 0 above the number.
 pub fn byte_at(number: &[u8], place: usize) -> u64
@@ -62,7 +61,7 @@ pub fn bits_at(number: &[u8], place: usize, count: usize) -> u64
 // How many bits a number has. Its highest byte is not zero, so the top bit is in that byte.
 pub fn bit_length(number: &[u8]) -> usize
     requires { ⌜ length (now number) ≤ numberBytes ⌝ }
-    requires { ⌜ TopOtherThan 0 (now number) ⌝ }
+    requires { ⌜ Unpadded (now number) ⌝ }
     ensures { λ r. ⌜ r ≡ bitLength (bytesValue (now (number .entry))) ⌝ }
 {
     let n = number.len();
@@ -72,7 +71,7 @@ pub fn bit_length(number: &[u8]) -> usize
     8 * (n - 1) + (64 - u64::leading_zeros(byte_at(number, n - 1)) as usize)
 }
 
-// How many of them are 1.
+// How many bits of a number are 1.
 pub fn ones(number: &[u8]) -> usize
     requires { ⌜ length (now number) ≤ numberBytes ⌝ }
     ensures { λ r. ⌜ r ≡ Count.ones (bytesValue (now (number .entry))) ⌝ }

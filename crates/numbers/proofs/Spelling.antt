@@ -29,7 +29,7 @@ pub record Admitting (o : Outcome) : Type 0 where
   pub not-1 : o ≢ refused 1 0
   pub not-13 : o ≢ refused 13 0
 
--- of a call that gives these two exactly when the rules say, it is the outcome for an admitted number
+-- if a call gives these two exactly when the rules say, its outcome is such a one exactly for an admitted number
 module _ (number : List ℕ) {o : Outcome} (one : o ≡ refused 1 0 ↔ numberBytes < length number) (thirteen : o ≡ refused 13 0 ↔ (length number ≤ numberBytes) × Padded number) where
   pub admitting-is : Admitting o ↔ Admitted number
   admitting-is = (λ s. go s (number-test number), λ a. record { not-1 = λ e. omega (arith, one .0 e, a .short); not-13 = λ e. let p = thirteen .0 e .1 in a .top (p .some) (p .highest-zero) })

@@ -13,19 +13,18 @@ use Rattle.rules.specs.declared.Refusal.{Refusal}
 use Rattle.rules.specs.declared.Refusal.the-variants.{NumberTooLong, NumberIsZero, HighestByteIsZero}
 use Rattle.rules.specs.declared.Verdict.{Verdict}
 use Rattle.rules.specs.declared.Verdict.the-variants.{Passed, Failed}
-use Rattle.lists.specs.Top.{TopOtherThan}
-use Rattle.integers.specs.Positional.{bytesValue}
+use Rattle.integers.specs.Positional.{bytesValue, Unpadded}
 use Rattle.integers.proofs.Positional.{all-significant, significant-some}
 use Rattle.numbers.specs.Admission.{Padded, isPadded, numberVerdict, positiveVerdict, Admitted, Positive}
 
 module _ (number : List ℕ) where
   -- ---- the highest byte
 
-  pub padded-true : Padded number → isPadded number ≡ true
+  padded-true : Padded number → isPadded number ≡ true
   unfolding isPadded
   padded-true p = rw (lt-ltb 0 (length number) (p .some), eq-eqb (getD number (length number - 1) 0) 0 (p .highest-zero))
 
-  pub padded-false : TopOtherThan 0 number → isPadded number ≡ false
+  pub padded-false : Unpadded number → isPadded number ≡ false
   unfolding isPadded
   padded-false top = go (decLt 0 (length number))
     where
@@ -33,10 +32,10 @@ module _ (number : List ℕ) where
       go (yes h) = rw (lt-ltb 0 (length number) h, ne-eqb (getD number (length number - 1) 0) 0 (top h))
       go (no h) = rw (le-ltb 0 (length number) (omega arith))
 
-  by-top : Padded number ⊎ TopOtherThan 0 number
+  by-top : Padded number ⊎ Unpadded number
   by-top = go (decLt 0 (length number)) (ℕ-discrete (getD number (length number - 1) 0) 0)
     where
-      go : Dec (0 < length number) → Dec (getD number (length number - 1) 0 ≡ 0) → Padded number ⊎ TopOtherThan 0 number
+      go : Dec (0 < length number) → Dec (getD number (length number - 1) 0 ≡ 0) → Padded number ⊎ Unpadded number
       go (no h) _ = inr (λ l. absurd (h l))
       go (yes h) (no n) = inr (λ l. n)
       go (yes h) (yes z) = inl (record { some = h; highest-zero = z })
@@ -60,7 +59,7 @@ module _ (number : List ℕ) where
       be : {v : Verdict} → NumberTest v → NumberTest (numberVerdict number)
       be t = rw (number-only t) t
 
-      go : Dec (numberBytes < length number) → Padded number ⊎ TopOtherThan 0 number → NumberTest (numberVerdict number)
+      go : Dec (numberBytes < length number) → Padded number ⊎ Unpadded number → NumberTest (numberVerdict number)
       go (yes h) _ = be (too-long h)
       go (no h) (inl p) = be (padded (omega arith) p)
       go (no h) (inr t) = be (admitted (record { short = omega arith; top = t }))

@@ -11,8 +11,7 @@ use Rattle.rules.specs.Outcome.{andThen}
 use Rattle.rules.specs.declared.Refusal.the-variants.{NumberTooLong, NumberIsZero, HighestByteIsZero}
 use Rattle.rules.specs.declared.Verdict.{Verdict}
 use Rattle.rules.specs.declared.Verdict.the-variants.{Passed, Failed}
-use Rattle.lists.specs.Top.{TopOtherThan}
-use Rattle.integers.specs.Positional.{bytesValue}
+use Rattle.integers.specs.Positional.{bytesValue, Unpadded}
 
 -- the highest byte is zero; the empty number has none
 pub record Padded (number : List ℕ) : Type 0 where
@@ -33,7 +32,7 @@ positiveVerdict number = andThen (numberVerdict number) (cond (eqb (bytesValue n
 -- a number that every call takes
 pub record Admitted (number : List ℕ) : Type 0 where
   pub short : length number ≤ numberBytes
-  pub top : TopOtherThan 0 number
+  pub top : Unpadded number
 
 -- one that is also not zero
 pub record Positive (number : List ℕ) : Type 0 where

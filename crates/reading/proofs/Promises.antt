@@ -12,10 +12,10 @@ use Rattle.rules.specs.Outcome.{Outcome, refused, answered, outcomeOf}
 use Rattle.rules.specs.declared.Written.{Written}
 use Rattle.rules.specs.declared.Written.the-variants.{Length, Refused}
 use Rattle.rules.proofs.Memory as memory
-use Rattle.integers.specs.Positional.{bytesValue, bytesOf}
+use Rattle.integers.specs.Positional.{bytesValue, Unpadded, bytesOf}
 use Rattle.integers.specs.Signed.{signOf}
 use Rattle.integers.proofs.Positional.{Below}
-use Rattle.integers.proofs.Shortest.{TopByte, bytes-zero, bytes-value, bytes-below, bytes-top, bytes-only}
+use Rattle.integers.proofs.Shortest.{bytes-zero, bytes-value, bytes-below, bytes-top, bytes-only}
 use Rattle.numbers.specs.Admission.{Admitted}
 use Rattle.numbers.proofs.Spelling.{own-bytes}
 use Rattle.signed_digits.specs.Naf.{canonicalWidth}
@@ -90,7 +90,7 @@ Signed v sign size = ((sign ≡ 0) × (v ≡ pos size)) ⊎ ((sign ≡ 1) × (v 
 pub record Gives (v : ℤ) (sign : ℕ) (bytes : List ℕ) : Type 0 where
   pub signed : Signed v sign (bytesValue bytes)
   pub below : Below 256 bytes
-  pub top : TopByte bytes
+  pub top : Unpadded bytes
 
 -- the sign and the size that read back is defined by give the value of the digit string back
 pub reads-value : (digits : List ℕ) → Gives (stringValue digits) (signOf (stringValue digits)) (sizeBytes digits)

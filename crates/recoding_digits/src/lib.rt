@@ -29,8 +29,8 @@ fn carry_into(number: &[u8], n: usize) -> u64
     carry
 }
 
-// How many digits the canonical string has: one fewer than the bits of three times the number,
-// whose highest byte is not zero, so that its top bit is there.
+// How many digits the canonical string has: one fewer than the bits of three times the number.
+// The number's highest byte is not zero, so the top bit of three times it comes from there.
 pub fn count(number: &[u8]) -> usize
     requires { ⌜ Admitted (now number) ⌝ }
     ensures { λ r. ⌜ r ≡ length (canonical (pos (bytesValue (now (number .entry))))) ⌝ }

@@ -214,7 +214,7 @@ pub fn check(number: &[u8], plan: &[u8], space: &mut [u8]) -> Result<Counts, Ref
 }
 
 /// Reads a hexadecimal number, with `0x` or `0X` in front or without: writes its bytes and hands
-/// them back, one for two digits. Zeros in front count; a number with a zero byte in front is refused by
+/// them back, one for two digits. Zeros in front count; a number with a leading zero byte is refused by
 /// every call that takes a number: with 13, or with 1 if it is too long. None if there is no digit, if
 /// there is anything else, or if the room is too small. [`text_room`] of the text's length is always
 /// enough.

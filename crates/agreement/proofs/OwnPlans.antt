@@ -1,4 +1,4 @@
--- Our own plans are all accepted, with the forecast's counts (docs/RULES.md, 4.12). Assumes nothing.
+-- Our own plans are all accepted, with the forecast's counts (docs/RULES.md, 4.12), and have no hidden doubling (3.8). Assumes nothing.
 use mathlib.Core.Path.{_≡_, refl, sym, ap}
 use mathlib.Core.List.{List}
 use Prim.Native.Nat.{ℕ, _≤_}
@@ -10,7 +10,8 @@ use Rattle.integers.specs.Positional.{bytesValue}
 use Rattle.integers.proofs.Positional.{Below}
 use Rattle.numbers.specs.Admission.{Positive}
 use Rattle.chains.specs.Steps.{Step, stepsOf, planBytesOf}
-use Rattle.chains.specs.Counts.{countsOf}
+use Rattle.chains.specs.Counts.{countsOf, NoHiddenDoubling}
+use Rattle.chains.proofs.Counts.{positionCounts, unhidden-counts}
 use Rattle.chains.proofs.Bytes.{length-plan, steps-of-plan}
 use Rattle.methods.specs.declared.Method.{Method}
 use Rattle.methods.specs.declared.Chosen.{Chosen}
@@ -54,3 +55,11 @@ module _ (number : List ℕ) (bytes : Below 256 number) (positive : Positive num
       let e = length-plan steps in
       accepts number plan room (countValues (countsOf steps)) .1
       (record { positive = positive; whole = omega arith; few = omega (arith, few-steps); fits = h }, rw read-steps (fit .made .sound), rw read-steps (fit .made .end), ap (λ (l : List Step). countValues (countsOf l)) (sym read-steps))
+
+  -- no step of it is a hidden doubling
+  pub no-hidden-doubling : NoHiddenDoubling (stepsOf plan)
+  no-hidden-doubling = rw read-steps (fit .made .unhidden)
+
+  -- so positions would give the counts that forecast, plan and check answer
+  pub counts-by-positions : countsOf steps ≡ positionCounts steps
+  counts-by-positions = unhidden-counts steps (fit .made .unhidden)

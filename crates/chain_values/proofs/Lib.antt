@@ -1,4 +1,3 @@
 pub mod Signed
-pub mod Size
 mod Limits
 mod Sizes

@@ -1,34 +1,105 @@
--- Integers by sign and size. Assumes nothing.
-use mathlib.Core.Path.{_≡_, refl, sym, ap, _∙_}
-use mathlib.Core.Bool.{Bool, true, false, not, cond, Bool·beq}
-use Prim.Native.Nat.{ℕ, zero, suc, _+_}
-use lib.IntN.{ℤ, pos, negℤ, natAbs, _+ℤ_, _-ℤ_, negℤ-negℤ, negℤ-+ℤ, +ℤ-comm, +ℤ-negℤ-cancel, -ℤ-+ℤ-cancel}
-use Rattle.integers.specs.Signed.{signed}
+-- What two integers add up to, by signs and sizes. Assumes nothing.
+use mathlib.Core.Path.{_≡_, refl}
+use mathlib.Core.Logic.{_≢_}
+use mathlib.Core.Bool.{Bool, true, false, cond}
+use Prim.Native.Nat.{ℕ, zero, suc, _+_, _-_, _≤_}
+use borrow.Author.Tests.{ltb-true, ltb-false, lt-ltb, le-ltb, eqb-true, eqb-false, eq-eqb, ne-eqb}
+use native.Mathlib.Omega.{arith}
+use lib.Bits.{bitXor}
+use lib.Dec.{ltb, eqb}
+use lib.IntN.{ℤ, pos, negsuc, negℤ, natAbs, _+ℤ_}
+use mir.Val.{boolByte}
+use Rattle.integers.specs.Signed.{signOf, isSame}
 
-pub size-signed : (s : Bool) (n : ℕ) → natAbs (signed s n) ≡ n
-size-signed false n = refl
-size-signed true zero = refl
-size-signed true (suc n) = refl
+-- ---- what a step adds to its first value: the second, or its opposite
 
--- to subtract is to add with the sign flipped
-pub flipped : (t s : Bool) (x : ℤ) (n : ℕ) → cond t (x -ℤ signed s n) (x +ℤ signed s n) ≡ x +ℤ signed (not (Bool·beq s t)) n
-flipped true true x n = ap (λ (y : ℤ). x +ℤ y) (negℤ-negℤ (pos n))
-flipped true false x n = refl
-flipped false true x n = refl
-flipped false false x n = refl
+abbrev pub addend : ℕ → ℤ → ℤ
+addend operation y = cond (eqb operation 0) y (negℤ y)
 
--- signs that agree: the sizes add up
-pub add-same : (r s : Bool) (m n : ℕ) → Bool·beq r s ≡ true → signed r m +ℤ signed s n ≡ signed s (m + n)
-add-same false false m n e = refl
-add-same true true m n e = sym (negℤ-+ℤ (pos m) (pos n))
-add-same false true m n e = cc
-add-same true false m n e = cc
+pub addend-size : (operation : ℕ) (y : ℤ) → natAbs (addend operation y) ≡ natAbs y
+addend-size operation y = go (eqb operation 0) y
+  where
+    go : (adds : Bool) (y : ℤ) → natAbs (cond adds y (negℤ y)) ≡ natAbs y
+    go true y = refl
+    go false (pos zero) = refl
+    go false (pos (suc n)) = refl
+    go false (negsuc n) = refl
 
--- opposite signs: the larger size decides
-pub add-first : (s : Bool) (m n d : ℕ) → d + n ≡ m → signed (not s) m +ℤ signed s n ≡ signed (not s) d
-add-first true m n d h = rw (← h) (+ℤ-negℤ-cancel (pos d) (pos n))
-add-first false m n d h = rw (← h, negℤ-+ℤ (pos d) (pos n)) (-ℤ-+ℤ-cancel (negℤ (pos d)) (pos n))
+-- the signs of both values give the operation where what is added has the first one's sign
+pub agreeing : (operation : ℕ) (x y : ℤ) → operation ≤ 1 → y ≢ pos 0 → eqb (bitXor (signOf x) (signOf y)) operation ≡ eqb (signOf x) (signOf (addend operation y))
+agreeing operation x (pos zero) h d = absurd (d refl)
+agreeing zero (pos m) (pos (suc n)) h d = refl
+agreeing zero (pos m) (negsuc n) h d = refl
+agreeing zero (negsuc m) (pos (suc n)) h d = refl
+agreeing zero (negsuc m) (negsuc n) h d = refl
+agreeing (suc zero) (pos m) (pos (suc n)) h d = refl
+agreeing (suc zero) (pos m) (negsuc n) h d = refl
+agreeing (suc zero) (negsuc m) (pos (suc n)) h d = refl
+agreeing (suc zero) (negsuc m) (negsuc n) h d = refl
+agreeing (suc (suc k)) x (pos (suc n)) h d = absurd (omega arith)
+agreeing (suc (suc k)) x (negsuc n) h d = absurd (omega arith)
 
-pub add-second : (s : Bool) (m n d : ℕ) → d + m ≡ n → signed (not s) m +ℤ signed s n ≡ signed s d
-add-second true m n d h = +ℤ-comm (pos m) (negℤ (pos n)) ∙ add-first false n m d h
-add-second false m n d h = +ℤ-comm (negℤ (pos m)) (pos n) ∙ add-first true n m d h
+-- ---- of one sign: the sizes add up, and two are the same if their sizes are
+
+module _ (x w : ℤ) (e : signOf x ≡ signOf w) where
+  pub same-sign : (signOf (x +ℤ w) ≡ signOf x) × (natAbs (x +ℤ w) ≡ natAbs x + natAbs w)
+  same-sign = go x w e
+    where
+      go : (x w : ℤ) → signOf x ≡ signOf w → (signOf (x +ℤ w) ≡ signOf x) × (natAbs (x +ℤ w) ≡ natAbs x + natAbs w)
+      go (pos m) (pos n) e = (refl, refl)
+      go (pos m) (negsuc n) e = absurd (omega arith)
+      go (negsuc m) (pos n) e = absurd (omega arith)
+      go (negsuc m) (negsuc n) e = (refl, omega arith)
+
+  pub same-sizes : isSame x w ≡ eqb (natAbs x) (natAbs w)
+  same-sizes = go x w e
+    where
+      down : (m n : ℕ) → eqb m n ≡ eqb (suc m) (suc n)
+      down m n = both (eqb m n) refl
+        where
+          both : (t : Bool) → eqb m n ≡ t → eqb m n ≡ eqb (suc m) (suc n)
+          both true q = rw (q, eq-eqb (suc m) (suc n) (omega (arith, eqb-true m n q)))
+          both false q = rw (q, ne-eqb (suc m) (suc n) (λ r. eqb-false m n q (omega arith)))
+
+      go : (x w : ℤ) → signOf x ≡ signOf w → isSame x w ≡ eqb (natAbs x) (natAbs w)
+      go (pos m) (pos n) e = refl
+      go (pos m) (negsuc n) e = absurd (omega arith)
+      go (negsuc m) (pos n) e = absurd (omega arith)
+      go (negsuc m) (negsuc n) e = down m n
+
+-- ---- of opposite signs: the sizes are taken from each other, the larger decides, and no two are the same
+
+pub opposite-size : (x w : ℤ) → signOf x ≢ signOf w → natAbs (x +ℤ w) ≡ natAbs x - natAbs w + (natAbs w - natAbs x)
+opposite-size (pos m) (pos n) d = absurd (d refl)
+opposite-size (negsuc m) (negsuc n) d = absurd (d refl)
+opposite-size (pos m) (negsuc n) d = go (ltb m (suc n)) refl
+  where
+    go : (t : Bool) → ltb m (suc n) ≡ t → natAbs (cond t (negsuc (suc n - suc m)) (pos (m - suc n))) ≡ m - suc n + (suc n - m)
+    go true l = omega (arith, ltb-true m (suc n) l)
+    go false l = omega (arith, ltb-false m (suc n) l)
+opposite-size (negsuc m) (pos n) d = go (ltb n (suc m)) refl
+  where
+    go : (t : Bool) → ltb n (suc m) ≡ t → natAbs (cond t (negsuc (suc m - suc n)) (pos (n - suc m))) ≡ suc m - n + (n - suc m)
+    go true l = omega (arith, ltb-true n (suc m) l)
+    go false l = omega (arith, ltb-false n (suc m) l)
+
+pub opposite-sign : (x w : ℤ) → signOf x ≢ signOf w → natAbs (x +ℤ w) ≢ 0 → signOf (x +ℤ w) ≡ bitXor (signOf x) (boolByte (ltb (natAbs x) (natAbs w)))
+opposite-sign (pos m) (pos n) d s = absurd (d refl)
+opposite-sign (negsuc m) (negsuc n) d s = absurd (d refl)
+opposite-sign (pos m) (negsuc n) d s = go (ltb m (suc n))
+  where
+    go : (t : Bool) → signOf (cond t (negsuc (suc n - suc m)) (pos (m - suc n))) ≡ bitXor 0 (boolByte t)
+    go true = refl
+    go false = refl
+opposite-sign (negsuc m) (pos n) d s = go (ltb n (suc m)) refl s
+  where
+    go : (t : Bool) → ltb n (suc m) ≡ t → natAbs (cond t (negsuc (suc m - suc n)) (pos (n - suc m))) ≢ 0
+        → signOf (cond t (negsuc (suc m - suc n)) (pos (n - suc m))) ≡ bitXor 1 (boolByte (ltb (suc m) n))
+    go true l q = rw (le-ltb (suc m) n (omega (arith, ltb-true n (suc m) l)))
+    go false l q = rw (lt-ltb (suc m) n (omega (arith, ltb-false n (suc m) l)))
+
+pub opposite-differ : (x w : ℤ) → signOf x ≢ signOf w → isSame x w ≡ false
+opposite-differ (pos m) (pos n) d = absurd (d refl)
+opposite-differ (negsuc m) (negsuc n) d = absurd (d refl)
+opposite-differ (pos m) (negsuc n) d = refl
+opposite-differ (negsuc m) (pos n) d = refl

@@ -1,4 +1,4 @@
--- Sizes: the end of a difference, and the top word. Assumes nothing.
+-- Sizes: the top word decides whether one is below the bound. Assumes nothing.
 use mathlib.Core.Path.{_≡_, refl, sym}
 use mathlib.Core.Bool.{Bool, true, false}
 use mathlib.Core.List.{List}
@@ -10,16 +10,8 @@ use lib.Arith.{digits-lt}
 use lib.Dec.{ltb}
 use lib.ListN.{length, getD, take, length-take}
 use lib.Seq.{take-all}
-use mir.Val.{boolByte}
 use Rattle.integers.specs.Positional.{wordsValue}
 use Rattle.integers.proofs.Positional.{Below, below-take, positional-take, positional-lt}
-
--- what is taken from zero borrows past the words
-pub all-borrowed : (u y P : ℕ) (c : Bool) → u + y ≡ 0 + P * boolByte c → 0 < y → u + y ≡ P
-all-borrowed u y P true e h = omega arith
-all-borrowed u y P false e h = absurd (omega arith)
-
--- ---- the top word
 
 below-bound : (P v t : ℕ) → v < P → ltb t 256 ≡ ltb (v + P * t) (256 * P)
 below-bound P v t h = go (ltb t 256) refl

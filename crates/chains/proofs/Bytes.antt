@@ -1,8 +1,7 @@
--- Plans as bytes and as steps: reading undoes writing, each step stands at its own place, and counts add up. Assumes nothing.
+-- Plans as bytes and as steps: reading undoes writing, and each step stands at its own place. Assumes nothing.
 use mathlib.Core.Path.{_≡_, refl, ap, _∙_}
 use mathlib.Core.List.{List, [], _∷_, _++_}
 use Prim.Native.Nat.{ℕ, zero, suc, _+_, _*_, _/_, _%_, _^_, _<_}
-use native.Mathlib.Nat.{zero-add, add-assoc}
 use native.Mathlib.Omega.{arith}
 use lib.ListN.{length, drop, length-append}
 use lib.Seq.{drop-at, drop-drop}
@@ -10,7 +9,6 @@ use Rattle.rules.specs.Limits.{stepBytes}
 use Rattle.integers.specs.Positional.{positional}
 use Rattle.chains.specs.Steps.{Step, readStep, readSteps, stepsOf, stepBytesOf, planBytesOf}
 use Rattle.chains.specs.Sound.{stepAt}
-use Rattle.chains.specs.Counts.{plus, countsOf}
 
 -- ---- how many
 
@@ -69,10 +67,3 @@ unfolding stepsOf
 steps-of-plan steps p =
     let r : length (planBytesOf steps) / stepBytes ≡ length steps = omega (arith, length-plan steps) in
     rw r (read-written steps p)
-
--- ---- counts
-
-pub counts-append : (xs ys : List Step) → countsOf (xs ++ ys) ≡ plus (countsOf xs) (countsOf ys)
-unfolding countsOf
-counts-append [] ys = simp zero-add
-counts-append (s ∷ xs) ys = rw (counts-append xs ys) (simp add-assoc)

@@ -1,3 +1,4 @@
 pub mod Records
 pub mod Values
 pub mod Bytes
+pub mod Counts

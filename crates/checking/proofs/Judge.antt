@@ -27,6 +27,10 @@ module _ (steps : List Step) (n : ℕ) (h : n < length steps) where
   step-tested-only : {v : Verdict} → Tested (suc n) (stepAt steps n) (at (valuesOf steps) (suc n)) v → stepVerdict (valuesAfter steps n) (stepAt steps n) ≡ v
   step-tested-only t = tested-only (valuesAfter steps n) (stepAt steps n) (rw (length-after steps n (omega arith), ← value-at steps n h) t)
 
+  -- one that passes is well formed
+  pub step-formed : stepVerdict (valuesAfter steps n) (stepAt steps n) ≡ Passed → WellFormed (suc n) (stepAt steps n)
+  step-formed e = elim (rw e at step-tested) [ passed f v ↦ f ]
+
   -- it passes: on to the next
   pub judge-next : stepVerdict (valuesAfter steps n) (stepAt steps n) ≡ Passed
       → judge (valuesAfter steps n) (drop n steps) ≡ judge (valuesAfter steps (suc n)) (drop (suc n) steps)

@@ -1,4 +1,5 @@
 pub mod Admission
 pub mod Judge
 pub mod Promises
+mod Tally
 mod Underway

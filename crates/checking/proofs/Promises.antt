@@ -13,6 +13,7 @@ use Rattle.rules.specs.declared.Counted.the-variants.{Steps, Refused}
 use Rattle.rules.specs.declared.Verdict.{Verdict}
 use Rattle.rules.specs.declared.Verdict.the-variants.{Failed}
 use Rattle.integers.specs.Positional.{bytesValue}
+use Rattle.integers.proofs.Signed.{same-true, same-false}
 use Rattle.numbers.specs.Admission.{Padded, Admitted, Positive}
 use Rattle.numbers.proofs.Tests.{too-long, padded, refused as not-admitted, is-zero}
 use Rattle.chains.specs.Steps.{Step, stepsOf}
@@ -21,7 +22,6 @@ use Rattle.chains.specs.Sound.{stepAt, WellFormed, Sound}
 use Rattle.chains.specs.Counts.{countsOf}
 use Rattle.records.specs.Recording.{recorded}
 use Rattle.step_checking.proofs.Tested.{Tested, malformed, value-is-zero, value-too-large}
-use Rattle.work_space.proofs.End.{same-true, same-false}
 use Rattle.checking.specs.Check.{roomFor, admission, Judged, judge, judged, stepsVerdict, checkAnswer, checkSpace, endVerdict}
 use Rattle.checking.proofs.Admission.{Checkable, Admits, number-refused, plan-length, space-too-short, checkable, admits, admits-only}
 use Rattle.checking.proofs.Judge.{SoundTo, Judges, sound, stops, judges, judges-only}

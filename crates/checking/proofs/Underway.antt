@@ -1,13 +1,11 @@
 -- Checking the steps of a plan one after the other. Assumes nothing.
 use mathlib.Core.Path.{_≡_, sym, _∙_}
 use mathlib.Core.Bool.{Bool, cond}
-use mathlib.Core.List.{List, [], _∷_}
-use Prim.Native.Nat.{ℕ, _+_, _*_, _/_, _<_}
-use native.Mathlib.Nat.{add-zero}
+use mathlib.Core.List.{List}
+use Prim.Native.Nat.{ℕ, _+_, _*_, _/_, _<_, _≤_}
 use native.Mathlib.Numerals.{add-one}
 use native.Mathlib.Omega.{arith}
-use lib.ListN.{length, take, drop}
-use lib.Seq.{take-suc}
+use lib.ListN.{length, drop}
 use Rattle.rules.specs.Limits.{stepBytes}
 use Rattle.rules.specs.Outcome.{unlessFailed}
 use Rattle.rules.specs.declared.Refusal.{Refusal}
@@ -15,17 +13,18 @@ use Rattle.rules.specs.declared.Refusal.the-variants.{WrongEnd}
 use Rattle.rules.specs.declared.Counted.the-variants.{Steps, Refused}
 use Rattle.rules.specs.declared.Verdict.{Verdict}
 use Rattle.rules.specs.declared.Verdict.the-variants.{Passed, Failed}
-use Rattle.chains.specs.Steps.{Step, add, readStep, stepsOf}
+use Rattle.chains.specs.Steps.{Step, subtracting, readStep, stepsOf}
 use Rattle.chains.specs.Values.{start, stepValue, valuesOf}
 use Rattle.chains.specs.Sound.{stepAt}
-use Rattle.chains.specs.Counts.{plus, stepCounts, countsOf}
+use Rattle.chains.specs.Counts.{isDoubling, countsOf}
+use Rattle.chains.proofs.Counts.{doubling-after}
 use Rattle.chains.proofs.Values.{valuesAfter, length-values, length-after, after-none, after-all, after-more}
-use Rattle.chains.proofs.Bytes.{length-steps, step-at, counts-append}
+use Rattle.chains.proofs.Bytes.{length-steps, step-at}
 use Rattle.step_checking.specs.Verdicts.{stepVerdict, grown, StepChecked}
 use Rattle.records.specs.Recording.{Recording}
 use Rattle.work_space.specs.End.{EndsAt}
 use Rattle.checking.specs.Check.{admission, judge, judged, stepsVerdict, checkAnswer, checkSpace}
-use Rattle.checking.proofs.Judge.{judge-next, judge-stop, judge-end}
+use Rattle.checking.proofs.Judge.{step-formed, judge-next, judge-stop, judge-end}
 
 -- n steps are behind: judging goes on from there, and the values by then are recorded
 pub record Underway (plan lent here : List ℕ) (n : ℕ) : Type 0 where
@@ -49,17 +48,24 @@ module _ {number plan lent here : List ℕ} {v : Verdict} (passed : admission nu
 
 module _ (number plan lent here : List ℕ) (n : ℕ) (u : Underway plan lent here n) where
   -- the step at hand
-  module _ (h : n < length plan / stepBytes) (s : Step) (read : s ≡ readStep (drop (stepBytes * n) plan)) (r : Verdict) (next : List ℕ) (checked : StepChecked s n here next r) where
+  module _ (h : n < length plan / stepBytes) (s : Step) (read : s ≡ readStep (drop (stepBytes * n) plan)) (r : Verdict) (d : Bool) (next : List ℕ) (checked : StepChecked s n here next r d) where
     within : n < length (stepsOf plan)
     within = rw (length-steps plan) h
 
     tested : (r ≡ stepVerdict (valuesAfter (stepsOf plan) n) (stepAt (stepsOf plan) n))
         × Recording lent next (grown r (valuesAfter (stepsOf plan) n) (stepValue (valuesAfter (stepsOf plan) n) (stepAt (stepsOf plan) n)))
+        × (r ≡ Passed → d ≡ isDoubling (valuesAfter (stepsOf plan) n) (stepAt (stepsOf plan) n))
     tested =
         let same : s ≡ stepAt (stepsOf plan) n = read ∙ sym (step-at plan n h) in
         rw same at (checked lent (valuesAfter (stepsOf plan) n) (rw add-one (length-after (stepsOf plan) n (omega (arith, within)))) (u .recording))
 
-    -- it passes
+    -- it passes: its operation is known, and the values of the whole plan tell whether it is a doubling
+    pub underway-counted : r ≡ Passed → (s .operation ≤ subtracting) × (d ≡ isDoubling (valuesOf (stepsOf plan)) s)
+    underway-counted e =
+        let formed = step-formed (stepsOf plan) n within (sym (tested .0) ∙ e) in
+        let same : s ≡ stepAt (stepsOf plan) n = read ∙ sym (step-at plan n h) in
+        rw same (formed .operation, tested .2 e ∙ doubling-after (stepsOf plan) n (stepAt (stepsOf plan) n) (formed .first) (formed .second))
+
     pub underway-next : r ≡ Passed → Underway plan lent next (n + 1)
     underway-next e =
         rw add-one
@@ -86,10 +92,3 @@ module _ (number plan lent here : List ℕ) (n : ℕ) (u : Underway plan lent he
         verdict = rw (none, f, rw f at (end lent (valuesOf (stepsOf plan)) (rw add-one (rw f (length-values (stepsOf plan)))) all));
         recording = rw none all;
       }
-
--- the counts of one step more
-pub counts-more : (plan : List ℕ) (n : ℕ) (s : Step) → n < length plan / stepBytes → s ≡ readStep (drop (stepBytes * n) plan)
-    → plus (countsOf (take n (stepsOf plan))) (stepCounts s) ≡ countsOf (take (n + 1) (stepsOf plan))
-unfolding countsOf
-counts-more plan n s h e =
-    rw (add-one, take-suc (stepsOf plan) n (add 0 0) (rw (length-steps plan) h), counts-append (take n (stepsOf plan)) (stepAt (stepsOf plan) n ∷ []), step-at plan n h, e) (simp add-zero)

@@ -14,12 +14,12 @@ use Rattle.rules.specs.declared.Counted.the-variants.{Steps, Refused}
 use Rattle.rules.specs.declared.Verdict.{Verdict}
 use Rattle.rules.specs.declared.Verdict.the-variants.{Passed, Failed}
 use Rattle.integers.specs.Positional.{bytesValue}
+use Rattle.integers.specs.Signed.{isSame}
 use Rattle.numbers.specs.Admission.{positiveVerdict}
 use Rattle.chains.specs.Steps.{Step, stepsOf}
 use Rattle.chains.specs.Values.{at, start, stepValue}
 use Rattle.chains.specs.Counts.{countsOf}
 use Rattle.step_checking.specs.Verdicts.{stepVerdict}
-use Rattle.work_space.specs.End.{isSame}
 use Rattle.records.specs.Recording.{recorded}
 
 -- ---- before the steps: 1, 13, 2, 7, 8

@@ -8,7 +8,6 @@ use rules::Refusal;
 use rules::STEP_BYTES;
 use rules::Verdict;
 use step_checking::check_step;
-use step_reading::count_step;
 use step_reading::read_step;
 use work_space::begin;
 use work_space::ends_at;
@@ -45,23 +44,27 @@ pub fn check(number: &[u8], plan: &[u8], space: &mut [u8]) -> Counted
     }
     begin(space);
     let steps = plan.len() / STEP_BYTES;
-    let mut counts = Counts {
-        doublings: 0,
-        additions: 0,
-        subtractions: 0,
-    };
+    // Two numbers are kept of the counts, and the third is what is left.
+    let mut doublings = 0;
+    let mut not_additions = 0;
     let mut n = 0;
     while n < steps {
         let step = read_step(plan, n);
-        // Counted before it is checked, so that nothing of the step is kept meanwhile.
-        counts = count_step(counts, step);
-        if let Verdict::Failed(refusal) = check_step(step, space, n) {
+        let checked = check_step(step, space, n);
+        let verdict = checked.verdict;
+        if let Verdict::Failed(refusal) = verdict {
             return Counted::Refused(refusal);
         }
+        doublings += checked.doubling as usize;
+        not_additions += checked.doubling as usize | step.operation as usize;
         n += 1;
     }
     if ends_at(number, space, steps) {
-        return Counted::Steps(counts);
+        return Counted::Steps(Counts {
+            doublings,
+            additions: steps - not_additions,
+            subtractions: not_additions - doublings,
+        });
     }
     Counted::Refused(Refusal::WrongEnd(steps))
 }

@@ -7,3 +7,4 @@ pub mod Blocks
 pub mod Words
 pub mod Shortest
 pub mod Counting
+pub mod Signed

@@ -11,7 +11,8 @@ use lib.Count.{ones, onesIn, ones-step}
 use lib.Pow.{shr-shr}
 use Rattle.rules.specs.Limits.{planSteps}
 use Rattle.chains.specs.Steps.{add}
-use Rattle.chains.specs.Counts.{counts, countsOf}
+use Rattle.chains.specs.Counts.{counts, sumCounts, countsOf}
+use Rattle.chains.proofs.Counts.{positionCounts, unhidden-counts}
 use Rattle.methods.specs.PartialPlan.{PartialPlan, none, double, downFrom}
 use Rattle.integers.specs.Bits.{bit, bitLength}
 use Rattle.methods.specs.Binary.{atBit, binarySteps}
@@ -31,7 +32,7 @@ ones-positive = bin-ind (λ (n : ℕ). 0 < n → 0 < ones n) (λ h. absurd (omeg
     step n ih h (no p) = omega (arith, ones-step n)
 
 none-counted : countsIn none ≡ counts 0 (ones 1 - 1) 0
-unfolding countsOf ones onesIn
+unfolding positionCounts sumCounts ones onesIn
 none-counted = refl
 
 -- how many steps a bit takes
@@ -82,7 +83,7 @@ module _ (e : ℕ) (some : 0 < e) (small : Small e) where
           let c : bitLength e - 1 - i ≡ d + 1 = omega arith in
           let o : ones (e / 2 ^ i) - 1 ≡ ones v - 1 + 1 = omega (arith, weight, ones-positive v positive) in
           record {
-            holds = rw q (double-add b 0 v 1 (a .holds) (one-stands b) positive (rw q at (quotient-small e i small)));
+            holds = rw q (double-add b 0 v 1 (a .holds) (one-stands b) (omega arith) positive (rw q at (quotient-small e i small)));
             latest = latest-followed (double b) (add (double b .latest) 0);
             few = omega (arith, a .few, length-followed b (add (b .latest) (b .latest)), length-followed (double b) (add (double b .latest) 0));
             counted = rw (c, o) (counts-add (double b) (d + 1) (ones v - 1) 0 (counts-double b d (ones v - 1) 0 (a .counted)) 0 (not-before b (add (b .latest) (b .latest)) 0 (omega arith)));
@@ -104,10 +105,13 @@ module _ (e : ℕ) (some : 0 < e) (small : Small e) where
   unfolding binarySteps
   binary-short = omega (arith, all .few)
 
+  binary-positions : positionCounts (binarySteps e) ≡ counts (bitLength e - 1) (ones e - 1) 0
+  unfolding binarySteps
+  binary-positions = rw (quotient-none e, sub-zero) at (all .counted)
+
   -- the bit length less one, and the ones less one
   pub binary-counts : countsOf (binarySteps e) ≡ counts (bitLength e - 1) (ones e - 1) 0
-  unfolding binarySteps
-  binary-counts = rw (quotient-none e, sub-zero) at (all .counted)
+  binary-counts = unhidden-counts (binarySteps e) (binary-made .unhidden) ∙ binary-positions
 
 module _ (e : ℕ) (plannable : Plannable e) where
   small : Small e

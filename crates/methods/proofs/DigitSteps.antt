@@ -13,13 +13,14 @@ use Rattle.signed_digits.specs.Strings.{value, digitAt}
 use Rattle.signed_digits.proofs.Parts.{positivePart, negativePart, sum-parts}
 use Rattle.chains.specs.Steps.{Step, add, subtract}
 use Rattle.chains.specs.Counts.{counts, countsOf, total}
+use Rattle.chains.proofs.Counts.{length-counted, positionCounts, unhidden-counts}
 use Rattle.methods.specs.PartialPlan.{PartialPlan, double, downFrom}
 use Rattle.methods.specs.Tables.{tableCounts}
 use Rattle.methods.specs.OddMultiples.{oddSecond, oddPosition}
 use Rattle.methods.specs.DigitSteps.{atDigit, atTop, digitSteps}
 use Rattle.methods.specs.Forecast.{isPlus, isMinus, plusDigits, minusDigits}
 use Rattle.methods.proofs.Laws.{Small, small-below, Holds, Stands, Made, double-holds, double-add, double-subtract, stands-followed, latest-followed, length-followed, down-from, made}
-use Rattle.methods.proofs.Counted.{countsIn, counts-double, counts-add, counts-subtract, not-before, length-counted}
+use Rattle.methods.proofs.Counted.{countsIn, counts-double, counts-add, counts-subtract, not-before}
 use Rattle.methods.proofs.Tables.{tabled, table-total, no-subtractions}
 use Rattle.methods.proofs.OddMultiples.{odd-length, tableValue, odd-counts, InTable, entry-holds}
 
@@ -128,7 +129,7 @@ module _ (n : ℕ) (ds : List ℤ) (suited : Suited n ds) where
           let p : ℕ = oddPosition (suc k) in
           let one : 1 + plusDigits (drop (suc i) ds) - 1 ≡ plusDigits (drop (suc i) ds) - 1 + 1 = omega (arith, a .some) in
           record {
-            holds = rw r (double-add b p v (suc k) (a .holds) (a .stands (suc k) t) positive (small (2 * v + suc k) (omega arith)));
+            holds = rw r (double-add b p v (suc k) (a .holds) (a .stands (suc k) t) (omega (arith, t .odd)) positive (small (2 * v + suc k) (omega arith)));
             stands = λ w t. stands-followed (double b) (add (double b .latest) p) (oddPosition w) w (stands-followed b twice (oddPosition w) w (a .stands w t));
             latest = λ h. latest-followed (double b) (add (double b .latest) p);
             some = rw c (omega arith);
@@ -178,10 +179,13 @@ module _ (n : ℕ) (ds : List ℤ) (suited : Suited n ds) where
   unfolding digitSteps
   digits-made = made _ _ (all .holds) (all .latest (λ e. sym e))
 
+  digits-positions : positionCounts (digitSteps n ds) ≡ counts (tableCounts n .doublings + (length ds - 1)) (tableCounts n .additions + (plusDigits ds - 1)) (minusDigits ds)
+  unfolding digitSteps
+  digits-positions = rw sub-zero at (all .counted)
+
   -- a doubling for each digit below the top; an addition for each of them above zero, and a subtraction for each below
   pub digits-counts : countsOf (digitSteps n ds) ≡ counts (tableCounts n .doublings + (length ds - 1)) (tableCounts n .additions + (plusDigits ds - 1)) (minusDigits ds)
-  unfolding digitSteps
-  digits-counts = rw sub-zero at (all .counted)
+  digits-counts = unhidden-counts (digitSteps n ds) (digits-made .unhidden) ∙ digits-positions
 
   digits-length : length (digitSteps n ds) ≡ n + (length ds - 1) + (plusDigits ds - 1) + minusDigits ds
   digits-length = omega (arith, length-counted (digitSteps n ds), ap total digits-counts, table-total n, ap total (no-subtractions n))

@@ -12,6 +12,7 @@ use Rattle.rules.specs.Limits.{planSteps}
 use Rattle.rules.specs.declared.Refusal.{Refusal}
 use Rattle.rules.specs.declared.Refusal.the-variants.{MethodOrWidth}
 use Rattle.integers.specs.Bits.{bitLength}
+use Rattle.chains.specs.Counts.{NoHiddenDoubling}
 use Rattle.methods.specs.declared.Method.{Method}
 use Rattle.methods.specs.declared.Method.the-variants.{Binary, FixedWindows, SlidingWindows, Naf}
 use Rattle.methods.specs.declared.Chosen.{Chosen}
@@ -155,3 +156,8 @@ every-below Binary e a p = omega (arith, p .bits)
 every-below (FixedWindows d) e a p = omega (arith, p .bits, pow-mono {i = d} {j = fixedWindowBits} (fixed-widths a .1))
 every-below (SlidingWindows d) e a p = omega (arith, p .bits, pow-mono {i = d} {j = slidingWindowBits} (sliding-widths a .1))
 every-below Naf e a p = omega (arith, p .bits)
+
+-- ---- no doubling is hidden, whatever the method
+
+pub every-unhidden : (m : Method) (e : ℕ) → Allowed m → Plannable e → NoHiddenDoubling (stepsBy m e)
+every-unhidden m e a p = every-fit m e a p .made .unhidden

@@ -3,7 +3,7 @@ use mathlib.Core.Path.{_≡_, refl, sym, ap, subst, _∙_}
 use mathlib.Core.Bool.{cond}
 use Prim.Native.Nat.{ℕ, zero, suc, _+_, _*_, _-_, _/_, _^_, _<_, _≤_}
 use borrow.Author.Tests.{ltb-true, ltb-false, lt-ltb, le-ltb}
-use native.Mathlib.Nat.{lt-of-not-le, not-le-of-lt, add-zero, add-mul, mul-zero, mul-suc, mul-le-mul-left, mod-lt, mul-div-le, lt-mul-div-succ, le-div-iff-mul-le, div-le-self}
+use native.Mathlib.Nat.{lt-of-not-le, not-le-of-lt, add-zero, add-mul, mul-zero, mul-suc, mul-le-mul-left, mul-le-mul-right, mod-lt, mul-div-le, lt-mul-div-succ, le-div-iff-mul-le, div-le-self}
 use native.Mathlib.Omega.{arith}
 use lib.Dec.{ltb, eqb, eqb·suc-zero}
 use lib.ListN.{length}
@@ -12,14 +12,15 @@ use Rattle.signed_digits.proofs.Parts.{cond-cases}
 use Rattle.rules.specs.Limits.{planSteps}
 use Rattle.chains.specs.Steps.{Step, add}
 use Rattle.chains.specs.Counts.{counts, countsOf, total}
+use Rattle.chains.proofs.Counts.{positionCounts, positions-counted, unhidden-counts}
 use Rattle.methods.specs.PartialPlan.{PartialPlan, doubled, downFrom}
 use Rattle.integers.specs.Bits.{bitLength}
 use Rattle.methods.specs.Widths.{fixedWindowBits}
 use Rattle.methods.specs.FixedWindows.{multiples, window, topWindow, atFixedWindow, windowSteps, fixedWindowSteps}
 use Rattle.methods.specs.Tables.{tableCounts}
-use Rattle.methods.specs.Forecast.{nonzeroWindows}
+use Rattle.methods.specs.Forecast.{nonzeroWindows, fixedWindowCounts}
 use Rattle.integers.proofs.Bits.{bit-length-iff, above-top, quotient-le, quotient-none}
-use Rattle.methods.proofs.Counted.{countsIn, counts-add, counts-doubled, counts-cond, not-before-doubled, length-counted}
+use Rattle.methods.proofs.Counted.{countsIn, counts-add, counts-doubled, counts-cond, not-before-doubled}
 use Rattle.methods.proofs.Laws.{Small, small-below, power-small, Holds, Stands, Made, Fit, Plannable, plannable-small, stands-followed, stands-doubled, latest-followed, length-followed, length-doubled, latest-doubled, add-holds, doubled-holds, down-from, made}
 use Rattle.methods.proofs.Tables.{tabled, length-table, table-holds, table-counts, table-total, no-subtractions}
 
@@ -36,7 +37,7 @@ length-multiples n = length-table (λ i. 0) n
 multiples-holds : (n : ℕ) → Small (suc n) → (p : ℕ) → p ≤ n → Holds (multiplied n p) (suc p)
 multiples-holds = table-holds (λ i. 0) suc refl (λ n. omega arith) (λ n. omega arith)
 
-pub multiples-counts : (n : ℕ) → countsOf (multiples n) ≡ tableCounts n
+pub multiples-counts : (n : ℕ) → positionCounts (multiples n) ≡ tableCounts n
 multiples-counts = table-counts (λ i. 0) refl (λ n. omega arith)
 
 -- ---- the windows
@@ -122,6 +123,10 @@ module _ (e d : ℕ) (some : 0 < e) (wide : 1 ≤ d) (small : Small e) (small-ta
       moved : Holds (doubled d b) (q * 2 ^ d)
       moved = doubled-holds d b q (a .holds) (above-top-window e d some wide (suc i) l) (part-small (q * 2 ^ d) (omega (arith, down)))
 
+      -- a window is below what stands above it
+      above : 2 ^ d ≤ q * 2 ^ d
+      above = omega (arith, mul-le-mul-right (2 ^ d) (above-top-window e d some wide (suc i) l))
+
       kept : (p : ℕ) → p + 2 ≤ 2 ^ d → Stands (doubled d b) p (suc p)
       kept p h = stands-doubled d b p (suc p) (a .table p h)
 
@@ -133,7 +138,7 @@ module _ (e d : ℕ) (some : 0 < e) (wide : 1 ≤ d) (small : Small e) (small-ta
           let w : e / 2 ^ (d * i) ≡ q * 2 ^ d + suc p = omega (arith, down) in
           let s : Step = add (doubled d b .latest) p in
           record {
-            holds = rw w (add-holds (doubled d b) p (q * 2 ^ d) (suc p) moved (kept p (omega (arith, window-small e d i))) (omega arith) (part-small (q * 2 ^ d + suc p) (omega arith)));
+            holds = rw w (add-holds (doubled d b) p (q * 2 ^ d) (suc p) moved (kept p (omega (arith, window-small e d i))) (λ o. omega (arith, window-small e d i, above)) (omega arith) (part-small (q * 2 ^ d + suc p) (omega arith)));
             table = λ r h. stands-followed (doubled d b) s r (suc r) (kept r h);
             latest = λ h. latest-followed (doubled d b) s;
           }
@@ -172,7 +177,7 @@ at-window-counts : (d v : ℕ) (b : PartialPlan) (x y : ℕ) → v < 2 ^ d → 2
 at-window-counts d zero b x y l h c = counts-doubled d b x y 0 c ∙ simp add-zero
 at-window-counts zero (suc p) b x y l h c = absurd (omega arith)
 at-window-counts (suc d) (suc p) b x y l h c =
-    let filled : length (b .steps) ≡ x + y + 0 = length-counted (b .steps) ∙ ap total c in
+    let filled : length (b .steps) ≡ x + y + 0 = positions-counted (b .steps) ∙ ap total c in
     rw (eqb·suc-zero p)
     (counts-add (doubled (suc d) b) (x + suc d) y 0 (counts-doubled (suc d) b x y 0 c) p (not-before-doubled (suc d) b p (omega arith) (omega arith)))
 
@@ -188,11 +193,9 @@ windows-counts e d (suc i) b x y h c =
     rw (f, g) (windows-counts e d i (atFixedWindow d v b) (x + d) (y + one) (omega arith) (at-window-counts d v b x y (window-small e d i) h c))
 
 module _ (e d : ℕ) where
-  -- below 2 ^ d a multiples; otherwise the table, d doublings for each lower window, and an addition for each that is not zero
-  pub fixed-counts : countsOf (fixedWindowSteps e d) ≡ cond (ltb e (2 ^ d)) (tableCounts (e - 1))
-      (counts (tableCounts (2 ^ d - 2) .doublings + d * topWindow e d) (tableCounts (2 ^ d - 2) .additions + nonzeroWindows e d (topWindow e d)) 0)
+  fixed-positions : positionCounts (fixedWindowSteps e d) ≡ fixedWindowCounts e d
   unfolding fixedWindowSteps windowSteps
-  fixed-counts =
+  fixed-positions =
       let n : ℕ = 2 ^ d - 2 in
       let t : ℕ = topWindow e d in
       let long : 2 ^ d ≤ tableCounts n .doublings + tableCounts n .additions + 2 = omega (arith, table-total n, ap total (no-subtractions n)) in
@@ -202,7 +205,7 @@ module _ (e d : ℕ) where
   -- Brauer's bound: the table, and for each lower window d doublings and at most one addition
   fixed-brauer : length (fixedWindowSteps e d) ≤ 2 ^ d - 2 + (d + 1) * topWindow e d
   fixed-brauer =
-      rw (length-counted (fixedWindowSteps e d), fixed-counts)
+      rw (positions-counted (fixedWindowSteps e d), fixed-positions)
       (cond-cases (ltb e (2 ^ d)) _ _ (λ c. total c ≤ 2 ^ d - 2 + (d + 1) * topWindow e d)
       (λ t. omega (arith, table-total (e - 1), ltb-true e (2 ^ d) t))
       (λ t. omega (arith, table-total (2 ^ d - 2), add-mul d 1 (topWindow e d), nonzero-windows-le e d (topWindow e d))))
@@ -228,3 +231,6 @@ module _ (e d : ℕ) (plannable : Plannable e) (wide : 1 ≤ d) (narrow : d ≤ 
 
   pub fixed-fit : Fit (fixedWindowSteps e d) e
   fixed-fit = record { made = fixed-made e d (plannable .some) wide (small-below e (e + 1) (omega arith) (plannable-small plannable)) (power-small d (omega arith)); few = fixed-few }
+
+  pub fixed-counts : countsOf (fixedWindowSteps e d) ≡ fixedWindowCounts e d
+  fixed-counts = unhidden-counts (fixedWindowSteps e d) (fixed-fit .made .unhidden) ∙ fixed-positions e d

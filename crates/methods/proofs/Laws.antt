@@ -1,13 +1,14 @@
 -- What the methods share: a plan in the making whose latest position holds a known value, doublings of it, and adding or subtracting what stands at a
 -- known position. Assumes nothing.
 use mathlib.Core.Path.{_≡_, refl, sym, ap, _∙_}
+use mathlib.Core.Logic.{_≢_}
 use mathlib.Core.List.{List, [], _∷_, _++_}
 use Prim.Native.Nat.{ℕ, zero, suc, _+_, _*_, _-_, _/_, _^_, _<_, _≤_}
 use native.Mathlib.Decide.{decLt}
 use native.Mathlib.Nat.{pow-succ', mul-assoc, mul-comm, mul-le-mul-left, mul-pos, lt-of-le-of-lt, lt-of-lt-of-le}
 use native.Mathlib.Numerals.{add-one}
 use native.Mathlib.Omega.{arith}
-use lib.IntN.{ℤ, pos}
+use lib.IntN.{ℤ, pos, negℤ}
 use lib.ListN.{length, length-append, List·getD-append}
 use lib.Pow.{pow-pos, pow-mono, shr-le}
 use lib.Seq.{getD-at}
@@ -20,6 +21,7 @@ use Rattle.numbers.specs.Admission.{Positive}
 use Rattle.chains.specs.Steps.{Step, add, subtract}
 use Rattle.chains.specs.Values.{at, start, stepValue, extend, valuesOf, endOf}
 use Rattle.chains.specs.Sound.{stepAt, WellFormed, Representable, Sound}
+use Rattle.chains.specs.Counts.{HidesNone, NoHiddenDoubling}
 use Rattle.chains.proofs.Values.{extend-append, extend-keeps, length-values}
 use Rattle.signed_digits.proofs.Steps.{minus-smaller}
 use Rattle.methods.specs.PartialPlan.{PartialPlan, none, followed, double, addAt, subtractAt, doubled, downFrom}
@@ -63,6 +65,29 @@ sound-followed steps s all n v = record { formed = formed; representable = repre
             let e : i ≡ length steps = omega (arith, length-append steps (s ∷ [])) in
             rw (e, value-new steps s) v
 
+unhidden-none : NoHiddenDoubling []
+unhidden-none n h = absurd (omega arith)
+
+-- a step that hides no doubling hides none once another follows
+hides-kept : (steps : List Step) (s r : Step) → WellFormed (suc (length steps)) r → HidesNone (valuesOf steps) r → HidesNone (valuesOf (steps ++ (s ∷ []))) r
+hides-kept steps s r n h =
+    let first = value-kept steps s (r .first) (omega (arith, n .first)) in
+    let second = value-kept steps s (r .second) (omega (arith, n .second)) in
+    record { sums = rw (first, second) (h .sums); differences = rw (first, second) (h .differences) }
+
+unhidden-followed : (steps : List Step) (s : Step) → Sound steps → NoHiddenDoubling steps → WellFormed (suc (length steps)) s → HidesNone (valuesOf steps) s
+    → NoHiddenDoubling (steps ++ (s ∷ []))
+unhidden-followed steps s all before n here i h = go (decLt i (length steps))
+  where
+    go : Dec (i < length steps) → HidesNone (valuesOf (steps ++ (s ∷ []))) (stepAt (steps ++ (s ∷ [])) i)
+    go (yes l) =
+        let f : WellFormed (suc i) (stepAt steps i) = all .formed i l in
+        rw (List·getD-append steps (s ∷ []) (add 0 0) i l)
+        (hides-kept steps s (stepAt steps i) (record { operation = f .operation; first = omega (arith, f .first); second = omega (arith, f .second) }) (before i l))
+    go (no l) =
+        let e : i ≡ length steps = omega (arith, length-append steps (s ∷ [])) in
+        rw (e, getD-at steps s [] (add 0 0) (length steps) refl) (hides-kept steps s s n here)
+
 -- ---- a plan in the making
 
 -- a value of size below the limit; kept shut, since the limit is too long for omega
@@ -83,9 +108,10 @@ power-small d h =
 pub quotient-small : (e i : ℕ) → Small e → Small (e / 2 ^ i)
 quotient-small e i s = small-below (e / 2 ^ i) e (shr-le e i) s
 
--- all steps so far are sound, and the latest position holds v
+-- all steps so far are sound, none hides a doubling, and the latest position holds v
 pub record Holds (b : PartialPlan) (v : ℕ) : Type 0 where
   pub sound : Sound (b .steps)
+  pub unhidden : NoHiddenDoubling (b .steps)
   pub within : b .latest ≤ length (b .steps)
   pub value : at (valuesOf (b .steps)) (b .latest) ≡ pos v
 
@@ -96,7 +122,7 @@ pub record Stands (b : PartialPlan) (p w : ℕ) : Type 0 where
 
 pub none-holds : Holds none 1
 unfolding valuesOf extend
-none-holds = record { sound = sound-none; within = omega arith; value = refl }
+none-holds = record { sound = sound-none; unhidden = unhidden-none; within = omega arith; value = refl }
 
 pub latest-followed : (b : PartialPlan) (s : Step) → followed b s .latest ≡ length (followed b s .steps)
 unfolding followed
@@ -119,11 +145,12 @@ one-stands b = record { filled = omega arith; value = extend-keeps start (b .ste
 zero-not : (v : ℕ) → 0 < v → v ≡ 0 → ⊥
 zero-not v p e = omega arith
 
-followed-holds : (b : PartialPlan) (s : Step) (v : ℕ) → Sound (b .steps) → WellFormed (suc (length (b .steps))) s → stepValue (valuesOf (b .steps)) s ≡ pos v
-    → 0 < v → Small v → Holds (followed b s) v
+followed-holds : (b : PartialPlan) (s : Step) (u v : ℕ) → Holds b u → WellFormed (suc (length (b .steps))) s → HidesNone (valuesOf (b .steps)) s
+    → stepValue (valuesOf (b .steps)) s ≡ pos v → 0 < v → Small v → Holds (followed b s) v
 unfolding followed Small
-followed-holds b s v all n e p l = record {
-  sound = sound-followed (b .steps) s all n (rw e (record { nonzero = λ z. let y : v ≡ 0 = cc in zero-not v p y; small = l }));
+followed-holds b s u v h n hides e p l = record {
+  sound = sound-followed (b .steps) s (h .sound) n (rw e (record { nonzero = λ z. let y : v ≡ 0 = cc in zero-not v p y; small = l }));
+  unhidden = unhidden-followed (b .steps) s (h .sound) (h .unhidden) n hides;
   within = rw length-append (omega arith);
   value = rw add-one (value-new (b .steps) s ∙ e);
 }
@@ -134,27 +161,36 @@ followed-holds b s v all n e p l = record {
 formed-add : (b : PartialPlan) (p : ℕ) → b .latest ≤ length (b .steps) → p ≤ length (b .steps) → WellFormed (suc (length (b .steps))) (add (b .latest) p)
 formed-add b p h l = record { operation = omega arith; first = omega arith; second = omega arith }
 
-pub add-holds : (b : PartialPlan) (p v w : ℕ) → Holds b v → Stands b p w → 0 < v + w → Small (v + w) → Holds (addAt p b) (v + w)
+-- what stands at another position is another value
+pub add-holds : (b : PartialPlan) (p v w : ℕ) → Holds b v → Stands b p w → (b .latest ≢ p → v ≢ w) → 0 < v + w → Small (v + w) → Holds (addAt p b) (v + w)
 unfolding stepValue
-add-holds b p v w h t some small =
-    followed-holds b (add (b .latest) p) (v + w) (h .sound) (formed-add b p (h .within) (t .filled)) (rw (h .value, t .value)) some small
+add-holds b p v w h t other some small =
+    followed-holds b (add (b .latest) p) v (v + w) h (formed-add b p (h .within) (t .filled))
+    (record { sums = λ o d e. other d (let f : pos v ≡ pos w = sym (h .value) ∙ e ∙ t .value in cc); differences = λ o. absurd (o refl) })
+    (rw (h .value, t .value)) some small
 
 pub double-holds : (b : PartialPlan) (v : ℕ) → Holds b v → 0 < v → Small (2 * v) → Holds (double b) (2 * v)
 double-holds b v h some small =
     let e : 2 * v ≡ v + v = omega arith in
-    rw e (add-holds b (b .latest) v v h (record { filled = h .within; value = h .value }) (omega arith) (rw e at small))
+    rw e (add-holds b (b .latest) v v h (record { filled = h .within; value = h .value }) (λ o. absurd (o refl)) (omega arith) (rw e at small))
+
+-- what is above zero is not the opposite of a number
+not-opposite : (v w : ℕ) → 0 < v → pos v ≢ negℤ (pos w)
+not-opposite v zero h e = let z : v ≡ 0 = cc in omega arith
+not-opposite v (suc w) h e = let z : _≡_ {A = ℕ} 0 1 = cc in omega arith
 
 subtract-holds : (b : PartialPlan) (p v w : ℕ) → Holds b v → Stands b p w → w < v → Small v → Holds (subtractAt p b) (v - w)
 unfolding stepValue
 subtract-holds b p v w h t less small =
-    followed-holds b (subtract (b .latest) p) (v - w) (h .sound) (record { operation = omega arith; first = omega (arith, h .within); second = omega (arith, t .filled) })
+    followed-holds b (subtract (b .latest) p) v (v - w) h (record { operation = omega arith; first = omega (arith, h .within); second = omega (arith, t .filled) })
+    (record { sums = λ o. absurd (omega arith); differences = λ o e. not-opposite v w (omega arith) (sym (h .value) ∙ e ∙ ap negℤ (t .value)) })
     (rw (h .value, t .value) (minus-smaller v w (omega arith))) (omega arith) (small-below (v - w) v (omega arith) small)
 
 -- a doubling, then what stands at p added or taken away
-pub double-add : (b : PartialPlan) (p v w : ℕ) → Holds b v → Stands b p w → 0 < v → Small (2 * v + w) → Holds (addAt p (double b)) (2 * v + w)
-double-add b p v w h t some small =
+pub double-add : (b : PartialPlan) (p v w : ℕ) → Holds b v → Stands b p w → 2 * v ≢ w → 0 < v → Small (2 * v + w) → Holds (addAt p (double b)) (2 * v + w)
+double-add b p v w h t other some small =
     add-holds (double b) p (2 * v) w (double-holds b v h some (small-below (2 * v) (2 * v + w) (omega arith) small))
-    (stands-followed b (add (b .latest) (b .latest)) p w t) (omega arith) small
+    (stands-followed b (add (b .latest) (b .latest)) p w t) (λ o. other) (omega arith) small
 
 pub double-subtract : (b : PartialPlan) (p v w : ℕ) → Holds b v → Stands b p w → w < 2 * v → Small (2 * v) → Holds (subtractAt p (double b)) (2 * v - w)
 double-subtract b p v w h t less small =
@@ -195,10 +231,10 @@ latest-doubled (suc zero) b h = latest-followed b (add (b .latest) (b .latest))
 latest-doubled (suc (suc n)) b h = latest-doubled (suc n) (double b) (omega arith)
 
 -- n doublings, then what stands at p added
-pub doubled-add : (n : ℕ) (b : PartialPlan) (p v w : ℕ) → Holds b v → Stands b p w → 0 < v → Small (v * 2 ^ n + w) → Holds (addAt p (doubled n b)) (v * 2 ^ n + w)
-doubled-add n b p v w h t some small =
+pub doubled-add : (n : ℕ) (b : PartialPlan) (p v w : ℕ) → Holds b v → Stands b p w → v * 2 ^ n ≢ w → 0 < v → Small (v * 2 ^ n + w) → Holds (addAt p (doubled n b)) (v * 2 ^ n + w)
+doubled-add n b p v w h t other some small =
     add-holds (doubled n b) p (v * 2 ^ n) w (doubled-holds n b v h some (small-below (v * 2 ^ n) (v * 2 ^ n + w) (omega arith) small))
-    (stands-doubled n b p w t) (omega (arith, mul-pos some (pow-pos n))) small
+    (stands-doubled n b p w t) (λ o. other) (omega (arith, mul-pos some (pow-pos n))) small
 
 -- from n places down to none
 pub down-from {ℓ} : (P : ℕ → PartialPlan → Type ℓ) (f : ℕ → PartialPlan → PartialPlan) (n : ℕ) (b : PartialPlan) → ((i : ℕ) (b : PartialPlan) → i < n → P (suc i) b → P i (f i b)) → P n b → P 0 (downFrom f n b)
@@ -214,13 +250,14 @@ down-grows f (suc n) b more = omega (arith, more n b, down-grows f n (f n b) mor
 
 -- ---- what every method comes to
 
--- sound steps that end at the number
+-- sound steps that end at the number, with no hidden doubling
 pub record Made (steps : List Step) (e : ℕ) : Type 0 where
   pub sound : Sound steps
+  pub unhidden : NoHiddenDoubling steps
   pub end : endOf steps ≡ pos e
 
 pub made : (b : PartialPlan) (e : ℕ) → Holds b e → b .latest ≡ length (b .steps) → Made (b .steps) e
-made b e h l = record { sound = h .sound; end = rw (← l) (h .value) }
+made b e h l = record { sound = h .sound; unhidden = h .unhidden; end = rw (← l) (h .value) }
 
 -- no more of them than a plan may have
 pub record Fit (steps : List Step) (e : ℕ) : Type 0 where

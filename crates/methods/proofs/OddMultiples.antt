@@ -10,7 +10,7 @@ use lib.Dec.{eqb}
 use lib.ListN.{length}
 use lib.Pow.{pow-pos, pow-mono}
 use Rattle.signed_digits.proofs.Parts.{cond-cases}
-use Rattle.chains.specs.Counts.{countsOf}
+use Rattle.chains.proofs.Counts.{positionCounts}
 use Rattle.methods.specs.Tables.{tableCounts}
 use Rattle.methods.specs.OddMultiples.{oddSecond, oddTable, oddPosition, tableLength}
 use Rattle.methods.proofs.Laws.{Small, Holds}
@@ -58,7 +58,7 @@ odd-holds : (n : ℕ) → Small (tableValue n) → (p : ℕ) → p ≤ n → Hol
 unfolding tableValue
 odd-holds = table-holds oddSecond tableValue refl value-next (λ n. omega (arith, second-before n))
 
-pub odd-counts : (n : ℕ) → countsOf (oddTable n) ≡ tableCounts n
+pub odd-counts : (n : ℕ) → positionCounts (oddTable n) ≡ tableCounts n
 odd-counts = table-counts oddSecond refl (λ n. omega (arith, second-before (suc n)))
 
 -- the first n steps give v a position

@@ -5,7 +5,7 @@ use mathlib.Core.List.{List}
 use Prim.Native.Nat.{ℕ, zero, suc, _+_, _*_, _-_, _/_, _%_, _^_, _<_, _≤_}
 use borrow.Author.Tests.{eq-eqb, ne-eqb, le-leb, lt-leb, lt-ltb, le-ltb}
 use native.Mathlib.Decide.{decLe, decLt, ℕ-discrete}
-use native.Mathlib.Nat.{add-zero, sub-zero, mod-lt, lt-of-lt-of-le}
+use native.Mathlib.Nat.{add-zero, sub-zero, mul-le-mul-right, mod-lt, lt-of-lt-of-le}
 use native.Mathlib.Numerals.{add-one}
 use native.Mathlib.Omega.{arith}
 use lib.ListN.{length}
@@ -14,6 +14,7 @@ use Rattle.rules.specs.declared.Counts.{Counts}
 use Rattle.rules.specs.Limits.{planSteps}
 use Rattle.chains.specs.Steps.{Step, add}
 use Rattle.chains.specs.Counts.{counts, countsOf}
+use Rattle.chains.proofs.Counts.{positionCounts, unhidden-counts}
 use Rattle.methods.specs.PartialPlan.{PartialPlan, double, addAt, doubled}
 use Rattle.integers.specs.Bits.{bit, bitLength}
 use Rattle.methods.specs.Tables.{tableCounts}
@@ -175,7 +176,7 @@ module _ (e d : ℕ) (wide : 1 ≤ d) where
     at-window n b o r = record {
       holds =
           subst (λ (v : ℕ). Holds (pastWindow e d n b) v) (sym down)
-          (doubled-add l b (oddPosition x) (e / 2 ^ suc n) x (r .holds) (r .stands x entry) (r .positive) (subst Small down (quotient-small e (suc n - l) small)));
+          (doubled-add l b (oddPosition x) (e / 2 ^ suc n) x (r .holds) (r .stands x entry) (omega (arith, above)) (r .positive) (subst Small down (quotient-small e (suc n - l) small)));
       positive = omega (arith, down, entry .odd);
       stands = λ v t. stands-followed (doubled l b) _ (oddPosition v) v (stands-doubled l b (oddPosition v) v (r .stands v t));
       last = λ z. latest-followed (doubled l b) _;
@@ -189,6 +190,10 @@ module _ (e d : ℕ) (wide : 1 ≤ d) where
 
         entry : Entry d x
         entry = window-entry (longest-window e n d o wide)
+
+        -- a window is below what stands above it
+        above : x < e / 2 ^ suc n * 2 ^ l
+        above = lt-of-lt-of-le (mod-lt (e / 2 ^ (suc n - l)) (pow-pos l)) (omega (arith, mul-le-mul-right (2 ^ l) (r .positive)))
 
         down : e / 2 ^ (suc n - l) ≡ e / 2 ^ suc n * 2 ^ l + x
         down = window-down (longest-window e n d o wide)
@@ -292,10 +297,9 @@ module _ (e d : ℕ) (some : 0 < e) (wide : 1 ≤ d) where
       (λ t. omega (arith, odd-length (oddPosition e), position-less (oddPosition e), position-value e (t .odd), t .narrow))
       (λ more. omega (arith, scan-short e d wide scan-all, first-window .some, odd-length (tableLength d), position-less (tableLength d), table-narrow d wide))
 
-  -- each bit below the first window takes a doubling, each later window an addition
-  pub sliding-counts : countsOf (slidingWindowSteps e d) ≡ slidingWindowCounts e d
-  sliding-counts =
-      entry-or-scan (λ s c. countsOf s ≡ c)
+  pub sliding-positions : positionCounts (slidingWindowSteps e d) ≡ slidingWindowCounts e d
+  sliding-positions =
+      entry-or-scan (λ s c. positionCounts s ≡ c)
       (λ t. odd-counts (oddPosition e))
       (λ more. scan-counted e d wide scan-all (omega (arith, odd-length (tableLength d))) _ _ (odd-counts (tableLength d) ∙ no-subtractions (tableLength d)))
 
@@ -305,3 +309,7 @@ module _ (e d : ℕ) (plannable : Plannable e) (wide : 1 ≤ d) (narrow : d ≤ 
 
   pub sliding-fit : Fit (slidingWindowSteps e d) e
   sliding-fit = record { made = sliding-made e d (plannable .some) wide (small-below e (e + 1) (omega arith) (plannable-small plannable)) (power-small d (omega arith)); few = sliding-few }
+
+  -- each bit below the first window takes a doubling, each later window an addition
+  pub sliding-counts : countsOf (slidingWindowSteps e d) ≡ slidingWindowCounts e d
+  sliding-counts = unhidden-counts (slidingWindowSteps e d) (sliding-fit .made .unhidden) ∙ sliding-positions e d (plannable .some) wide

@@ -1,4 +1,4 @@
--- A table, whatever it adds: its values, that it is sound, and its counts. Assumes nothing.
+-- A table, whatever it adds: its values, that it is sound and hides no doubling, and its counts. Assumes nothing.
 use mathlib.Core.Path.{_≡_, refl, _∙_}
 use Prim.Native.Nat.{ℕ, zero, suc, _+_, _<_, _≤_}
 use native.Mathlib.Decide.{decLt}
@@ -6,7 +6,8 @@ use native.Mathlib.Numerals.{add-one}
 use native.Mathlib.Omega.{arith}
 use lib.ListN.{length, length-append}
 use Rattle.chains.specs.Steps.{add}
-use Rattle.chains.specs.Counts.{counts, countsOf, total}
+use Rattle.chains.specs.Counts.{counts, total, sumCounts}
+use Rattle.chains.proofs.Counts.{positionCounts}
 use Rattle.methods.specs.PartialPlan.{PartialPlan, none, followed, addAt}
 use Rattle.methods.specs.Tables.{tableBy, tableCounts}
 use Rattle.methods.proofs.Counted.{counts-double, counts-add}
@@ -32,26 +33,36 @@ module _ (second : ℕ → ℕ) where
     value-some zero = omega (arith, first)
     value-some (suc n) = omega (arith, next n, value-some n)
 
+    -- each value is above those before it
+    value-grows : (n p : ℕ) → p < n → value p < value n
+    value-grows zero p h = absurd (omega arith)
+    value-grows (suc n) p h =
+        elim (decLt p n) [
+          | yes l ↦ omega (arith, value-grows n p l, next n)
+          | no l ↦ let q : p ≡ n = omega arith in rw q (omega (arith, next n, value-some (second n)))
+        ]
+
     pub table-holds : (n : ℕ) → Small (value n) → (p : ℕ) → p ≤ n → Holds (tabled second n p) (value p)
     unfolding tableBy followed
     table-holds zero small p h = let z : p ≡ 0 = omega arith in rw (z, first) none-holds
     table-holds (suc n) small p h =
         let below = table-holds n (small-below (value n) (value (suc n)) (omega (arith, next n)) small) in
         let s = below (second n) (before n) in
-        let more = rw (← table-next n, ← next n) at (add-holds (tabled second n n) (second n) (value n) (value (second n)) (below n (omega arith)) (record { filled = s .within; value = s .value }) (omega (arith, value-some n)) (rw (next n) at small)) in
+        let more = rw (← table-next n, ← next n) at (add-holds (tabled second n n) (second n) (value n) (value (second n)) (below n (omega arith)) (record { filled = s .within; value = s .value }) (λ o. omega (arith, value-grows n (second n) (omega (arith, before n)))) (omega (arith, value-some n)) (rw (next n) at small)) in
         elim (decLt n p) [
           | yes l ↦ let q : p ≡ suc n = omega arith in rw q more
           | no l ↦
               record {
                 sound = more .sound;
+                unhidden = more .unhidden;
                 within = omega (arith, length-table (suc n));
                 value = value-kept (tableBy second n) (add n (second n)) p (omega (arith, length-table n)) ∙ below p (omega arith) .value;
               }
         ]
 
   -- after the first step no two positions of a step are the same
-  pub table-counts : second 0 ≡ 0 → ((n : ℕ) → second (suc n) ≤ n) → (n : ℕ) → countsOf (tableBy second n) ≡ tableCounts n
-  unfolding tableBy tableCounts countsOf followed
+  pub table-counts : second 0 ≡ 0 → ((n : ℕ) → second (suc n) ≤ n) → (n : ℕ) → positionCounts (tableBy second n) ≡ tableCounts n
+  unfolding tableBy tableCounts positionCounts sumCounts followed
   table-counts first before zero = refl
   table-counts first before (suc zero) = rw first (counts-double none 0 0 0 refl)
   table-counts first before (suc (suc n)) =

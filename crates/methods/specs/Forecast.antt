@@ -1,5 +1,5 @@
 -- What gives a method's counts without its steps (docs/RULES.md, "Calls"). That they are the counts of the steps is shown in proofs/.
-use Prim.Native.Nat.{ℕ, zero, suc, _+_, _-_, _%_, _^_}
+use Prim.Native.Nat.{ℕ, zero, suc, _+_, _*_, _-_, _%_, _^_}
 use mathlib.Core.Bool.{cond}
 use mathlib.Core.List.{List, [], _∷_}
 use lib.Dec.{ltb, eqb}
@@ -7,7 +7,7 @@ use lib.IntN.{ℤ, pos, negsuc}
 use Rattle.rules.specs.declared.Counts.{Counts}
 use Rattle.integers.specs.Bits.{bit, bitLength}
 use Rattle.chains.specs.Counts.{counts}
-use Rattle.methods.specs.FixedWindows.{window}
+use Rattle.methods.specs.FixedWindows.{window, topWindow}
 use Rattle.methods.specs.Tables.{tableCounts}
 use Rattle.methods.specs.OddMultiples.{oddPosition, tableLength}
 use Rattle.methods.specs.SlidingWindows.{longest}
@@ -18,6 +18,12 @@ use Rattle.methods.specs.SlidingWindows.{longest}
 unfoldable pub nonzeroWindows : ℕ → ℕ → ℕ → ℕ
 nonzeroWindows e d zero = 0
 nonzeroWindows e d (suc i) = nonzeroWindows e d i + cond (eqb (window e d i) 0) 0 1
+
+-- of `fixedWindowSteps`: multiples alone; or the table, d doublings for each lower window, and an addition for each that is not zero
+abbrev pub fixedWindowCounts : ℕ → ℕ → Counts
+fixedWindowCounts e d =
+    cond (ltb e (2 ^ d)) (tableCounts (e - 1))
+    (counts (tableCounts (2 ^ d - 2) .doublings + d * topWindow e d) (tableCounts (2 ^ d - 2) .additions + nonzeroWindows e d (topWindow e d)) 0)
 
 -- ---- method 3: the table, a doubling for each bit below the first window, an addition for each later window
 

@@ -16,7 +16,7 @@ use Rattle.chains.proofs.Bytes.{length-plan}
 use Rattle.methods.specs.declared.Method.{Method}
 use Rattle.methods.specs.declared.Chosen.{Chosen}
 use Rattle.methods.specs.Method.{stepsBy}
-use Rattle.methods.proofs.Counted.{length-counted}
+use Rattle.chains.proofs.Counts.{length-counted}
 use Rattle.methods.proofs.Laws.{plannable}
 use Rattle.methods.proofs.Every.{every-fit}
 use Rattle.requests.specs.Request.{request}

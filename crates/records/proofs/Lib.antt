@@ -1,6 +1,4 @@
 pub mod Recording
-mod Combinations
+pub mod Records
 mod Limits
-mod Records
-mod Signs
 mod Sizes

@@ -1,20 +1,27 @@
 -- The bytes of a size in a work space: whole words, and a single byte for the top one. Assumes nothing.
-use mathlib.Core.Path.{_≡_, sym, ap, _∙_}
-use mathlib.Core.Bool.{Bool, true, false}
+use mathlib.Core.Path.{_≡_, refl, sym, ap, _∙_}
+use mathlib.Core.Bool.{Bool, true, false, _&&_, false≢true}
 use mathlib.Core.List.{List, [], _∷_}
-use Prim.Native.Nat.{ℕ, _+_, _*_, _-_, _%_, _^_, _<_, _≤_}
+use Prim.Native.Nat.{ℕ, _+_, _*_, _-_, _/_, _%_, _^_, _<_, _≤_}
+use borrow.Author.Tests.{eqb-true, eqb-false, eq-eqb, ne-eqb, lt-ltb, le-ltb}
+use native.Mathlib.Decide.{decLt}
+use native.Mathlib.Nat.{mul-comm}
+use native.Mathlib.Numerals.{add-one}
 use native.Mathlib.Omega.{arith}
-use lib.ListN.{length, getD, set, take, drop, length-drop}
+use lib.Arith.{digits-div, digits-mod}
+use lib.Dec.{ltb, eqb}
+use lib.ListN.{length, getD, set, take, drop, length-take, length-drop, List·getD-eq-default}
 use lib.Seq.{length-take-le, take-all, drop-cons}
 use mir.Val.{boolByte}
 use Rattle.rules.specs.Limits.{valueBytes, valueWords}
 use Rattle.integers.specs.Positional.{positional, bytesValue, wordsValue, lowBytes}
 use Rattle.integers.specs.Tabulate.{tabulate}
-use Rattle.integers.proofs.Positional.{Below}
+use Rattle.integers.proofs.Positional.{Below, below-take, below-drop, positional-take, positional-lt}
 use Rattle.integers.proofs.Tabulate.{length-tabulate, getD-tabulate}
-use Rattle.integers.proofs.Words.{part, wordAt, words-value, part-part, words-low}
+use Rattle.integers.proofs.Words.{part, wordAt, words-value, word-lt, part-part, words-low}
 use Rattle.integers.proofs.Blocks.{placed, place-more, place-one}
 use Rattle.integers.proofs.LowBytes.{length-low}
+use Rattle.records.specs.Recording.{distanceOf}
 
 module _ (space : List ℕ) (at : ℕ) where
   -- the words of the size whose bytes stand at `at`
@@ -55,14 +62,57 @@ pub no-carry : (x y u P b : ℕ) (c : Bool) → x < b → y < b → b + b ≤ P 
 no-carry x y u P b true hx hy h e = absurd (omega arith)
 no-carry x y u P b false hx hy h e = omega arith
 
--- what is left where nothing is borrowed past the words, and where something is: then it is what is missing to P
-pub unborrowed : (x y u P : ℕ) (c : Bool) → c ≡ false → u + y ≡ x + P * boolByte c → u + y ≡ x
-unborrowed x y u P true h e = cc
-unborrowed x y u P false h e = omega arith
+-- the distance of two sizes, where nothing is borrowed past the words, and where something is
+pub first-larger : (x y u P : ℕ) (c : Bool) → c ≡ false → u + y ≡ x + P * boolByte c → (u ≡ distanceOf x y) × (false ≡ ltb x y)
+first-larger x y u P true h e = absurd (false≢true (sym h))
+first-larger x y u P false h e = (omega arith, sym (le-ltb x y (omega arith)))
 
-pub borrowed : (x y u v P b : ℕ) (c : Bool) → c ≡ true → y < b → b + b ≤ P → u + y ≡ x + P * boolByte c → (0 < u → v + u ≡ P) → v + x ≡ y
-borrowed x y u v P b true h hy hb e n = let m : v + u ≡ P = n (omega arith) in omega arith
-borrowed x y u v P b false h hy hb e n = cc
+pub second-larger : (x y u v P : ℕ) (c d : Bool) → c ≡ true → u < P → v < P → u + y ≡ x + P * boolByte c → v + x ≡ y + P * boolByte d
+    → (v ≡ distanceOf x y) × (true ≡ ltb x y)
+second-larger x y u v P false d h hu hv e f = absurd (false≢true h)
+second-larger x y u v P true true h hu hv e f = absurd (omega arith)
+second-larger x y u v P true false h hu hv e f = (omega arith, sym (lt-ltb x y (omega arith)))
+
+-- ---- two sizes the same, word by word
+
+split-same : (P u v x y : ℕ) → u < P → v < P → u + P * x ≡ v + P * y → (u ≡ v) × (x ≡ y)
+split-same P u v x y hu hv e =
+    let f : x * P + u ≡ y * P + v = omega (arith, mul-comm P x, mul-comm P y) in
+    (sym (digits-mod x hu) ∙ ap (λ (n : ℕ). n % P) f ∙ digits-mod y hv, sym (digits-div x hu) ∙ ap (λ (n : ℕ). n / P) f ∙ digits-div y hv)
+
+split-eqb : (P u v x y : ℕ) → u < P → v < P → (eqb u v && eqb x y) ≡ eqb (u + P * x) (v + P * y)
+split-eqb P u v x y hu hv = go (eqb u v) refl (eqb x y) refl
+  where
+    go : (s : Bool) → eqb u v ≡ s → (t : Bool) → eqb x y ≡ t → (s && t) ≡ eqb (u + P * x) (v + P * y)
+    go true s true t = rw (eqb-true u v s, eqb-true x y t) (sym (eq-eqb (v + P * y) (v + P * y) refl))
+    go true s false t = sym (ne-eqb (u + P * x) (v + P * y) (λ e. eqb-false x y t (split-same P u v x y hu hv e .1)))
+    go false s b t = sym (ne-eqb (u + P * x) (v + P * y) (λ e. eqb-false u v s (split-same P u v x y hu hv e .0)))
+
+-- the sizes at a and b, as far as their k low words
+module _ (space : List ℕ) (a b : ℕ) where
+  abbrev pub sameTo : ℕ → Bool
+  sameTo k = eqb (wordsValue (take k (sizeWords space a))) (wordsValue (take k (sizeWords space b)))
+
+  module _ (bytes : Below 256 space) where
+    word-small : (at k : ℕ) → getD (sizeWords space at) k 0 < 2 ^ 64
+    word-small at k =
+        elim (decLt k valueWords) [
+          | yes h ↦ rw (word-at space at k h) (word-lt (part at valueBytes space) k (below-take 256 valueBytes (drop at space) (omega arith) (below-drop 256 at space (omega arith) bytes)))
+          | no h ↦ rw (List·getD-eq-default (sizeWords space at) 0 {n = k} (omega (arith, length-words space at))) (omega arith)
+        ]
+
+    low-small : (at k : ℕ) → wordsValue (take k (sizeWords space at)) < (2 ^ 64) ^ k
+    low-small at k =
+        positional-lt (2 ^ 64) k (take k (sizeWords space at)) (omega (arith, length-take k (sizeWords space at))) (below-take (2 ^ 64) k (sizeWords space at) (omega arith) (word-small at))
+
+    pub same-more : (k : ℕ) → k < valueWords → (sameTo k && eqb (wordAt (part a valueBytes space) k) (wordAt (part b valueBytes space) k)) ≡ sameTo (k + 1)
+    same-more k h =
+        rw (add-one, positional-take (2 ^ 64) k (sizeWords space a), positional-take (2 ^ 64) k (sizeWords space b), word-at space a k h, word-at space b k h)
+        (split-eqb ((2 ^ 64) ^ k) _ _ _ _ (low-small a k) (low-small b k))
+
+  pub same-all : a + valueBytes ≤ length space → b + valueBytes ≤ length space → sameTo valueWords ≡ eqb (bytesValue (part a valueBytes space)) (bytesValue (part b valueBytes space))
+  same-all fa fb =
+      rw (take-all valueWords (sizeWords space a) (omega (arith, length-words space a)), take-all valueWords (sizeWords space b) (omega (arith, length-words space b)), words-are space a fa, words-are space b fb)
 
 -- the n low bytes of a number stand at `at`
 abbrev pub low-placed : List ℕ → ℕ → ℕ → ℕ → List ℕ

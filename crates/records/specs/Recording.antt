@@ -1,11 +1,12 @@
 -- A work space in use (docs/RULES.md, "Memory").
 use mathlib.Core.Path.{_≡_}
 use mathlib.Core.List.{List, _++_}
-use Prim.Native.Nat.{ℕ, _*_, _<_}
-use lib.IntN.{ℤ, natAbs}
+use Prim.Native.Nat.{ℕ, _+_, _*_, _-_, _<_}
+use lib.IntN.{ℤ}
 use lib.ListN.{length, take, drop}
-use Rattle.rules.specs.Limits.{valueBytes, valueBound, recordBytes}
+use Rattle.rules.specs.Limits.{valueBytes, recordBytes}
 use Rattle.chains.specs.Values.{at}
+use Rattle.chains.specs.Sound.{Representable}
 use Rattle.chains.specs.Records.{recordOf, recordsOf}
 
 -- the records of these values from the start of a work space; bytes past these records stay
@@ -16,11 +17,15 @@ recorded values space = recordsOf values ++ drop (recordBytes * length values) s
 abbrev pub sizeBytes : List ℕ → ℕ → List ℕ
 sizeBytes space at = take valueBytes (drop at space)
 
--- the record of z stands at `at`, and its size is below the bound
-abbrev pub HasRecord : List ℕ → ℕ → ℤ → Type 0
-HasRecord space at z = (take recordBytes (drop at space) ≡ recordOf z) × (natAbs z < valueBound)
+-- how far apart two sizes are
+abbrev pub distanceOf : ℕ → ℕ → ℕ
+distanceOf m n = m - n + (n - m)
 
--- what was lent holds the records of these values, each of size below the bound
+-- the record of z, which is representable, stands at `at`
+abbrev pub HasRecord : List ℕ → ℕ → ℤ → Type 0
+HasRecord space at z = (take recordBytes (drop at space) ≡ recordOf z) × Representable z
+
+-- what was lent holds the records of these values, each representable
 pub record Recording (lent here : List ℕ) (values : List ℤ) : Type 0 where
-  pub small : (j : ℕ) → j < length values → natAbs (at values j) < valueBound
+  pub representable : (j : ℕ) → j < length values → Representable (at values j)
   pub bytes : here ≡ recorded values lent

@@ -1,25 +1,21 @@
 // Records of the values of a chain in a work space.
 use chain_values::Value;
-use chain_values::is_zero;
-use chain_values::negated;
 use integers::whole_word_at;
 use rules::VALUE_WORDS;
 use words::add_with_carry;
 use words::store_word;
 use words::subtract_with_borrow;
 ghost use mathlib.Core.Path.{_≡_};
-ghost use mathlib.Core.Bool.{cond};
-ghost use mathlib.Core.List.{_++_};
+ghost use mathlib.Core.List.{_∷_, _++_};
 ghost use Prim.Native.Nat.{_+_, _*_, _^_, _≤_, _<_};
-ghost use lib.IntN.{ℤ, _+ℤ_, _-ℤ_};
+ghost use lib.Dec.{eqb, ltb};
+ghost use lib.IntN.{ℤ};
 ghost use lib.ListN.{length, take, drop};
 ghost use mir.Val.{boolByte};
 ghost use Rattle.rules.specs.Limits.{valueBytes, valueWords, recordBytes};
 ghost use Rattle.integers.specs.Positional.{bytesValue, wordsValue, lowBytes};
-ghost use Rattle.integers.specs.Signed.{signOf};
-ghost use Rattle.chains.specs.Records.{recordOf};
 ghost use Rattle.chain_values.specs.Value.{integerOf};
-ghost use Rattle.records.specs.Recording.{HasRecord, sizeBytes};
+ghost use Rattle.records.specs.Recording.{HasRecord, sizeBytes, distanceOf};
 
 // A word of the size whose bytes stand at `at`: eight of them, or the single one of the top word.
 fn size_word(space: &[u8], at: usize, k: usize) -> u64
@@ -61,7 +57,7 @@ pub fn load(space: &[u8], at: usize) -> Value
 
 // The sum of the sizes whose bytes stand at `a` and `b`. Each word is added as it is loaded: all at once,
 // they would be more than there are registers.
-fn sum(space: &[u8], a: usize, b: usize) -> [u64; VALUE_WORDS]
+pub fn sum(space: &[u8], a: usize, b: usize) -> [u64; VALUE_WORDS]
     requires { ⌜ a + valueBytes ≤ length (now space) ⌝ }
     requires { ⌜ b + valueBytes ≤ length (now space) ⌝ }
     ensures { λ r. ⌜ wordsValue r ≡ bytesValue (sizeBytes (now (space .entry)) a) + bytesValue (sizeBytes (now (space .entry)) b) ⌝ }
@@ -105,38 +101,45 @@ fn subtracted(space: &[u8], a: usize, b: usize) -> SizeDifference
     }
 }
 
-// a + b, or a - b, of the values whose records stand at `a` and `b`.
-pub fn combined(space: &[u8], a: usize, b: usize, subtract: bool) -> Value
-    requires { ⌜ a + recordBytes ≤ length (now space) ⌝ }
-    requires { ⌜ b + recordBytes ≤ length (now space) ⌝ }
-    ensures { λ r. ⌜ ((x y : ℤ) → HasRecord (now (space .entry)) a x → HasRecord (now (space .entry)) b y → integerOf r ≡ cond subtract (x -ℤ y) (x +ℤ y)) ⌝ }
+// How far apart two sizes are, and whether the first is the smaller.
+pub struct Distance {
+    pub words: [u64; VALUE_WORDS],
+    pub below: bool,
+}
+
+// The distance of the sizes whose bytes stand at `a` and `b`.
+pub fn distance_between(space: &[u8], a: usize, b: usize) -> Distance
+    requires { ⌜ a + valueBytes ≤ length (now space) ⌝ }
+    requires { ⌜ b + valueBytes ≤ length (now space) ⌝ }
+    ensures { λ r. ⌜ (wordsValue (r .words) ≡ distanceOf (bytesValue (sizeBytes (now (space .entry)) a)) (bytesValue (sizeBytes (now (space .entry)) b))) × (r .below ≡ ltb (bytesValue (sizeBytes (now (space .entry)) a)) (bytesValue (sizeBytes (now (space .entry)) b))) ⌝ }
 {
-    let negative = (space[b] == 1) != subtract;
-    if (space[a] == 1) == negative {
-        return Value {
-            words: sum(space, a + 1, b + 1),
-            negative,
-        };
+    let first = subtracted(space, a, b);
+    if first.below {
+        let second = subtracted(space, b, a);
+        let words = second.words;
+        return Distance { words, below: true };
     }
-    let difference = subtracted(space, a + 1, b + 1);
-    let words = difference.words;
-    if difference.below {
-        return Value {
-            words: negated(words),
-            negative,
-        };
-    }
-    Value {
+    let words = first.words;
+    Distance {
         words,
-        negative: !negative,
+        below: false,
     }
 }
 
-// The sign byte of a value: zero has 0, whatever its flag.
-fn sign(v: Value) -> u8
-    ensures { λ r. ⌜ r ≡ signOf (integerOf v) ⌝ }
+// Whether the sizes whose bytes stand at `a` and `b` are the same. Without a branch, so that the loop
+// can be unrolled.
+pub fn same_size(space: &[u8], a: usize, b: usize) -> bool
+    requires { ⌜ a + valueBytes ≤ length (now space) ⌝ }
+    requires { ⌜ b + valueBytes ≤ length (now space) ⌝ }
+    ensures { λ r. ⌜ r ≡ eqb (bytesValue (sizeBytes (now (space .entry)) a)) (bytesValue (sizeBytes (now (space .entry)) b)) ⌝ }
 {
-    (v.negative & !is_zero(v)) as u8
+    let mut same = true;
+    let mut k = 0;
+    while k < VALUE_WORDS {
+        same = same & (size_word(space, a, k) == size_word(space, b, k));
+        k += 1;
+    }
+    same
 }
 
 // Writes the bytes of a size at `at`.
@@ -152,12 +155,11 @@ fn store_size(space: &mut [u8], at: usize, words: [u64; VALUE_WORDS])
     space[at + 8 * k] = (words[k] % 256) as u8;
 }
 
-// Writes the record of a value at `at`.
-pub fn store(space: &mut [u8], at: usize, v: Value)
+// Writes a record at `at`.
+pub fn store(space: &mut [u8], at: usize, sign: u8, words: [u64; VALUE_WORDS])
     requires { ⌜ at + recordBytes ≤ length (now space) ⌝ }
-    ensures { λ _. ⌜ now (space .exit) ≡ take at (now (space .entry)) ++ (recordOf (integerOf v) ++ drop (at + recordBytes) (now (space .entry))) ⌝ }
+    ensures { λ _. ⌜ now (space .exit) ≡ take at (now (space .entry)) ++ ((sign ∷ lowBytes valueBytes (wordsValue words)) ++ drop (at + recordBytes) (now (space .entry))) ⌝ }
 {
-    let words = v.words;
-    space[at] = sign(v);
+    space[at] = sign;
     store_size(space, at + 1, words);
 }

@@ -2,6 +2,7 @@
 use Prim.Native.Nat.{ℕ, _+_}
 use Rattle.chains.specs.Steps.{Step, subtracting}
 use Rattle.chains.specs.Values.{stepValue}
+use Rattle.chains.specs.Counts.{isDoubling}
 use Rattle.rules.specs.Limits.{valueBound}
 use Rattle.rules.specs.Outcome.{andThen}
 use Rattle.rules.specs.declared.Refusal.the-variants.{MalformedStep, ValueIsZero, ValueTooLarge}
@@ -39,8 +40,9 @@ abbrev pub grown : Verdict → List ℤ → ℤ → List ℤ
 grown Passed values z = values ++ (z ∷ [])
 grown (Failed r) values z = values
 
--- the verdict on the step after n others, and the work space before and after it, whatever values are recorded by then
-abbrev pub StepChecked : Step → ℕ → List ℕ → List ℕ → Verdict → Type 0
-StepChecked s n here next r =
+-- the verdict on the step after n others, the work space before and after it, and whether it is a doubling if it passes, whatever values are recorded
+-- by then
+abbrev pub StepChecked : Step → ℕ → List ℕ → List ℕ → Verdict → Bool → Type 0
+StepChecked s n here next r doubling =
     (lent : List ℕ) (values : List ℤ) → length values ≡ n + 1 → Recording lent here values
-    → (r ≡ stepVerdict values s) × Recording lent next (grown r values (stepValue values s))
+    → (r ≡ stepVerdict values s) × Recording lent next (grown r values (stepValue values s)) × (r ≡ Passed → doubling ≡ isDoubling values s)

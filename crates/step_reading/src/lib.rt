@@ -1,13 +1,11 @@
-// Reading the steps of a plan one by one, and counting them.
-use rules::Counts;
+// Reading the steps of a plan one by one.
 use rules::STEP_BYTES;
 ghost use mathlib.Core.Path.{_≡_};
-ghost use Prim.Native.Nat.{_+_, _*_, _^_, _<_, _≤_};
+ghost use Prim.Native.Nat.{_+_, _*_, _≤_};
 ghost use lib.ListN.{length, take, drop};
 ghost use Rattle.rules.specs.Limits.{stepBytes};
 ghost use Rattle.integers.specs.Positional.{bytesValue};
 ghost use Rattle.chains.specs.Steps.{readStep};
-ghost use Rattle.chains.specs.Counts.{stepCounts, plus, total};
 ghost use Rattle.step_reading.specs.Fields.{asStep};
 
 // A step: a(first) + a(second), or a(first) - a(second).
@@ -35,21 +33,5 @@ pub fn read_step(plan: &[u8], n: usize) -> Step
         operation: plan[at],
         first: position_at(plan, at + 1),
         second: position_at(plan, at + 3),
-    }
-}
-
-// One step more in the counts.
-pub fn count_step(counts: Counts, step: Step) -> Counts
-    requires { ⌜ total counts + 1 < 2 ^ 64 ⌝ }
-    ensures { λ r. ⌜ (r ≡ plus counts (stepCounts (asStep step))) × (total r ≡ total counts + 1) ⌝ }
-{
-    let adds = step.operation == 0;
-    let same = step.first == step.second;
-    let doubling = adds & same;
-    let addition = adds & !same;
-    Counts {
-        doublings: counts.doublings + doubling as usize,
-        additions: counts.additions + addition as usize,
-        subtractions: counts.subtractions + !adds as usize,
     }
 }

@@ -12,11 +12,10 @@ use lib.IntN.{pos}
 use lib.ListN.{length, getD, length-append, List·getD-append, List·getD-eq-default}
 use lib.Seq.{ext-getD, getD-at}
 use Rattle.integers.specs.Positional.{wordsValue}
-use Rattle.integers.specs.Signed.{signed}
+use Rattle.integers.specs.Signed.{signed, isSame}
 use Rattle.integers.proofs.Positional.{Below, positional-at, positional-zeros}
 use Rattle.chain_values.specs.declared.Value.{Value}
 use Rattle.chain_values.specs.Value.{integerOf}
-use Rattle.work_space.specs.End.{isSame}
 
 -- ---- words, of which the first list has one more
 

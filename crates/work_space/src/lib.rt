@@ -12,18 +12,19 @@ ghost use lib.IntN.{pos};
 ghost use lib.ListN.{length};
 ghost use Rattle.rules.specs.Limits.{recordBytes};
 ghost use Rattle.integers.specs.Positional.{bytesValue};
+ghost use Rattle.integers.specs.Signed.{isSame};
 ghost use Rattle.numbers.specs.Admission.{Positive};
 ghost use Rattle.chain_values.specs.Value.{integerOf};
 ghost use Rattle.chains.specs.Values.{start};
 ghost use Rattle.records.specs.Recording.{Recording};
-ghost use Rattle.work_space.specs.End.{isSame, EndsAt};
+ghost use Rattle.work_space.specs.End.{EndsAt};
 
 // Position 0 holds 1.
 pub fn begin(space: &mut [u8])
     requires { ⌜ recordBytes ≤ length (now space) ⌝ }
     ensures { λ _. ⌜ Recording (now (space .entry)) (now (space .exit)) start ⌝ }
 {
-    store(space, 0, one());
+    store(space, 0, 0, one());
 }
 
 // Whether a value is the number, which is not zero.

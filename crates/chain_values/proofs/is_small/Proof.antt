@@ -6,7 +6,6 @@ use mir.Val.{Fits}
 use Rattle.rules.specs.Limits.{valueWords}
 use Rattle.integers.proofs.Positional.{Below}
 use Rattle.chain_values.proofs.Limits.{bound-top}
-use Rattle.chain_values.proofs.Size.{size-is}
 use Rattle.chain_values.proofs.Sizes.{top-small}
 use borrow.Author.Needs.{needs}
 use Rattle.chain_values.proofs.is_small.Statement.{statement}
@@ -23,9 +22,9 @@ array-read-result c = search needs
 
 returns : tie.Need-returns
 returns c =
-    let v = c .before .args .v in
-    let fits : Below (2 ^ 64) (v .words) = λ i. let f : Fits w64 (getD (v .words) i 0) = search needs in f .fits in
-    rw (size-is v, bound-top) (top-small (v .words) (valueWords - 1) (search needs) fits)
+    let words = c .args .t1 in
+    let fits : Below (2 ^ 64) words = λ i. let f : Fits w64 (getD words i 0) = search needs in f .fits in
+    rw bound-top (top-small words (valueWords - 1) (search needs) fits)
 
 pub is-small-spec : {M : Type 1} → statement M
 is-small-spec = tie.close (tie.spec sub-result mul-result array-read-result returns)

@@ -1,7 +1,6 @@
 -- `chain_values::one` meets its contract. Assumes nothing.
 use mathlib.Core.Path.{refl}
 use Rattle.integers.specs.Positional.{positional}
-use Rattle.chain_values.specs.Value.{integerOf}
 use borrow.Author.Needs.{needs}
 use Rattle.chain_values.proofs.one.Statement.{statement}
 use Rattle.chain_values.proofs.one.Tie as tie
@@ -10,7 +9,7 @@ array-write-words : tie.Need-array-write-words
 array-write-words c = search needs
 
 returns : tie.Need-returns
-unfolding positional integerOf
+unfolding positional
 returns c = refl
 
 pub one-spec : {M : Type 1} → statement M

@@ -2,33 +2,33 @@
 use mathlib.Core.Path.{_≡_, refl, sym, ap, _∙_}
 use mathlib.Core.Bool.{cond}
 use mathlib.Core.List.{List}
-use Prim.Native.Nat.{ℕ, _≤_, _-_, _/_}
+use Prim.Native.Nat.{ℕ, _+_, _≤_, _-_, _/_}
 use native.Mathlib.Omega.{arith}
-use lib.ListN.{length, take}
-use lib.Seq.{take-all}
-use Rattle.rules.specs.Limits.{stepBytes}
+use lib.Bits.{bitOr}
+use lib.ListN.{length}
+use mir.Val.{boolByte}
+use Rattle.rules.specs.Limits.{stepBytes, planSteps}
 use Rattle.rules.specs.declared.Refusal.the-variants.{WrongEnd}
+use Rattle.rules.specs.declared.Counted.the-variants.{Steps}
 use Rattle.rules.specs.declared.Verdict.the-variants.{Passed, Failed}
-use Rattle.chains.specs.Steps.{stepsOf}
 use Rattle.chains.specs.Values.{start}
-use Rattle.chains.specs.Counts.{countsOf, total}
-use Rattle.chains.proofs.Bytes.{length-steps}
 use Rattle.step_reading.specs.Fields.{asStep}
 use Rattle.records.specs.Recording.{Recording}
 use Rattle.checking.specs.Check.{roomFor, admission}
 use Rattle.checking.proofs.Admission.{Checkable, checkable-is}
-use Rattle.checking.proofs.Underway.{Underway, Done, done-answer, done-space, underway-none, underway-next, underway-stop, underway-end, counts-more}
+use Rattle.checking.proofs.Underway.{Underway, Done, done-answer, done-space, underway-none, underway-next, underway-stop, underway-counted, underway-end}
+use Rattle.checking.proofs.Tally.{Holding, countsTo, holding-none, holding-few, holding-more, holding-all}
 use borrow.Author.Needs.{needs}
 use Rattle.checking.proofs.check.Statement.{statement}
 use Rattle.checking.proofs.check.Tie as tie
 
 abbrev Inv-loop : tie.InvT-loop
-Inv-loop number plan space₀ steps counts₀ n₀ space counts n =
-    (n ≤ length plan / stepBytes) × (length space ≡ length space₀) × (total counts ≡ n) × (counts ≡ countsOf (take n (stepsOf plan)))
+Inv-loop number plan space₀ steps doublings₀ not-additions₀ n₀ space doublings not-additions n =
+    (n ≤ length plan / stepBytes) × (length space ≡ length space₀) × Holding (countsTo plan n) doublings not-additions
     × ((lent : List ℕ) → Recording lent space₀ start → Underway plan lent space n)
 
 abbrev μ-loop : tie.MeasureT-loop
-μ-loop number plan space₀ steps counts₀ n₀ space counts n = length plan / stepBytes - n
+μ-loop number plan space₀ steps doublings₀ not-additions₀ n₀ space doublings not-additions n = length plan / stepBytes - n
 
 admit-requires : tie.Need-admit-requires Inv-loop μ-loop
 admit-requires c κs = search needs
@@ -57,8 +57,7 @@ begin-requires : tie.Need-begin-requires Inv-loop μ-loop
 begin-requires c κs = omega (arith, admitted (c .before) .fits)
 
 loop-holds : tie.Need-loop-holds Inv-loop μ-loop
-unfolding countsOf
-loop-holds c = (search needs, refl, refl, refl, λ lent w. underway-none _ lent _ w)
+loop-holds c = (search needs, refl, holding-none _, λ lent w. underway-none _ lent _ w)
 
 -- at each turn: what was lent keeps its length, which is enough, and checking is underway in it
 kept : (c : tie.At-loop Inv-loop μ-loop) → length (c .loop .space) ≡ length (c .before .before .before .before .before .before .before .before .before .before .before .args .space .now)
@@ -68,35 +67,84 @@ room : (c : tie.At-loop Inv-loop μ-loop) → roomFor (length (c .before .before
 room c = rw (kept c) (admitted (c .before .before .before .before .before) .fits)
 
 underway : (c : tie.At-loop Inv-loop μ-loop) → let args = c .before .before .before .before .before .before .before .before .before .before .before .args in Underway (args .plan .now) (args .space .now) (c .loop .space) (c .loop .n)
-underway c = c .loop .inv .4 _ (c .before .before .before .begin .ensures)
+underway c = c .loop .inv .3 _ (c .before .before .before .begin .ensures)
 
 read-step-requires : tie.Need-read-step-requires Inv-loop μ-loop
 read-step-requires c κs = search needs
 
-count-step-requires : tie.Need-count-step-requires Inv-loop μ-loop
-count-step-requires c κs = search needs
-
 check-step-requires : tie.Need-check-step-requires Inv-loop μ-loop
-check-step-requires c κs = omega (arith, room (c .before .before .before .before))
+check-step-requires c κs = let at : tie.At-loop Inv-loop μ-loop = search in omega (arith, room at)
 
-enum-known-refusal-2 : tie.Need-enum-known-refusal-2 Inv-loop μ-loop
-enum-known-refusal-2 c = search needs
+enum-known-verdict : tie.Need-enum-known-verdict Inv-loop μ-loop
+enum-known-verdict c = search needs
 
 same-length : tie.Need-same-length Inv-loop μ-loop
-same-length c = c .before .before .before .before .before .check-step .kept .1 .0 ∙ kept (c .before .before .before .before .before .before .before .before .before .before)
+same-length c =
+    let at : tie.At-loop Inv-loop μ-loop = search in
+    let checked : tie.After-check-step Inv-loop μ-loop = search in
+    checked .check-step .kept .1 .0 ∙ kept at
 
 returns-2 : tie.Need-returns-2 Inv-loop μ-loop
 returns-2 c =
-    let checked = c .before .before .before .before .before in
-    let read = checked .before .before .before in
-    let at = read .before .before in
+    let at : tie.At-loop Inv-loop μ-loop = search in
+    let read : tie.After-read-step Inv-loop μ-loop = search in
+    let checked : tie.After-check-step Inv-loop μ-loop = search in
     let args = at .before .before .before .before .before .before .before .before .before .before .before .args in
     let check = checked .check-step in
-    let done = underway-stop (args .number .now) (args .plan .now) (args .space .now) (at .loop .space) (at .loop .n) (underway at) (search needs) (asStep (read .read-step .result)) (read .read-step .ensures) (check .result) (check .last .1 .0) (check .ensures) (c .before .refusal2 .given .1) in
+    let done = underway-stop (args .number .now) (args .plan .now) (args .space .now) (at .loop .space) (at .loop .n) (underway at) (search needs) (asStep (read .read-step .result)) (read .read-step .ensures) (check .result .verdict) (check .result .doubling) (check .last .1 .0) (check .ensures) (c .before .verdict .given .1) in
     (done-answer (passed (at .before .before .before .before .before)) done, done-space (passed (at .before .before .before .before .before)) done)
 
 enum-told-2 : tie.Need-enum-told-2 Inv-loop μ-loop
 enum-told-2 c = search needs
+
+cast-doublings : tie.Need-cast-doublings Inv-loop μ-loop
+cast-doublings c = search needs
+
+-- a step that passes is counted
+held : (c : tie.After-check-step Inv-loop μ-loop) → c .check-step .result .verdict ≡ Passed
+    → let read = c .before .before in
+    let at = read .before .before in
+    let d = boolByte (c .check-step .result .doubling) in
+    Holding (countsTo (at .before .before .before .before .before .before .before .before .before .before .before .args .plan .now) (at .loop .n + 1)) (at .loop .doublings + d) (at .loop .not-additions + bitOr d (read .read-step .result .operation))
+held c e =
+    let read = c .before .before in
+    let at = read .before .before in
+    let args = at .before .before .before .before .before .before .before .before .before .before .before .args in
+    let check = c .check-step in
+    let step = asStep (read .read-step .result) in
+    let known = underway-counted (args .number .now) (args .plan .now) (args .space .now) (at .loop .space) (at .loop .n) (underway at) (search needs) step (read .read-step .ensures) (check .result .verdict) (check .result .doubling) (check .last .1 .0) (check .ensures) e in
+    holding-more (args .plan .now) (at .loop .n) (at .loop .doublings) (at .loop .not-additions) (at .loop .inv .2) step (check .result .doubling) (search needs) (read .read-step .ensures) (known .0) (known .1)
+
+-- no more than a plan may have
+counted : (c : tie.After-check-step Inv-loop μ-loop) → c .check-step .result .verdict ≡ Passed
+    → let read = c .before .before in
+    let at = read .before .before in
+    let d = boolByte (c .check-step .result .doubling) in
+    (at .loop .doublings + d ≤ planSteps) × (at .loop .not-additions + bitOr d (read .read-step .result .operation) ≤ planSteps)
+counted c e =
+    let at = c .before .before .before .before in
+    let within : at .loop .n + 1 ≤ length (at .before .before .before .before .before .before .before .before .before .before .before .args .plan .now) / stepBytes = search needs in
+    let few = holding-few (at .before .before .before .before .before .before .before .before .before .before .before .args .plan .now) (at .loop .n + 1) _ _ (held c e) within in
+    let most = admitted (at .before .before .before .before .before) .few in
+    (omega arith, omega arith)
+
+add-doublings : tie.Need-add-doublings Inv-loop μ-loop
+add-doublings c =
+    let checked : tie.After-check-step Inv-loop μ-loop = search in
+    let told : tie.After-enum-told2 Inv-loop μ-loop = search in
+    omega (arith, counted checked (told .enum-told2 .given .1))
+
+cast-not-additions : tie.Need-cast-not-additions Inv-loop μ-loop
+cast-not-additions c = search needs
+
+cast-not-additions-2 : tie.Need-cast-not-additions-2 Inv-loop μ-loop
+cast-not-additions-2 c = search needs
+
+add-not-additions : tie.Need-add-not-additions Inv-loop μ-loop
+add-not-additions c =
+    let checked : tie.After-check-step Inv-loop μ-loop = search in
+    let told : tie.After-enum-told2 Inv-loop μ-loop = search in
+    omega (arith, counted checked (told .enum-told2 .given .1))
 
 add-n : tie.Need-add-n Inv-loop μ-loop
 add-n c = search needs
@@ -106,20 +154,18 @@ loop-less c = search needs
 
 loop-again : tie.Need-loop-again Inv-loop μ-loop
 loop-again c =
-    let checked = c .before .before .before .before in
-    let counted = checked .before .before in
-    let read = counted .before in
+    let checked : tie.After-check-step Inv-loop μ-loop = search in
+    let told : tie.After-enum-told2 Inv-loop μ-loop = search in
+    let read = checked .before .before in
     let at = read .before .before in
     let args = at .before .before .before .before .before .before .before .before .before .before .before .args in
-    let check = checked .check-step in
-    let step = asStep (read .read-step .result) in (
+    let check = checked .check-step in (
       search needs,
       check .kept .1 .0 ∙ at .loop .inv .1,
-      omega (arith, counted .count-step .ensures .1),
-      counted .count-step .ensures .0 ∙ rw (at .loop .inv .3) (counts-more (args .plan .now) (at .loop .n) step (search needs) (read .read-step .ensures)),
+      held checked (told .enum-told2 .given .1),
       λ lent w.
-          underway-next (args .number .now) (args .plan .now) lent (at .loop .space) (at .loop .n) (at .loop .inv .4 lent w) (search needs) step (read .read-step .ensures) (check .result) (check .last .1 .0) (check .ensures)
-          (c .enum-told2 .given .1),
+          underway-next (args .number .now) (args .plan .now) lent (at .loop .space) (at .loop .n) (at .loop .inv .3 lent w) (search needs) (asStep (read .read-step .result)) (read .read-step .ensures) (check .result .verdict) (check .result .doubling) (check .last .1 .0) (check .ensures)
+          (told .enum-told2 .given .1),
     )
 
 ends-at-requires : tie.Need-ends-at-requires Inv-loop μ-loop
@@ -136,26 +182,39 @@ ended c =
     let e : at .loop .n ≡ length (args .plan .now) / stepBytes = omega arith in
     rw e at (underway-end (args .number .now) (args .plan .now) (args .space .now) (at .loop .space) (at .loop .n) (underway at) e {t = c .ends-at .result} (rw e (c .ends-at .ensures)))
 
+sub-t28 : tie.Need-sub-t28 Inv-loop μ-loop
+sub-t28 c =
+    let at : tie.At-loop Inv-loop μ-loop = search in
+    omega (arith, holding-few (at .before .before .before .before .before .before .before .before .before .before .before .args .plan .now) (at .loop .n) _ _ (at .loop .inv .2) (at .loop .inv .0))
+
+sub-t29 : tie.Need-sub-t29 Inv-loop μ-loop
+sub-t29 c =
+    let at : tie.At-loop Inv-loop μ-loop = search in
+    omega (arith, holding-few (at .before .before .before .before .before .before .before .before .before .before .before .args .plan .now) (at .loop .n) _ _ (at .loop .inv .2) (at .loop .inv .0))
+
 same-length-2 : tie.Need-same-length-2 Inv-loop μ-loop
-same-length-2 c = kept (c .before .before .before .before)
+same-length-2 c = let at : tie.At-loop Inv-loop μ-loop = search in kept at
 
 returns-3 : tie.Need-returns-3 Inv-loop μ-loop
 returns-3 c =
-    let finished = c .before in
+    let finished : tie.After-ends-at Inv-loop μ-loop = search in
+    let ends : tie.Then1 Inv-loop μ-loop = search in
     let at = finished .before .before .before in
     let plan = at .before .before .before .before .before .before .before .before .before .before .before .args .plan .now in
-    let done = rw (c .if1 .taken) at (ended finished) in
-    let all : at .loop .counts ≡ countsOf (stepsOf plan) = at .loop .inv .3 ∙ ap countsOf (take-all (at .loop .n) (stepsOf plan) (omega (arith, length-steps plan))) in
+    let done = rw (ends .if1 .taken) at (ended finished) in
+    let e : at .loop .n ≡ length plan / stepBytes = omega arith in
+    let all = rw e at (holding-all plan (at .loop .n) (at .loop .doublings) (at .loop .not-additions) (at .loop .inv .2) e) in
     let admission = passed (at .before .before .before .before .before) in
-    (rw all (done-answer admission done), done-space admission done)
+    (ap Steps all ∙ done-answer admission done, done-space admission done)
 
 same-length-3 : tie.Need-same-length-3 Inv-loop μ-loop
-same-length-3 c = kept (c .before .before .before .before)
+same-length-3 c = let at : tie.At-loop Inv-loop μ-loop = search in kept at
 
 returns-4 : tie.Need-returns-4 Inv-loop μ-loop
 returns-4 c =
-    let finished = c .before in
-    let done = rw (c .if1 .left) at (ended finished) in
+    let finished : tie.After-ends-at Inv-loop μ-loop = search in
+    let ends : tie.Else1 Inv-loop μ-loop = search in
+    let done = rw (ends .if1 .left) at (ended finished) in
     let admission = passed (finished .before .before .before .before .before .before .before .before) in
     (done-answer admission done, done-space admission done)
 
@@ -172,16 +231,22 @@ check-spec =
     begin-requires
     loop-holds
     read-step-requires
-    count-step-requires
     check-step-requires
-    enum-known-refusal-2
+    enum-known-verdict
     same-length
     returns-2
     enum-told-2
+    cast-doublings
+    add-doublings
+    cast-not-additions
+    cast-not-additions-2
+    add-not-additions
     add-n
     loop-less
     loop-again
     ends-at-requires
+    sub-t28
+    sub-t29
     same-length-2
     returns-3
     same-length-3

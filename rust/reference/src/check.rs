@@ -9,7 +9,7 @@ use crate::refusal::*;
 use crate::{words, Counts};
 
 /// The value at a position of the chain.
-#[derive(Clone, Copy)]
+#[derive(Clone, Copy, PartialEq)]
 struct Value {
     negative: bool,
     size: [u64; VALUE_WORDS],
@@ -102,8 +102,10 @@ pub fn check(number: &[u8], plan: &[u8], space: &mut [u8]) -> Result<Counts, Ref
         // Record i is filled only once step i is known to be sound.
         value.store(space, i);
 
+        // With the second sign turned where it subtracts, a step of either operation doubles if its
+        // values are equal. None is zero, so each has one sign.
         match operation {
-            ADD if j == k => counts.doublings += 1,
+            _ if left == right => counts.doublings += 1,
             ADD => counts.additions += 1,
             _ => counts.subtractions += 1,
         }

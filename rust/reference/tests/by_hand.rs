@@ -43,6 +43,14 @@ fn step(operation: u8, j: u16, k: u16) -> Vec<u8> {
     bytes
 }
 
+fn counts(doublings: usize, additions: usize, subtractions: usize) -> Counts {
+    Counts {
+        doublings,
+        additions,
+        subtractions,
+    }
+}
+
 fn values(number: &[u8], steps: &[u8]) -> Vec<i64> {
     let mut space = vec![0; work_space(steps.len() / STEP_BYTES)];
     check(number, steps, &mut space).unwrap();
@@ -225,14 +233,9 @@ fn reading_back_zero() {
 
 #[test]
 fn empty_plan() {
-    let none = Counts {
-        doublings: 0,
-        additions: 0,
-        subtractions: 0,
-    };
     let mut space = [7; RECORD_BYTES + 1];
     assert_eq!(check(&[2], &[], &mut space), Err(refusal(WRONG_END, 0)));
-    assert_eq!(check(&[1], &[], &mut space), Ok(none));
+    assert_eq!(check(&[1], &[], &mut space), Ok(counts(0, 0, 0)));
     assert_eq!(space[..2], [0, 1]);
     assert!(space[2..RECORD_BYTES].iter().all(|&byte| byte == 0));
     assert_eq!(space[RECORD_BYTES], 7);
@@ -246,12 +249,65 @@ fn empty_plan() {
 fn values_below_zero() {
     let steps = [step(0, 0, 0), step(1, 0, 1), step(1, 1, 2)].concat();
     assert_eq!(values(&[3], &steps), [1, 2, -1, 3]);
-    let counts = Counts {
-        doublings: 1,
-        additions: 0,
-        subtractions: 2,
-    };
-    assert_eq!(check(&[3], &steps, &mut [0; work_space(3)]), Ok(counts));
+    assert_eq!(check(&[3], &steps, &mut [0; work_space(3)]), Ok(counts(1, 0, 2)));
+}
+
+/// Values decide, not positions: doublings at two positions, and steps near them that are none.
+#[test]
+fn hidden_doublings() {
+    let (add, subtract) = (|j, k| step(0, j, k), |j, k| step(1, j, k));
+    for (steps, chain, expected) in [
+        (vec![add(0, 0), add(0, 0), add(1, 2)], vec![1, 2, 2, 4], counts(3, 0, 0)),
+        (
+            vec![add(0, 0), subtract(0, 1), subtract(0, 2)],
+            vec![1, 2, -1, 2],
+            counts(2, 0, 1),
+        ),
+        // -1 twice, added: -2; then 1 - (-2) = 3.
+        (
+            vec![add(0, 0), subtract(0, 1), subtract(0, 1), add(2, 3), subtract(0, 4)],
+            vec![1, 2, -1, -1, -2, 3],
+            counts(2, 0, 3),
+        ),
+        // -1 - 1 = -2, the negative value first.
+        (
+            vec![add(0, 0), subtract(0, 1), subtract(2, 0), subtract(0, 3)],
+            vec![1, 2, -1, -2, 3],
+            counts(2, 0, 2),
+        ),
+        // 2 and -1, and 2 and 1, are neither equal nor opposite.
+        (
+            vec![add(0, 0), subtract(0, 1), add(1, 2), subtract(1, 3), subtract(1, 2)],
+            vec![1, 2, -1, 1, 1, 3],
+            counts(1, 1, 3),
+        ),
+        // The same positions: a doubling of a value below zero.
+        (
+            vec![add(0, 0), subtract(0, 1), add(2, 2), subtract(1, 3)],
+            vec![1, 2, -1, -2, 4],
+            counts(3, 0, 1),
+        ),
+    ] {
+        let number = [*chain.last().unwrap() as u8];
+        let steps = steps.concat();
+        assert_eq!(values(&number, &steps), chain);
+        let mut space = vec![7; work_space(chain.len() - 1) + 9];
+        assert_eq!(check(&number, &steps, &mut space), Ok(expected), "{:?}", chain);
+        assert_eq!(space[work_space(chain.len() - 1)..], [7; 9]);
+    }
+    // Added, opposite values are zero, and so are equal ones subtracted, wherever they stand.
+    let zero = Err(refusal(VALUE_IS_ZERO, 3));
+    for steps in [
+        vec![add(0, 0), subtract(0, 1), add(0, 2)],
+        vec![add(0, 0), subtract(0, 1), add(2, 0)],
+        vec![add(0, 0), add(0, 0), subtract(1, 2)],
+        vec![add(0, 0), add(0, 0), subtract(2, 1)],
+    ] {
+        assert_eq!(check(&[4], &steps.concat(), &mut [7; work_space(3)]), zero);
+    }
+    // No counts where the end is wrong.
+    let steps = [add(0, 0), add(0, 0), add(1, 2)].concat();
+    assert_eq!(check(&[5], &steps, &mut [7; work_space(3)]), Err(refusal(WRONG_END, 3)));
 }
 
 #[test]
@@ -282,12 +338,10 @@ fn longest_plan() {
     let steps = step(0, 0, 0).repeat(PLAN_STEPS + 1);
     let mut space = vec![0; work_space(PLAN_STEPS + 1)];
     assert_eq!(check(&[2], &steps, &mut space), Err(refusal(PLAN_LENGTH, 0)));
-    let counts = Counts {
-        doublings: PLAN_STEPS,
-        additions: 0,
-        subtractions: 0,
-    };
-    assert_eq!(check(&[2], &steps[..PLAN_ROOM], &mut space), Ok(counts));
+    assert_eq!(
+        check(&[2], &steps[..PLAN_ROOM], &mut space),
+        Ok(counts(PLAN_STEPS, 0, 0))
+    );
     assert_eq!(
         check(&[2], &steps[..PLAN_ROOM - 1], &mut []),
         Err(refusal(PLAN_LENGTH, 0))

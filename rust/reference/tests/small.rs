@@ -1,7 +1,7 @@
 //! Small numbers against plain integers and brute force, and the totals
 //! that Bosma, "Signed bits and fast exponentiation", publishes.
 
-use reference::generate::methods;
+use reference::generate::{methods, Generator};
 use reference::limits::*;
 use reference::refusal::HIGHEST_BYTE_IS_ZERO;
 use reference::*;
@@ -116,8 +116,9 @@ fn plans_end_at_the_number() {
                 let j = usize::from(u16::from_le_bytes([step[1], step[2]]));
                 let k = usize::from(u16::from_le_bytes([step[3], step[4]]));
                 let (value, kind) = match step[0] {
-                    0 if j == k => (2 * values[j], 0),
+                    0 if values[j] == values[k] => (2 * values[j], 0),
                     0 => (values[j] + values[k], 1),
+                    1 if values[j] == -values[k] => (2 * values[j], 0),
                     1 => (values[j] - values[k], 2),
                     _ => unreachable!(),
                 };
@@ -136,6 +137,46 @@ fn plans_end_at_the_number() {
             }
         }
     }
+}
+
+/// In the plan of a method a step doubles only if it adds a position to itself: no add step at two
+/// positions has equal values, no subtract step opposite ones. So there, positions and values give the
+/// same counts.
+#[test]
+fn own_plans_have_no_hidden_doublings() {
+    let mut generator = Generator::new(10);
+    let mut numbers: Vec<Vec<u8>> = (1..=2000).map(spelled).collect();
+    numbers.extend([0x01, 0x55, 0x80, 0xAA, 0xFF].map(|byte| vec![byte; NUMBER_BYTES]));
+    numbers.extend((0..500).map(|_| generator.number()));
+    let mut long = 0;
+    for number in numbers {
+        for (method, width) in methods() {
+            let mut out = [0; PLAN_ROOM];
+            let counts = match plan(&number, method, width, &mut out) {
+                Ok(counts) => counts,
+                Err(_) => continue,
+            };
+            let steps = &out[..STEP_BYTES * counts.total()];
+            let mut space = vec![0; work_space(counts.total())];
+            assert_eq!(check(&number, steps, &mut space), Ok(counts));
+            let record = |position: usize| &space[RECORD_BYTES * position..RECORD_BYTES * (position + 1)];
+            let mut at_one_position = 0;
+            for step in steps.chunks(STEP_BYTES) {
+                let j = usize::from(u16::from_le_bytes([step[1], step[2]]));
+                let k = usize::from(u16::from_le_bytes([step[3], step[4]]));
+                if step[0] == 0 && j == k {
+                    at_one_position += 1;
+                    continue;
+                }
+                let (same_sign, same_size) = (record(j)[0] == record(k)[0], record(j)[1..] == record(k)[1..]);
+                let doubles = same_size && same_sign == (step[0] == 0);
+                assert!(!doubles, "{:x?} by {} {}: {:?}", number, method, width, step);
+            }
+            assert_eq!(at_one_position, counts.doublings);
+            long += usize::from(number.len() == NUMBER_BYTES);
+        }
+    }
+    assert!(long > 500);
 }
 
 /// Propositions 4, 5, 7 and 8 of Bosma, "Signed bits and fast exponentiation": the tables.

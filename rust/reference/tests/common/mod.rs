@@ -325,11 +325,34 @@ fn steps_of(e: &Big, method: u32, width: u32) -> Result<Vec<Step>, Refusal> {
     Ok(steps)
 }
 
+/// A step doubles if it gives twice its first value: then the second is equal to that and added, or
+/// opposite and subtracted.
 fn counts_of(steps: &[Step]) -> Counts {
-    Counts {
-        doublings: steps.iter().filter(|s| s.0 == 0 && s.1 == s.2).count(),
-        additions: steps.iter().filter(|s| s.0 == 0 && s.1 != s.2).count(),
-        subtractions: steps.iter().filter(|s| s.0 == 1).count(),
+    let mut values = vec![Big::small(1)];
+    let mut counts = Counts {
+        doublings: 0,
+        additions: 0,
+        subtractions: 0,
+    };
+    for &(operation, j, k) in steps {
+        let value = value_at(&values, operation, j, k);
+        if value == values[j].plus(&values[j]) {
+            counts.doublings += 1;
+        } else if operation == 0 {
+            counts.additions += 1;
+        } else {
+            counts.subtractions += 1;
+        }
+        values.push(value);
+    }
+    counts
+}
+
+/// The value of a step over the values so far.
+fn value_at(values: &[Big], operation: u8, j: usize, k: usize) -> Big {
+    match operation {
+        0 => values[j].plus(&values[k]),
+        _ => values[j].minus(&values[k]),
     }
 }
 
@@ -378,10 +401,7 @@ pub fn check(number: &[u8], plan: &[u8], space: &mut [u8]) -> Result<Counts, Ref
         if step[0] > 1 || j >= i || k >= i {
             return Err(refusal(MALFORMED_STEP, i));
         }
-        let value = match step[0] {
-            0 => values[j].plus(&values[k]),
-            _ => values[j].minus(&values[k]),
-        };
+        let value = value_at(&values, step[0], j, k);
         if value.is_zero() {
             return Err(refusal(VALUE_IS_ZERO, i));
         }

@@ -495,7 +495,7 @@ impl Generator {
     fn number_and_plan(&mut self) -> (Vec<u8>, Vec<u8>) {
         let number = self.nonzero_number();
         let mut steps = self.own_plan(&number);
-        match self.rng.below(21) {
+        match self.rng.below(26) {
             0..=2 => {}
             3 => {
                 // One byte changed.
@@ -590,13 +590,17 @@ impl Generator {
                 let extra = usize::from(self.rng.one_in(4));
                 steps = self.rng.bytes(STEP_BYTES * length + extra);
             }
-            _ => {
-                let border = self.border_plan();
+            18..=20 => steps = self.with_copies(&steps),
+            kind => {
+                let first = match kind {
+                    21 | 22 => self.near_plan(),
+                    _ => self.border_plan(),
+                };
                 if self.rng.one_in(2) {
-                    return (self.end_of(&border).unwrap_or(number), border);
+                    return (self.end_of(&first).unwrap_or(number), first);
                 }
-                // Large values first, then the plan for the number.
-                steps = after(border, &steps);
+                // These values first, then the plan for the number.
+                steps = after(first, &steps);
             }
         }
         (number, steps)
@@ -669,6 +673,96 @@ impl Generator {
         for _ in 0..length {
             self.push_random_step(&mut steps, spread);
         }
+        steps
+    }
+
+    /// The same chain with copies of its values and of their opposites, so that
+    /// many doublings are hidden: they add equal values at two positions, or
+    /// subtract opposite ones.
+    fn with_copies(&mut self, plan: &[u8]) -> Vec<u8> {
+        let mut more = PLAN_STEPS - 5 - plan.len() / STEP_BYTES;
+        let spread = self.rng.pick(&[1, 2, 4, 16]);
+        // 1, then 2, -1 and 1 again.
+        let mut steps = Vec::new();
+        push(&mut steps, 0, 0, 0);
+        push(&mut steps, 1, 0, 1);
+        push(&mut steps, 1, 1, 0);
+        // Where the value of each position stands now, and whether its sign is turned there.
+        let mut copies = vec![vec![(0, false), (2, true), (3, false)]];
+        let (mut end, mut is_turned) = (3, false);
+        for step in plan.chunks_exact(STEP_BYTES) {
+            let (j, k) = positions(step);
+            let mut filled = Vec::new();
+            loop {
+                let (first, first_turned) = self.rng.pick(&copies[j]);
+                let (second, second_turned) = self.rng.pick(&copies[k]);
+                // Whether it is turned in what the step adds.
+                let second_turned = second_turned != (step[0] == 1);
+                is_turned = first_turned;
+                if first_turned == second_turned {
+                    push(&mut steps, 0, first, second);
+                } else if self.rng.one_in(2) {
+                    push(&mut steps, 1, first, second);
+                } else {
+                    push(&mut steps, 1, second, first);
+                    is_turned = second_turned;
+                }
+                end += 1;
+                filled.push((end, is_turned));
+                if filled.len() > 1 || more == 0 || !self.rng.one_in(spread) {
+                    break;
+                }
+                more -= 1;
+            }
+            copies.push(filled);
+        }
+        // Mostly from minus the number to the number: twice that, subtracted.
+        if is_turned && !self.rng.one_in(8) {
+            push(&mut steps, 0, end, end);
+            push(&mut steps, 1, end, end + 1);
+        }
+        steps
+    }
+
+    /// Two values that are equal or differ in one or two bits, each with either
+    /// sign, then their sum or difference.
+    fn near_plan(&mut self) -> Vec<u8> {
+        let top = match self.rng.below(3) {
+            0 => self.rng.between(VALUE_BITS - 3, VALUE_BITS - 1),
+            _ => self.rng.between(1, VALUE_BITS - 2),
+        };
+        let mut steps = Vec::new();
+        for i in 0..top {
+            push(&mut steps, 0, i, i);
+        }
+        // 2^top, and mostly one bit below it.
+        let place = match self.rng.below(3) {
+            0 => top - 1 - self.rng.below(8.min(top)),
+            1 => self.rng.below(8.min(top)),
+            _ => self.rng.below(top),
+        };
+        let other = match self.rng.below(4) {
+            0 => self.rng.below(top),
+            1 => top,
+            _ => place,
+        };
+        let mut pair = [0; 2];
+        for (value, place) in pair.iter_mut().zip([place, other]) {
+            match place == top {
+                true => push(&mut steps, 0, top - 1, top - 1),
+                false => push(&mut steps, 0, top, place),
+            }
+            *value = steps.len() / STEP_BYTES;
+            if self.rng.one_in(2) {
+                // Its opposite: twice the value, subtracted from it.
+                push(&mut steps, 0, *value, *value);
+                push(&mut steps, 1, *value, *value + 1);
+                *value += 2;
+            }
+        }
+        let operation = self.rng.pick(&[0, 1]);
+        let first = self.rng.below(2);
+        push(&mut steps, operation, pair[first], pair[1 - first]);
         steps
     }
 
@@ -776,6 +870,59 @@ impl Generator {
     }
 }
 
+/// How many steps of an accepted plan are hidden doublings, by the records that
+/// its check left: steps that add equal values at two positions, and steps that
+/// subtract opposite ones.
+pub fn hidden_doublings(plan: &[u8], space: &[u8]) -> [usize; 2] {
+    let record = |position: usize| space[RECORD_BYTES * position..][..RECORD_BYTES].split_at(1);
+    let mut hidden = [0; 2];
+    for step in plan.chunks_exact(STEP_BYTES) {
+        let (j, k) = positions(step);
+        let ((sign, size), (other_sign, other_size)) = (record(j), record(k));
+        let is_subtraction = step[0] == 1;
+        if j != k && size == other_size && (sign != other_sign) == is_subtraction {
+            hidden[usize::from(is_subtraction)] += 1;
+        }
+    }
+    hidden
+}
+
+/// A plan for 2 that adds and subtracts two values, with either sign, which
+/// differ in the bit at this place alone; then the larger one and a copy of it,
+/// so that four doublings are hidden, unless it is too large for that.
+pub fn one_bit_apart(place: usize) -> Vec<u8> {
+    const TOP: usize = VALUE_BITS - 1;
+    let mut steps = Vec::new();
+    // Position i holds 2^i; the smaller value is one of these.
+    for i in 0..TOP {
+        push(&mut steps, 0, i, i);
+    }
+    let small = usize::from(place == 0);
+    let (large, copy, minus_large, minus_copy, minus_small) = (TOP + 1, TOP + 2, TOP + 4, TOP + 5, TOP + 6);
+    push(&mut steps, 0, place, small);
+    push(&mut steps, 0, place, small);
+    push(&mut steps, 1, small, place);
+    push(&mut steps, 1, TOP + 3, small + 1);
+    push(&mut steps, 1, TOP + 3, small + 1);
+    push(&mut steps, 1, small, small + 1);
+
+    push(&mut steps, 0, large, small);
+    push(&mut steps, 0, small, large);
+    push(&mut steps, 0, minus_large, minus_small);
+    push(&mut steps, 1, large, minus_small);
+    push(&mut steps, 1, minus_small, large);
+    push(&mut steps, 1, minus_large, small);
+    push(&mut steps, 1, small, minus_large);
+    if place < TOP {
+        push(&mut steps, 0, large, copy);
+        push(&mut steps, 0, minus_copy, minus_large);
+        push(&mut steps, 1, copy, minus_large);
+        push(&mut steps, 1, minus_large, large);
+    }
+    push(&mut steps, 0, 0, 0);
+    steps
+}
+
 /// The number without its high zero bytes.
 pub fn trimmed(number: &[u8]) -> &[u8] {
     let length = number.iter().rposition(|&byte| byte != 0).map_or(0, |top| top + 1);
@@ -803,6 +950,12 @@ fn push(steps: &mut Vec<u8>, operation: u8, j: usize, k: usize) {
     steps.extend((k as u16).to_le_bytes());
 }
 
+/// The two positions of a step.
+fn positions(step: &[u8]) -> (usize, usize) {
+    let position = |low: u8, high: u8| usize::from(u16::from_le_bytes([low, high]));
+    (position(step[1], step[2]), position(step[3], step[4]))
+}
+
 /// Sound steps with the values 2, 3 and -1 over and over.
 fn filler_steps(count: usize) -> Vec<u8> {
     let mut steps = Vec::with_capacity(STEP_BYTES * count);
@@ -819,13 +972,13 @@ fn filler_steps(count: usize) -> Vec<u8> {
 /// A plan behind other steps: position 0 stays, all others move up.
 fn after(mut first: Vec<u8>, then: &[u8]) -> Vec<u8> {
     let offset = first.len() / STEP_BYTES;
+    let moved = |position: usize| match position {
+        0 => 0,
+        position => position + offset,
+    };
     for step in then.chunks_exact(STEP_BYTES) {
-        let moved = |low: u8, high: u8| match usize::from(u16::from_le_bytes([low, high])) {
-            0 => 0,
-            position => position + offset,
-        };
-        let (j, k) = (moved(step[1], step[2]), moved(step[3], step[4]));
-        push(&mut first, step[0], j, k);
+        let (j, k) = positions(step);
+        push(&mut first, step[0], moved(j), moved(k));
     }
     first
 }

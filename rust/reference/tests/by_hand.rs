@@ -1,5 +1,6 @@
 //! Numbers to try by hand, and slips that are easy to make.
 
+use reference::generate::hidden_doublings;
 use reference::limits::*;
 use reference::refusal::*;
 use reference::*;
@@ -254,38 +255,48 @@ fn values_below_zero() {
 
 /// Values decide, not positions: doublings at two positions, and steps near them that are none.
 #[test]
-fn hidden_doublings() {
+fn equal_and_opposite_values() {
     let (add, subtract) = (|j, k| step(0, j, k), |j, k| step(1, j, k));
-    for (steps, chain, expected) in [
-        (vec![add(0, 0), add(0, 0), add(1, 2)], vec![1, 2, 2, 4], counts(3, 0, 0)),
+    for (steps, chain, expected, hidden) in [
+        (
+            vec![add(0, 0), add(0, 0), add(1, 2)],
+            vec![1, 2, 2, 4],
+            counts(3, 0, 0),
+            [1, 0],
+        ),
         (
             vec![add(0, 0), subtract(0, 1), subtract(0, 2)],
             vec![1, 2, -1, 2],
             counts(2, 0, 1),
+            [0, 1],
         ),
         // -1 twice, added: -2; then 1 - (-2) = 3.
         (
             vec![add(0, 0), subtract(0, 1), subtract(0, 1), add(2, 3), subtract(0, 4)],
             vec![1, 2, -1, -1, -2, 3],
             counts(2, 0, 3),
+            [1, 0],
         ),
         // -1 - 1 = -2, the negative value first.
         (
             vec![add(0, 0), subtract(0, 1), subtract(2, 0), subtract(0, 3)],
             vec![1, 2, -1, -2, 3],
             counts(2, 0, 2),
+            [0, 1],
         ),
         // 2 and -1, and 2 and 1, are neither equal nor opposite.
         (
             vec![add(0, 0), subtract(0, 1), add(1, 2), subtract(1, 3), subtract(1, 2)],
             vec![1, 2, -1, 1, 1, 3],
             counts(1, 1, 3),
+            [0, 0],
         ),
-        // The same positions: a doubling of a value below zero.
+        // A value below zero at one position, then opposite ones at two.
         (
             vec![add(0, 0), subtract(0, 1), add(2, 2), subtract(1, 3)],
             vec![1, 2, -1, -2, 4],
             counts(3, 0, 1),
+            [0, 1],
         ),
     ] {
         let number = [*chain.last().unwrap() as u8];
@@ -294,6 +305,7 @@ fn hidden_doublings() {
         let mut space = vec![7; work_space(chain.len() - 1) + 9];
         assert_eq!(check(&number, &steps, &mut space), Ok(expected), "{:?}", chain);
         assert_eq!(space[work_space(chain.len() - 1)..], [7; 9]);
+        assert_eq!(hidden_doublings(&steps, &space), hidden, "{:?}", chain);
     }
     // Added, opposite values are zero, and so are equal ones subtracted, wherever they stand.
     let zero = Err(refusal(VALUE_IS_ZERO, 3));

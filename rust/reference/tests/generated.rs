@@ -4,7 +4,7 @@
 
 mod common;
 
-use reference::generate::{methods, trimmed, Generator};
+use reference::generate::{hidden_doublings, methods, one_bit_apart, trimmed, Generator};
 use reference::limits::*;
 use reference::refusal::{HIGHEST_BYTE_IS_ZERO, LAST, WRONG_END};
 use reference::*;
@@ -222,6 +222,8 @@ fn check_cases() {
     let mut generator = Generator::new(7);
     let mut tally = Tally::new("check");
     let (mut full, mut empty, mut below_zero, mut minus, mut large) = (0, 0, 0, 0, 0);
+    // Accepted plans with hidden doublings, in both ways.
+    let mut hidden = [0; 2];
     for _ in 0..CASES {
         let case = generator.check_case();
         let mut expected_space = generator.rng().bytes(case.room);
@@ -242,6 +244,9 @@ fn check_cases() {
                 empty += usize::from(steps == 0);
                 below_zero += usize::from(records.clone().any(|record| record[0] == 1));
                 large += usize::from(records.any(|record| record[VALUE_BYTES] == 0xFF));
+                for (plans, steps) in hidden.iter_mut().zip(hidden_doublings(&case.plan, &space)) {
+                    *plans += usize::from(steps > 0);
+                }
             }
             Err(Refusal { number: WRONG_END, .. }) => {
                 let last = records.next_back().unwrap();
@@ -254,8 +259,31 @@ fn check_cases() {
     }
     tally.assert_all(&[0, 1, 2, 7, 8, 9, 10, 11, 12, 13]);
     tally.assert_without(&[2, 7, 8, 9, 10, 11, 12]);
-    println!("{:?}", (full, empty, below_zero, minus, large));
+    println!("{:?}", (full, empty, below_zero, minus, large, hidden));
     assert!(full > 100 && empty > 100 && below_zero > 100 && minus > 100 && large > 100);
+    assert!(hidden[0] > 500 && hidden[1] > 500);
+}
+
+/// Values that differ in one bit are not equal, whichever bit it is.
+#[test]
+fn values_one_bit_apart() {
+    for place in 0..VALUE_BITS {
+        let plan = one_bit_apart(place);
+        let mut space = vec![0; work_space(plan.len() / STEP_BYTES)];
+        let mut expected_space = space.clone();
+        let result = check(&[2], &plan, &mut space);
+        assert_eq!(result, common::check(&[2], &plan, &mut expected_space), "{}", place);
+        assert!(space == expected_space, "{}", place);
+        // The largest cannot be doubled.
+        let hidden = if place < VALUE_BITS - 1 { [2, 2] } else { [0, 0] };
+        assert_eq!(hidden_doublings(&plan, &space), hidden, "{}", place);
+        let counts = Counts {
+            doublings: VALUE_BITS + hidden[0] + hidden[1],
+            additions: 5,
+            subtractions: 8,
+        };
+        assert_eq!(result, Ok(counts), "{}", place);
+    }
 }
 
 /// Every kind of padding comes up in every call that takes a number.

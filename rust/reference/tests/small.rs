@@ -1,7 +1,7 @@
 //! Small numbers against plain integers and brute force, and the totals
 //! that Bosma, "Signed bits and fast exponentiation", publishes.
 
-use reference::generate::{methods, Generator};
+use reference::generate::{hidden_doublings, methods, Generator};
 use reference::limits::*;
 use reference::refusal::HIGHEST_BYTE_IS_ZERO;
 use reference::*;
@@ -159,20 +159,16 @@ fn own_plans_have_no_hidden_doublings() {
             let steps = &out[..STEP_BYTES * counts.total()];
             let mut space = vec![0; work_space(counts.total())];
             assert_eq!(check(&number, steps, &mut space), Ok(counts));
-            let record = |position: usize| &space[RECORD_BYTES * position..RECORD_BYTES * (position + 1)];
-            let mut at_one_position = 0;
-            for step in steps.chunks(STEP_BYTES) {
-                let j = usize::from(u16::from_le_bytes([step[1], step[2]]));
-                let k = usize::from(u16::from_le_bytes([step[3], step[4]]));
-                if step[0] == 0 && j == k {
-                    at_one_position += 1;
-                    continue;
-                }
-                let (same_sign, same_size) = (record(j)[0] == record(k)[0], record(j)[1..] == record(k)[1..]);
-                let doubles = same_size && same_sign == (step[0] == 0);
-                assert!(!doubles, "{:x?} by {} {}: {:?}", number, method, width, step);
-            }
-            assert_eq!(at_one_position, counts.doublings);
+            let doubled = |step: &&[u8]| step[0] == 0 && step[1..3] == step[3..5];
+            assert_eq!(steps.chunks(STEP_BYTES).filter(doubled).count(), counts.doublings);
+            assert_eq!(
+                hidden_doublings(steps, &space),
+                [0, 0],
+                "{:x?} by {} {}",
+                number,
+                method,
+                width
+            );
             long += usize::from(number.len() == NUMBER_BYTES);
         }
     }

@@ -621,6 +621,7 @@ impl Requests {
             self.accepted(&small(43), method, width);
         }
         self.accepted(&long(), 4, 0);
+        self.hidden_doublings();
         self.title("The longest plan and a step more; part of a step");
         self.check(work_space(PLAN_STEPS + 1), &small(2), &[0; PLAN_ROOM]);
         self.check(work_space(PLAN_STEPS + 1), &small(2), &[0; PLAN_ROOM + STEP_BYTES]);
@@ -676,6 +677,60 @@ impl Requests {
         self.check(work_space(PLAN_STEPS) - 1, &small(2), &[0; PLAN_ROOM]);
     }
 
+    fn hidden_doublings(&mut self) {
+        self.title(HIDDEN);
+        // 1, 2, 2: added; subtracted, which is zero; a position too high; an unknown operation; a wrong end.
+        let equal = [add(0, 0), add(0, 0)].concat();
+        for last in [
+            add(1, 2),
+            add(2, 1),
+            subtract(1, 2),
+            subtract(2, 1),
+            add(1, 3),
+            step(2, 1, 2),
+        ] {
+            self.check(FEW, &small(4), &[&equal[..], &last].concat());
+        }
+        self.check(FEW, &small(5), &[&equal[..], &add(1, 2)].concat());
+        // 1, 2, -1: subtracted; added, which is zero; and the same faults.
+        let opposite = [add(0, 0), subtract(0, 1)].concat();
+        for last in [subtract(0, 2), add(0, 2), add(2, 0), subtract(0, 3), step(2, 0, 2)] {
+            self.check(FEW, &small(2), &[&opposite[..], &last].concat());
+        }
+        self.check(FEW, &small(1), &[&opposite[..], &subtract(0, 2)].concat());
+        // -2, as -1 plus -1 and as -1 less 1; then 1 less that.
+        let below = [subtract(0, 1), add(2, 3), subtract(0, 4)].concat();
+        self.check(work_space(5), &small(3), &[&opposite[..], &below].concat());
+        let below = [subtract(2, 0), subtract(0, 3)].concat();
+        self.check(FEW, &small(3), &[&opposite[..], &below].concat());
+
+        self.title(NEAR);
+        // Of as many bytes as a value may have: half the largest power of two, that again, three values
+        // that differ from it, and its opposite.
+        let top = VALUE_BITS - 1;
+        let (half, copy, lowest, middle, highest, minus) = (top - 1, top + 1, top + 2, top + 3, top + 4, top + 5);
+        let mut steps = doublings(top);
+        steps.extend(add(top - 2, top - 2));
+        for place in [0, VALUE_BITS / 2, top - 3] {
+            steps.extend(add(half, place));
+        }
+        steps.extend(subtract(half, top));
+        for other in [lowest, middle, highest, copy] {
+            steps.extend(add(half, other));
+            steps.extend(subtract(other, minus));
+            steps.extend(subtract(minus, other));
+        }
+        steps.extend(add(0, 0));
+        self.check(work_space(steps.len() / STEP_BYTES), &small(2), &steps);
+
+        self.title("Hidden doublings that are too large");
+        let room = work_space(top + 3);
+        let equal = [add(top - 1, top - 1), add(top, top + 1)].concat();
+        self.check(room, &small(1), &[doublings(top), equal].concat());
+        let opposite = [subtract(0, top), subtract(top + 1, 0), subtract(top + 2, top)].concat();
+        self.check(room, &small(1), &[doublings(top), opposite].concat());
+    }
+
     /// What the program does not hand to a call.
     fn unanswered(&mut self) {
         self.title(UNANSWERED);
@@ -706,7 +761,9 @@ impl Requests {
     }
 }
 
-/// The titles of three sections.
+/// The titles of five sections.
+pub const HIDDEN: &str = "Equal values added and opposite ones subtracted, at two positions, and what is near";
+pub const NEAR: &str = "Values that differ in the lowest bit, in a middle byte, in the highest byte, and not at all";
 pub const UNANSWERED: &str = "A call of another name, more room than there is, a line that is too long";
 pub const ONES: &str = "2^k - 1 for each k of 2 or more, by methods 1 and 4";
 pub const SMALL: &str = "1 to 1,023, by methods 1 and 4";

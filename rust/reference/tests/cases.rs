@@ -2,8 +2,8 @@
 //! `reference::cases` makes them, so the program answers as this crate does, and what they hold
 //! agrees with the rules and with the tables of Bosma, "Signed bits and fast exponentiation".
 
-use reference::cases::{answers, requests, ONES, SMALL, UNANSWERED};
-use reference::limits::{NUMBER_BITS, NUMBER_BYTES};
+use reference::cases::{answers, requests, HIDDEN, NEAR, ONES, SMALL, UNANSWERED};
+use reference::limits::{NUMBER_BITS, NUMBER_BYTES, VALUE_BITS};
 use reference::refusal::{HIGHEST_BYTE_IS_ZERO, LAST, MALFORMED_STEP, NUMBER_TOO_LONG, WRONG_END};
 
 const STDIN: &str = include_str!("../../../crates/cases/stdin");
@@ -108,6 +108,37 @@ fn highest_bytes_of_zero_are_stored() {
         }
         assert!(seen[0] > 5 && seen[1] > 0, "{}: {:?}", call, seen);
     }
+}
+
+/// A doubling adds equal values or subtracts opposite ones, wherever they stand (docs/RULES.md, 3.7).
+#[test]
+fn hidden_doublings_are_stored() {
+    let fields = |stored: &Stored| [0, 1, 2, 3, 4].map(|index| stored.field(index));
+    let small: Vec<[usize; 5]> = section(HIDDEN).iter().map(fields).collect();
+    assert_eq!(
+        small,
+        [
+            [0, 0, 3, 0, 0],
+            [0, 0, 3, 0, 0],
+            [10, 3, 0, 0, 0],
+            [10, 3, 0, 0, 0],
+            [9, 3, 0, 0, 0],
+            [9, 3, 0, 0, 0],
+            [12, 3, 0, 0, 0],
+            [0, 0, 2, 0, 1],
+            [10, 3, 0, 0, 0],
+            [10, 3, 0, 0, 0],
+            [9, 3, 0, 0, 0],
+            [9, 3, 0, 0, 0],
+            [12, 3, 0, 0, 0],
+            [0, 0, 2, 0, 3],
+            [0, 0, 2, 0, 2],
+        ]
+    );
+    // Doublings up to the largest power of two, then its half again, three hidden ones and the last step.
+    // Each of the three values that differ is made by an addition, then added once and subtracted twice.
+    let near: Vec<[usize; 5]> = section(NEAR).iter().map(fields).collect();
+    assert_eq!(near, [[0, 0, VALUE_BITS - 1 + 1 + 3 + 1, 3 + 3, 1 + 6]]);
 }
 
 /// Both readers answer with a number and without, and where there is none, nothing is written.

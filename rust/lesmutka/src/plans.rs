@@ -1,12 +1,13 @@
 //! A plan: its steps, and their counts.
-use crate::{is_blank, sys, Refusal, STEP_BYTES};
+use crate::{is_blank, sys, Refusal, Value, STEP_BYTES};
 use core::fmt;
 use core::iter::{FusedIterator, Sum};
 use core::ops::{Add, AddAssign};
 use core::slice::ChunksExact;
 use core::str::FromStr;
 
-/// How many steps a plan has of each kind.
+/// How many steps a plan has of each kind. Values decide, not positions: if two points are equal, the
+/// addition formula of the curve divides by zero, and the doubling formula has to be used.
 ///
 /// ```
 /// use lesmutka::{forecast, Counts, Method};
@@ -17,11 +18,11 @@ use core::str::FromStr;
 /// ```
 #[derive(Clone, Copy, Debug, Default, PartialEq, Eq, Hash)]
 pub struct Counts {
-    /// Steps that add a position to itself.
+    /// Steps that add equal values or subtract opposite ones.
     pub doublings: usize,
     /// Other steps that add.
     pub additions: usize,
-    /// Steps that subtract.
+    /// Other steps that subtract.
     pub subtractions: usize,
 }
 
@@ -128,9 +129,24 @@ impl Step {
         [operation, j[0], j[1], k[0], k[1]]
     }
 
-    /// Whether it adds a position to itself.
-    pub const fn is_doubling(self) -> bool {
-        matches!(self, Step::Add(j, k) if j == k)
+    /// Whether it doubles, where these values stand at its two positions: it adds equal values or
+    /// subtracts opposite ones. [`check`](crate::check) counts by it.
+    ///
+    /// ```
+    /// use lesmutka::{check, read_steps, records, Step, PLAN_ROOM};
+    ///
+    /// let (mut room, mut space) = ([0; PLAN_ROOM], [0; lesmutka::work_space(3)]);
+    /// let plan = read_steps(b"add(0,0) add(0,0) add(1,2)", &mut room)?;
+    /// assert_eq!(check(&[4], plan, &mut space)?.doublings, 3);
+    ///
+    /// // 1, 2, 2, 4
+    /// let values: Vec<_> = records(&space, 3).collect();
+    /// assert!(Step::Add(1, 2).is_doubling(values[1], values[2]));
+    /// # Ok::<(), lesmutka::Refusal>(())
+    /// ```
+    pub fn is_doubling(self, first: Value<'_>, second: Value<'_>) -> bool {
+        let is_same_sign = first.is_negative == second.is_negative;
+        first.size == second.size && is_same_sign == matches!(self, Step::Add(..))
     }
 }
 

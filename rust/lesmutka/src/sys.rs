@@ -52,11 +52,11 @@ pub struct Counts {
     pub refusal: usize,
     /// Its place, or 0.
     pub place: usize,
-    /// Steps that add a position to itself.
+    /// Steps that add equal values or subtract opposite ones.
     pub doublings: usize,
     /// Other steps that add.
     pub additions: usize,
-    /// Steps that subtract.
+    /// Other steps that subtract.
     pub subtractions: usize,
 }
 

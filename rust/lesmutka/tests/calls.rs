@@ -522,24 +522,133 @@ fn a_step_as_text() {
 
 #[test]
 fn which_steps_double() {
-    assert!(Step::Add(0, 0).is_doubling());
-    assert!(Step::Add(300, 300).is_doubling());
-    assert!(!Step::Add(1, 0).is_doubling());
-    assert!(!Step::Add(256, 0).is_doubling());
-    assert!(!Step::Subtract(1, 1).is_doubling());
+    let value = |is_negative, size| Value { is_negative, size };
+    let (plus, minus) = (|size| value(false, size), |size| value(true, size));
+    // Whatever the positions are.
+    for (j, k) in [(0, 0), (300, 300), (1, 0), (256, 0), (0, 65535)] {
+        let (add, subtract) = (Step::Add(j, k), Step::Subtract(j, k));
+        for size in [&[1][..], &[0x2b], &[0, 1], &[0xff; VALUE_BYTES]] {
+            for (first, second) in [(plus(size), plus(size)), (minus(size), minus(size))] {
+                assert!(add.is_doubling(first, second));
+                assert!(!subtract.is_doubling(first, second));
+            }
+            for (first, second) in [(plus(size), minus(size)), (minus(size), plus(size))] {
+                assert!(!add.is_doubling(first, second));
+                assert!(subtract.is_doubling(first, second));
+            }
+        }
+        // Sizes that differ in the lowest byte, in the highest, in one between, in length.
+        for (size, other) in [
+            (&[1][..], &[2][..]),
+            (&[1, 2, 3], &[0, 2, 3]),
+            (&[1, 2, 3], &[1, 2, 4]),
+            (&[1, 2, 3], &[1, 5, 3]),
+            (&[1, 2], &[1, 2, 3]),
+        ] {
+            for first in [plus(size), minus(size)] {
+                for second in [plus(other), minus(other)] {
+                    for step in [add, subtract] {
+                        assert!(!step.is_doubling(first, second) && !step.is_doubling(second, first));
+                    }
+                }
+            }
+        }
+    }
 }
 
-/// The counts, counted step by step.
-fn counted(steps: Steps<'_>) -> Counts {
+/// The counts, counted step by step over the values that the check of the plan left.
+fn counted(steps: Steps<'_>, space: &[u8]) -> Counts {
+    let values: Vec<Value<'_>> = records(space, steps.len()).collect();
     let mut counts = Counts::default();
     for step in steps {
+        let (Step::Add(j, k) | Step::Subtract(j, k)) = step;
+        let is_doubling = step.is_doubling(values[usize::from(j)], values[usize::from(k)]);
         match step {
-            Step::Add(..) if step.is_doubling() => counts.doublings += 1,
+            _ if is_doubling => counts.doublings += 1,
             Step::Add(..) => counts.additions += 1,
             Step::Subtract(..) => counts.subtractions += 1,
         }
     }
     counts
+}
+
+/// Doublings at two positions, and what is near: the counts, the values, and nothing past the records.
+#[test]
+fn hidden_doublings() {
+    let counts = |doublings, additions, subtractions| Counts {
+        doublings,
+        additions,
+        subtractions,
+    };
+    for (text, number, values, expected) in [
+        (
+            "add(0,0) add(0,0) add(1,2)",
+            4,
+            "0x01 0x02 0x02 0x04",
+            Ok(counts(3, 0, 0)),
+        ),
+        (
+            "add(0,0) subtract(0,1) subtract(0,2)",
+            2,
+            "0x01 0x02 -0x01 0x02",
+            Ok(counts(2, 0, 1)),
+        ),
+        (
+            "add(0,0) subtract(0,1) subtract(0,1) add(3,2) subtract(0,4)",
+            3,
+            "0x01 0x02 -0x01 -0x01 -0x02 0x03",
+            Ok(counts(2, 0, 3)),
+        ),
+        (
+            "add(0,0) subtract(0,1) subtract(2,0) subtract(0,3)",
+            3,
+            "0x01 0x02 -0x01 -0x02 0x03",
+            Ok(counts(2, 0, 2)),
+        ),
+        (
+            "add(0,0) add(1,0) subtract(2,1) add(3,1)",
+            3,
+            "0x01 0x02 0x03 0x01 0x03",
+            Ok(counts(1, 2, 1)),
+        ),
+        (
+            "add(0,0) add(0,0) add(1,2)",
+            5,
+            "0x01 0x02 0x02 0x04",
+            Err(Refusal::WrongEnd { steps: 3 }),
+        ),
+        (
+            "add(0,0) add(0,0) subtract(1,2)",
+            4,
+            "0x01 0x02 0x02",
+            Err(Refusal::ValueIsZero { step: 3 }),
+        ),
+        (
+            "add(0,0) subtract(0,1) add(0,2)",
+            4,
+            "0x01 0x02 -0x01",
+            Err(Refusal::ValueIsZero { step: 3 }),
+        ),
+    ] {
+        let mut room = [7; PLAN_ROOM];
+        let bytes = read_steps(text.as_bytes(), &mut room).unwrap();
+        let steps = bytes.len() / STEP_BYTES;
+        let mut guarded = vec![7; 5 + work_space(steps) + 5];
+        let space = &mut guarded[5..5 + work_space(steps)];
+        assert_eq!(check(&[number], bytes, space), expected, "{}", text);
+        let filled = values.split(' ').count();
+        let left: Vec<String> = records(space, filled - 1).map(|value| value.to_string()).collect();
+        assert_eq!(left.join(" "), values, "{}", text);
+        if let Ok(counts) = expected {
+            assert_eq!(counted(Plan { bytes, counts }.steps(), space), counts, "{}", text);
+        }
+        assert!(guarded[..5].iter().all(|&byte| byte == 7), "{}", text);
+        assert!(
+            guarded[5 + work_space(filled - 1)..].iter().all(|&byte| byte == 7),
+            "{}",
+            text
+        );
+    }
 }
 
 #[test]
@@ -552,7 +661,9 @@ fn the_steps_of_a_plan() {
     for &method in Method::ALL {
         let plan = plan(&[0xb7; NUMBER_BYTES], method, &mut room).unwrap();
         assert_eq!(plan.steps().len(), plan.counts.total());
-        assert_eq!(counted(plan.steps()), plan.counts);
+        let mut space = vec![7; work_space(plan.counts.total())];
+        assert_eq!(check(&[0xb7; NUMBER_BYTES], plan.bytes, &mut space), Ok(plan.counts));
+        assert_eq!(counted(plan.steps(), &space), plan.counts);
         let bytes: Vec<u8> = plan.steps().flat_map(Step::to_bytes).collect();
         assert_eq!(bytes, plan.bytes);
     }

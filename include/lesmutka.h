@@ -233,8 +233,10 @@ typedef struct {
     size_t length;
 } lesmutka_value;
 
-/* How many steps a plan has of each kind: an add step with j = k is a doubling, any other add step
- * an addition, each subtract step a subtraction. */
+/* How many steps a plan has of each kind: an add step whose values are equal, and a subtract step
+ * whose values are opposite, a(j) = -a(k), is a doubling; any other add step is an addition, any
+ * other subtract step a subtraction. Values decide, not positions: if two points are equal, the
+ * addition formula of the curve divides by zero, and the doubling formula has to be used. */
 typedef struct {
     size_t refusal;
     size_t place;

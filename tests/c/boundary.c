@@ -1,5 +1,5 @@
 /* The boundary between C and the library: every constant of the header, layout of the answers, empty buffers,
- * recoders, the reading of text, versions and words. */
+ * recoders, the counts of a check, the reading of text, versions and words. */
 #include <stdio.h>
 #include <stdlib.h>
 #include <string.h>
@@ -183,6 +183,42 @@ static int changed_only(size_t first) {
         if ((i < GUARD || i >= GUARD + first) && guarded[i] != 0xa5)
             return 0;
     return 1;
+}
+
+/* The check of three steps as text: this refusal at this place, or these counts; records with these values, and no
+ * other byte of the lent buffer. */
+static void checked(const char *text, uint8_t number, size_t refusal, size_t place, const size_t counts[3],
+                    const int *values, size_t records) {
+    uint8_t plan[3 * LESMUTKA_STEP_BYTES];
+    lesmutka_length read = lesmutka_read_steps((const uint8_t *)text, strlen(text), plan, sizeof plan);
+    EXPECT(read.refusal == 0 && read.length == sizeof plan);
+    lend();
+    lesmutka_counts answer = lesmutka_check(&number, 1, plan, sizeof plan, lent, LESMUTKA_WORK_SPACE(3));
+    EXPECT(answer.refusal == refusal && answer.place == place);
+    EXPECT(answer.doublings == counts[0] && answer.additions == counts[1] && answer.subtractions == counts[2]);
+    for (size_t i = 0; i < records; i++) {
+        const uint8_t *record = lent + LESMUTKA_RECORD_BYTES * i;
+        EXPECT(record[0] == (values[i] < 0) && record[1] == abs(values[i]));
+        for (size_t k = 2; k < LESMUTKA_RECORD_BYTES; k++)
+            EXPECT(record[k] == 0);
+    }
+    EXPECT(changed_only(LESMUTKA_RECORD_BYTES * records));
+}
+
+/* Equal values added and opposite ones subtracted are doublings at two positions too. */
+static void hidden_doublings(void) {
+    const size_t none[] = {0, 0, 0}, three[] = {3, 0, 0}, two[] = {2, 0, 1};
+    const int equal[] = {1, 2, 2, 4}, opposite[] = {1, 2, -1, 2};
+    checked("add(0,0) add(0,0) add(1,2)", 4, 0, 0, three, equal, 4);
+    checked("add(0,0) add(0,0) add(1,2)", 5, LESMUTKA_WRONG_END, 3, none, equal, 4);
+    checked("add(0,0) add(0,0) subtract(1,2)", 4, LESMUTKA_VALUE_IS_ZERO, 3, none, equal, 3);
+    checked("add(0,0) subtract(0,1) subtract(0,2)", 2, 0, 0, two, opposite, 4);
+    checked("add(0,0) subtract(0,1) subtract(0,2)", 1, LESMUTKA_WRONG_END, 3, none, opposite, 4);
+    checked("add(0,0) subtract(0,1) add(0,2)", 2, LESMUTKA_VALUE_IS_ZERO, 3, none, opposite, 3);
+    /* Neither equal nor opposite: 2 + 1, then 3 - 2. */
+    const size_t each[] = {1, 1, 1};
+    const int others[] = {1, 2, 3, 1};
+    checked("add(0,0) add(1,0) subtract(2,1)", 1, 0, 0, each, others, 4);
 }
 
 /* Every call that takes a number refuses these bytes so, beside faults that are tested later too: no room, no method,
@@ -497,6 +533,7 @@ int main(void) {
     rooms();
     methods();
     refusals();
+    hidden_doublings();
     spellings();
     hexadecimal();
     decimal();

@@ -252,6 +252,13 @@ static void step(uint8_t *steps, uint8_t operation, size_t j, size_t k) {
     plan_length += sizeof written;
 }
 
+/* Begins the plan anew, with this many doublings. */
+static void doublings(uint8_t *steps, size_t count) {
+    plan_length = 0;
+    for (size_t i = 0; i < count; i++)
+        step(steps, 0, i, i);
+}
+
 static void checks(void) {
     static uint8_t steps[LESMUTKA_PLAN_ROOM], number[LESMUTKA_NUMBER_BYTES];
     bytes = number;
@@ -276,9 +283,7 @@ static void checks(void) {
     /* The longest plan, for 1: doublings as far as they go, values below zero of many sizes, and 1 at the end. */
     number[0] = 1;
     length = 1;
-    plan_length = 0;
-    for (size_t i = 1; i < 8 * LESMUTKA_VALUE_BYTES; i++)
-        step(steps, 0, i - 1, i - 1);
+    doublings(steps, 8 * LESMUTKA_VALUE_BYTES - 1);
     for (size_t i = 8 * LESMUTKA_VALUE_BYTES; i < LESMUTKA_PLAN_STEPS - 1; i++)
         step(steps, 1, i % 2 == 0 ? 0 : 1, i % (8 * LESMUTKA_VALUE_BYTES - 14) + 2);
     step(steps, 0, 0, 0);
@@ -286,11 +291,23 @@ static void checks(void) {
     if (plan_length != LESMUTKA_PLAN_ROOM)
         fail("the longest plan has another length");
     measure(check, 0);
+    /* Hidden doublings of the largest power of two that can be doubled: equal values added, opposite ones subtracted,
+     * either first. Then 2, and 1 at the end. */
+    size_t half = 8 * LESMUTKA_VALUE_BYTES - 2;
+    doublings(steps, half);
+    step(steps, 0, half - 1, half - 1);
+    step(steps, 0, half, half + 1);
+    step(steps, 1, half, half + 2);
+    step(steps, 1, half + 1, half + 3);
+    step(steps, 1, half + 3, half);
+    step(steps, 0, 0, 0);
+    step(steps, 1, half + 6, 0);
+    measure(check, 0);
     /* The refusals of a step: malformed, zero, too large. */
     const uint8_t last[][3] = {{2, 0, 0}, {1, 0, 0}, {0, 0, 0}};
     const size_t refused[] = {LESMUTKA_MALFORMED_STEP, LESMUTKA_VALUE_IS_ZERO, LESMUTKA_VALUE_TOO_LARGE};
     for (size_t i = 0; i < 3; i++) {
-        plan_length = LESMUTKA_STEP_BYTES * (8 * LESMUTKA_VALUE_BYTES - 1);
+        doublings(steps, 8 * LESMUTKA_VALUE_BYTES - 1);
         size_t latest = i == 2 ? 8 * LESMUTKA_VALUE_BYTES - 1 : 0;
         step(steps, last[i][0], latest, latest);
         measure(check, refused[i]);

@@ -135,7 +135,7 @@ impl<'a> Chain<'a> {
     }
 
     /// The chain as a graph for Graphviz: an arrow from each value that a step takes to the one that
-    /// it gives; dashed from the value that is subtracted.
+    /// it gives; dashed from the value that is subtracted, unless the step is a doubling.
     fn put_graph(&self, out: &mut Vec<u8>) {
         out.extend_from_slice(b"digraph plan {\n    node [shape=box];\n");
         for (position, value) in self.values.iter().enumerate() {
@@ -145,14 +145,24 @@ impl<'a> Chain<'a> {
             let mut arrow = |from: u16, label: &str| {
                 let _ = writeln!(out, "    {} -> {} [label=\"{}\"];", from, position, label);
             };
-            match self.step(position) {
-                None => {}
-                Some(Step::Add(j, k)) if j == k => arrow(j, "double"),
-                Some(Step::Add(j, k)) => {
+            let step = match self.step(position) {
+                Some(step) => step,
+                None => continue,
+            };
+            let (Step::Add(j, k) | Step::Subtract(j, k)) = step;
+            // Both positions are below that of a sound step.
+            let is_doubling = step.is_doubling(self.values[usize::from(j)], self.values[usize::from(k)]);
+            match step {
+                _ if is_doubling && j == k => arrow(j, "double"),
+                _ if is_doubling => {
+                    arrow(j, "double");
+                    arrow(k, "double");
+                }
+                Step::Add(..) => {
                     arrow(j, "+");
                     arrow(k, "+");
                 }
-                Some(Step::Subtract(j, k)) => {
+                Step::Subtract(..) => {
                     arrow(j, "+");
                     arrow(k, "-\", style=\"dashed");
                 }

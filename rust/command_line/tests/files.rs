@@ -1,7 +1,7 @@
 //! Plans in files and on standard input and output: written whole or not at all, read as bytes or text.
 mod common;
 
-use common::{run, step_words, steps, Folder, Json};
+use common::{run, step_words, steps, stored_files, Folder, Json};
 use reference::limits::{NUMBER_BITS, PLAN_STEPS};
 use std::fs;
 use std::os::unix::fs::{symlink, FileTypeExt, PermissionsExt};
@@ -472,6 +472,52 @@ fn shown() {
         run(&folder, &["show", "-"], b"").text(),
         "0: 0x01\nends at 0x01: 0 doublings, 0 additions, 0 subtractions\n"
     );
+}
+
+/// Doublings at two positions, by `check` and by `show` in all its forms.
+#[test]
+fn hidden_doublings_shown() {
+    let folder = Folder::new();
+    for (name, number, counts, lines, json, dot) in [
+        (
+            "equal-values.plan",
+            "4",
+            "3 doublings, 0 additions, 0 subtractions",
+            "0: 0x01\n1: add(0,0) = 0x02\n2: add(0,0) = 0x02\n3: add(1,2) = 0x04\n",
+            [3, 0, 0],
+            "    1 [label=\"1: 0x02\"];\n    0 -> 1 [label=\"double\"];\n    2 [label=\"2: 0x02\"];\n    \
+             0 -> 2 [label=\"double\"];\n    3 [label=\"3: 0x04\"];\n    1 -> 3 [label=\"double\"];\n    \
+             2 -> 3 [label=\"double\"];\n}\n",
+        ),
+        (
+            "opposite-values.plan",
+            "2",
+            "2 doublings, 0 additions, 1 subtractions",
+            "0: 0x01\n1: add(0,0) = 0x02\n2: subtract(0,1) = -0x01\n3: subtract(0,2) = 0x02\n",
+            [2, 0, 1],
+            "    1 [label=\"1: 0x02\"];\n    0 -> 1 [label=\"double\"];\n    2 [label=\"2: -0x01\"];\n    \
+             0 -> 2 [label=\"+\"];\n    1 -> 2 [label=\"-\", style=\"dashed\"];\n    3 [label=\"3: 0x02\"];\n    \
+             0 -> 3 [label=\"double\"];\n    2 -> 3 [label=\"double\"];\n}\n",
+        ),
+    ] {
+        let plan = &stored_files()[name];
+        folder.write(name, plan);
+        let ended = run(&folder, &["check", number, name], b"");
+        assert_eq!(ended.text(), format!("0x0{}: accepted: {}\n", number, counts));
+        let ended = run(&folder, &["check", number, "-"], step_words(plan).as_bytes());
+        assert_eq!(ended.text(), format!("0x0{}: accepted: {}\n", number, counts));
+        let ended = run(&folder, &["show", name], b"");
+        assert_eq!(ended.text(), format!("{}ends at 0x0{}: {}\n", lines, number, counts));
+        let head = "digraph plan {\n    node [shape=box];\n    0 [label=\"0: 0x01\"];\n";
+        let ended = run(&folder, &["show", name, "--dot"], b"");
+        assert_eq!(ended.text(), format!("{}{}", head, dot));
+        for words in [&["show", name, "--json"][..], &["check", number, name, "--json"]] {
+            let object = Json::read(run(&folder, words, b"").text().trim_end());
+            for (kind, count) in ["doublings", "additions", "subtractions"].iter().zip(json) {
+                assert_eq!(object.get(kind), &Json::Number(count), "{}: {}", name, kind);
+            }
+        }
+    }
 }
 
 /// Down to the step that is not sound, and why.

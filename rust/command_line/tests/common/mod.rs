@@ -120,6 +120,8 @@ pub fn stored_files() -> HashMap<String, Vec<u8>> {
     let doublings = |n: usize| steps(&(0..n as u16).map(|i| [0, i, i]).collect::<Vec<_>>());
     let files = [
         ("below-zero.plan", steps(&[[0, 0, 0], [1, 0, 1], [1, 1, 2]])),
+        ("equal-values.plan", steps(&[[0, 0, 0], [0, 0, 0], [0, 1, 2]])),
+        ("opposite-values.plan", steps(&[[0, 0, 0], [1, 0, 1], [1, 0, 2]])),
         ("minus-one.plan", steps(&[[0, 0, 0], [1, 0, 1]])),
         ("zero.plan", steps(&[[1, 0, 0]])),
         ("own-position.plan", steps(&[[0, 0, 0], [0, 2, 0]])),

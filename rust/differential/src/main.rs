@@ -6,7 +6,7 @@ mod memory;
 
 use lesmutka::sys;
 use memory::Lent;
-use reference::generate::{methods, trimmed, Generator, Rng};
+use reference::generate::{hidden_doublings, methods, one_bit_apart, trimmed, Generator, Rng};
 use reference::refusal::{HIGHEST_BYTE_IS_ZERO, LAST, MALFORMED_STEP, WRONG_END};
 use reference::{limits, Refusal};
 use std::fmt::Debug;
@@ -22,6 +22,9 @@ struct Tally {
     call: &'static str,
     answered: usize,
     refused: [usize; LAST + 1],
+    /// Doublings at two positions in plans that were accepted: of equal values added, of opposite ones
+    /// subtracted.
+    hidden: [usize; 2],
 }
 
 impl Tally {
@@ -30,6 +33,7 @@ impl Tally {
             call,
             answered: 0,
             refused: [0; LAST + 1],
+            hidden: [0; 2],
         }
     }
 
@@ -71,6 +75,15 @@ impl Tally {
             );
         }
     }
+}
+
+/// Prints how many doublings were hidden. Without both kinds, what a check counts was not tested.
+fn print_hidden(hidden: [usize; 2]) {
+    println!(
+        "hidden doublings in accepted plans: {} of equal values added, {} of opposite values subtracted",
+        hidden[0], hidden[1]
+    );
+    assert!(hidden.iter().all(|&steps| steps > 0), "no hidden doublings");
 }
 
 /// Says what differed, and ends.
@@ -268,13 +281,18 @@ fn check_one(rng: &mut Rng, tally: &mut Tally, number: &[u8], plan: &[u8], room:
     let number = Lent::holding(rng, number);
     let plan = Lent::holding(rng, plan);
     let lent = Lent::noise(rng, room);
-    compare(
+    let answered = tally.answered;
+    let left = compare(
         tally,
         &[&number, &plan],
         &lent,
         |space| library::check(number.part(), plan.part(), space),
         |space| reference::check(number.part(), plan.part(), space),
     );
+    if tally.answered > answered {
+        let hidden = hidden_doublings(plan.part(), left.part());
+        tally.hidden = [tally.hidden[0] + hidden[0], tally.hidden[1] + hidden[1]];
+    }
 }
 
 fn check(cases: &mut Generator, rng: &mut Rng) -> Tally {
@@ -284,6 +302,11 @@ fn check(cases: &mut Generator, rng: &mut Rng) -> Tally {
         check_one(rng, &mut tally, &case.number, &case.plan, case.room);
     }
     damaged_steps(rng, &mut tally);
+    for place in 0..limits::VALUE_BITS {
+        let plan = one_bit_apart(place);
+        let room = lesmutka::work_space(plan.len() / lesmutka::STEP_BYTES);
+        check_one(rng, &mut tally, &[2], &plan, room);
+    }
     for number in padded() {
         // The plan of the number without these bytes, if there is one; part of a step; no step at all.
         let mut own = vec![0; lesmutka::PLAN_ROOM];
@@ -613,7 +636,9 @@ fn main() {
     read_back(cases, rng).print(&[4, 5, 6]);
     plan(cases, rng).print(&[1, 2, 3, 6, 13]);
     forecast(cases, rng).print(&[1, 2, 3, 13]);
-    check(cases, rng).print(&[1, 2, 7, 8, 9, 10, 11, 12, 13]);
+    let checks = check(cases, rng);
+    checks.print(&[1, 2, 7, 8, 9, 10, 11, 12, 13]);
+    print_hidden(checks.hidden);
     hexadecimal(rng).print(&[4]);
     decimal(rng).print(&[4]);
     read_digits(rng).print(&[6]);

@@ -39,8 +39,8 @@ pub fn check_step(step: Step, space: &mut [u8], n: usize) -> Checked
     let a = RECORD_BYTES * j;
     let b = RECORD_BYTES * k;
     let sign = space[a];
-    // What is added has the sign of the first value: equal values are added or opposite ones subtracted
-    // only here, and the sum is not zero.
+    // What is added has the sign of the first value: only here are equal values added or opposite ones
+    // subtracted, and the sum is not zero.
     if (sign ^ space[b]) == step.operation {
         let words = sum(space, a + 1, b + 1);
         if !is_small(words) {
@@ -50,7 +50,8 @@ pub fn check_step(step: Step, space: &mut [u8], n: usize) -> Checked
             };
         }
         store(space, RECORD_BYTES * i, sign, words);
-        // The sizes are loaded again: all words of two sizes would be more than there are registers.
+        // Compared after the store, and so loaded again: all words of two sizes would be more than there
+        // are registers.
         return Checked {
             verdict: Verdict::Passed,
             doubling: same_size(space, a + 1, b + 1),

@@ -14,8 +14,8 @@ use Rattle.chains.specs.Steps.{Step, add}
 use Rattle.chains.specs.Values.{at, start, valuesOf}
 use Rattle.chains.specs.Sound.{stepAt, WellFormed, Representable, Sound}
 use Rattle.chains.proofs.Values.{valuesAfter, length-after, after-none, after-all, after-more, value-at}
-use Rattle.step_checking.specs.Verdicts.{stepVerdict}
-use Rattle.step_checking.proofs.Tested.{Tested, passed, tested, tested-only}
+use Rattle.step_values.specs.Verdicts.{stepVerdict}
+use Rattle.step_values.proofs.Tested.{Tested, passed, tested, tested-only}
 use Rattle.checking.specs.Check.{Judged, judge}
 
 -- ---- the step after n others, with the values of the positions below its own

@@ -21,7 +21,7 @@ use Rattle.chains.specs.Values.{at, start, valuesOf, endOf}
 use Rattle.chains.specs.Sound.{stepAt, WellFormed, Sound}
 use Rattle.chains.specs.Counts.{countsOf}
 use Rattle.records.specs.Recording.{recorded}
-use Rattle.step_checking.proofs.Tested.{Tested, malformed, value-is-zero, value-too-large}
+use Rattle.step_values.proofs.Tested.{Tested, malformed, value-is-zero, value-too-large}
 use Rattle.checking.specs.Check.{roomFor, admission, Judged, judge, judged, stepsVerdict, checkAnswer, checkSpace, endVerdict}
 use Rattle.checking.proofs.Admission.{Checkable, Admits, number-refused, plan-length, space-too-short, checkable, admits, admits-only}
 use Rattle.checking.proofs.Judge.{SoundTo, Judges, sound, stops, judges, judges-only}

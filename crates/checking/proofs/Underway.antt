@@ -20,7 +20,7 @@ use Rattle.chains.specs.Counts.{isDoubling, countsOf}
 use Rattle.chains.proofs.Counts.{doubling-after}
 use Rattle.chains.proofs.Values.{valuesAfter, length-values, length-after, after-none, after-all, after-more}
 use Rattle.chains.proofs.Bytes.{length-steps, step-at}
-use Rattle.step_checking.specs.Verdicts.{stepVerdict, grown, StepChecked}
+use Rattle.step_values.specs.Verdicts.{stepVerdict, grown, StepChecked}
 use Rattle.records.specs.Recording.{Recording}
 use Rattle.work_space.specs.End.{EndsAt}
 use Rattle.checking.specs.Check.{admission, judge, judged, stepsVerdict, checkAnswer, checkSpace}

@@ -19,7 +19,7 @@ use Rattle.numbers.specs.Admission.{positiveVerdict}
 use Rattle.chains.specs.Steps.{Step, stepsOf}
 use Rattle.chains.specs.Values.{at, start, stepValue}
 use Rattle.chains.specs.Counts.{countsOf}
-use Rattle.step_checking.specs.Verdicts.{stepVerdict}
+use Rattle.step_values.specs.Verdicts.{stepVerdict}
 use Rattle.records.specs.Recording.{recorded}
 
 -- ---- before the steps: 1, 13, 2, 7, 8

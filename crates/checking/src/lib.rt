@@ -44,7 +44,7 @@ pub fn check(number: &[u8], plan: &[u8], space: &mut [u8]) -> Counted
     }
     begin(space);
     let steps = plan.len() / STEP_BYTES;
-    // Two numbers are kept of the counts, and the third is what is left.
+    // Kept are the doublings, and all steps but the additions; the other counts follow at the end.
     let mut doublings = 0;
     let mut not_additions = 0;
     let mut n = 0;

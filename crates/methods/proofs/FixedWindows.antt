@@ -37,7 +37,7 @@ length-multiples n = length-table (λ i. 0) n
 multiples-holds : (n : ℕ) → Small (suc n) → (p : ℕ) → p ≤ n → Holds (multiplied n p) (suc p)
 multiples-holds = table-holds (λ i. 0) suc refl (λ n. omega arith) (λ n. omega arith)
 
-pub multiples-counts : (n : ℕ) → positionCounts (multiples n) ≡ tableCounts n
+multiples-counts : (n : ℕ) → positionCounts (multiples n) ≡ tableCounts n
 multiples-counts = table-counts (λ i. 0) refl (λ n. omega arith)
 
 -- ---- the windows

@@ -126,8 +126,8 @@ pub fn distance_between(space: &[u8], a: usize, b: usize) -> Distance
     }
 }
 
-// Whether the sizes whose bytes stand at `a` and `b` are the same. Without a branch, so that the loop
-// can be unrolled.
+// Whether the sizes whose bytes stand at `a` and `b` are the same. Without leaving early: which steps
+// of a plan double cannot be predicted.
 pub fn same_size(space: &[u8], a: usize, b: usize) -> bool
     requires { ⌜ a + valueBytes ≤ length (now space) ⌝ }
     requires { ⌜ b + valueBytes ≤ length (now space) ⌝ }

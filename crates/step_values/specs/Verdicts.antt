@@ -1,16 +1,18 @@
 -- The verdict on one step, tested for 9 before 10 or 11 (docs/RULES.md, "Refusals"), and what it leaves in the work space.
-use Prim.Native.Nat.{ℕ, _+_}
+use Prim.Native.Nat.{ℕ, _+_, _*_}
 use Rattle.chains.specs.Steps.{Step, subtracting}
 use Rattle.chains.specs.Values.{stepValue}
+use Rattle.chains.specs.Sound.{WellFormed}
 use Rattle.chains.specs.Counts.{isDoubling}
-use Rattle.rules.specs.Limits.{valueBound}
+use Rattle.rules.specs.Limits.{valueBound, recordBytes}
 use Rattle.rules.specs.Outcome.{andThen}
 use Rattle.rules.specs.declared.Refusal.the-variants.{MalformedStep, ValueIsZero, ValueTooLarge}
 use Rattle.rules.specs.declared.Verdict.the-variants.{Passed, Failed}
 use Rattle.rules.specs.declared.Verdict.{Verdict}
+use lib.Bits.{bitXor}
 use lib.Dec.{ltb, eqb, leb}
 use lib.IntN.{ℤ, natAbs}
-use lib.ListN.{length}
+use lib.ListN.{length, getD}
 use mathlib.Core.Bool.{Bool, _&&_, cond}
 use mathlib.Core.List.{List, [], _∷_, _++_}
 use mathlib.Core.Path.{_≡_}
@@ -46,3 +48,14 @@ abbrev pub StepChecked : Step → ℕ → List ℕ → List ℕ → Verdict → 
 StepChecked s n here next r doubling =
     (lent : List ℕ) (values : List ℤ) → length values ≡ n + 1 → Recording lent here values
     → (r ≡ stepVerdict values s) × Recording lent next (grown r values (stepValue values s)) × (r ≡ Passed → doubling ≡ isDoubling values s)
+
+-- the step after n others is well formed, the records that it names stand at a and b, and it fills record i
+pub record Names (s : Step) (n a b i : ℕ) : Type 0 where
+  pub formed : WellFormed (n + 1) s
+  pub first : a ≡ recordBytes * s .first
+  pub second : b ≡ recordBytes * s .second
+  pub next : i ≡ n + 1
+
+-- the signs of two records against each other: the operation, where what is added has the sign of the first value
+abbrev pub signsAt : List ℕ → ℕ → ℕ → ℕ
+signsAt here a b = bitXor (getD here a 0) (getD here b 0)

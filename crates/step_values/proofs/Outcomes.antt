@@ -27,8 +27,8 @@ use Rattle.chains.specs.Records.{recordOf}
 use Rattle.records.specs.Recording.{Recording, sizeBytes, distanceOf}
 use Rattle.records.proofs.Recording.{has-record, recording-more}
 use Rattle.records.proofs.Records.{record-read}
-use Rattle.step_checking.specs.Verdicts.{isWellFormed, stepVerdict, StepChecked}
-use Rattle.step_checking.proofs.Tested.{value-is-zero, value-too-large, passed, size-zero, tested-only}
+use Rattle.step_values.specs.Verdicts.{isWellFormed, stepVerdict, StepChecked, signsAt}
+use Rattle.step_values.proofs.Tested.{value-is-zero, value-too-large, passed, size-zero, tested-only}
 
 -- ---- a step by its two values
 
@@ -72,10 +72,10 @@ failed-not-passed e = let z : _≡_ {A = ℕ} 0 1 = cc in omega arith
 
 -- ---- the sign and the size in record j
 
-abbrev pub signAt : List ℕ → ℕ → ℕ
+abbrev signAt : List ℕ → ℕ → ℕ
 signAt here j = getD here (recordBytes * j) 0
 
-abbrev pub sizeAt : List ℕ → ℕ → ℕ
+abbrev sizeAt : List ℕ → ℕ → ℕ
 sizeAt here j = bytesValue (sizeBytes here (recordBytes * j + 1))
 
 read : {lent here : List ℕ} {values : List ℤ} (j : ℕ) → Recording lent here values → j < length values → recordBytes * j + recordBytes ≤ length here
@@ -98,7 +98,7 @@ module _ (s : Step) (n : ℕ) (here : List ℕ) where
 
     -- the operation, where what is added has the first value's sign
     abbrev signs : ℕ
-    signs = bitXor (signAt here (s .first)) (signAt here (s .second))
+    signs = signsAt here (recordBytes * s .first) (recordBytes * s .second)
 
     record Values (values : List ℤ) : Type 0 where
       sign : signAt here (s .first) ≡ signOf (x values s)

@@ -17,7 +17,7 @@ use Rattle.rules.specs.declared.Verdict.the-variants.{Passed, Failed}
 use Rattle.chains.specs.Steps.{Step, subtracting}
 use Rattle.chains.specs.Values.{stepValue}
 use Rattle.chains.specs.Sound.{WellFormed, Representable}
-use Rattle.step_checking.specs.Verdicts.{isWellFormed, stepVerdict}
+use Rattle.step_values.specs.Verdicts.{isWellFormed, stepVerdict}
 
 -- what testing step i comes to, its value z: for 9 before 10 or 11
 pub data Tested (i : ℕ) (s : Step) (z : ℤ) : Verdict → Type 0 where

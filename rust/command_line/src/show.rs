@@ -135,7 +135,7 @@ impl<'a> Chain<'a> {
     }
 
     /// The chain as a graph for Graphviz: an arrow from each value that a step takes to the one that
-    /// it gives; dashed from the value that is subtracted, unless the step is a doubling.
+    /// it gives, dashed from the one that is subtracted. That from the first value of a doubling says so.
     fn put_graph(&self, out: &mut Vec<u8>) {
         out.extend_from_slice(b"digraph plan {\n    node [shape=box];\n");
         for (position, value) in self.values.iter().enumerate() {
@@ -152,20 +152,12 @@ impl<'a> Chain<'a> {
             let (Step::Add(j, k) | Step::Subtract(j, k)) = step;
             // Both positions are below that of a sound step.
             let is_doubling = step.is_doubling(self.values[usize::from(j)], self.values[usize::from(k)]);
+            arrow(j, if is_doubling { "double" } else { "+" });
             match step {
-                _ if is_doubling && j == k => arrow(j, "double"),
-                _ if is_doubling => {
-                    arrow(j, "double");
-                    arrow(k, "double");
-                }
-                Step::Add(..) => {
-                    arrow(j, "+");
-                    arrow(k, "+");
-                }
-                Step::Subtract(..) => {
-                    arrow(j, "+");
-                    arrow(k, "-\", style=\"dashed");
-                }
+                // The arrow is there.
+                _ if is_doubling && j == k => {}
+                Step::Add(..) => arrow(k, "+"),
+                Step::Subtract(..) => arrow(k, "-\", style=\"dashed"),
             }
         }
         out.extend_from_slice(b"}\n");

@@ -487,7 +487,7 @@ fn hidden_doublings_shown() {
             [3, 0, 0],
             "    1 [label=\"1: 0x02\"];\n    0 -> 1 [label=\"double\"];\n    2 [label=\"2: 0x02\"];\n    \
              0 -> 2 [label=\"double\"];\n    3 [label=\"3: 0x04\"];\n    1 -> 3 [label=\"double\"];\n    \
-             2 -> 3 [label=\"double\"];\n}\n",
+             2 -> 3 [label=\"+\"];\n}\n",
         ),
         (
             "opposite-values.plan",
@@ -497,7 +497,7 @@ fn hidden_doublings_shown() {
             [2, 0, 1],
             "    1 [label=\"1: 0x02\"];\n    0 -> 1 [label=\"double\"];\n    2 [label=\"2: -0x01\"];\n    \
              0 -> 2 [label=\"+\"];\n    1 -> 2 [label=\"-\", style=\"dashed\"];\n    3 [label=\"3: 0x02\"];\n    \
-             0 -> 3 [label=\"double\"];\n    2 -> 3 [label=\"double\"];\n}\n",
+             0 -> 3 [label=\"double\"];\n    2 -> 3 [label=\"-\", style=\"dashed\"];\n}\n",
         ),
     ] {
         let plan = &stored_files()[name];

@@ -129,8 +129,8 @@ impl Step {
         [operation, j[0], j[1], k[0], k[1]]
     }
 
-    /// Whether it doubles, where these values stand at its two positions: it adds equal values or
-    /// subtracts opposite ones. [`check`](crate::check) counts by it.
+    /// Whether it is a doubling, where these values stand at its two positions: it adds equal values or
+    /// subtracts opposite ones. [`check`](crate::check) counts by the same rule.
     ///
     /// ```
     /// use lesmutka::{check, read_steps, records, Step, PLAN_ROOM};
@@ -145,8 +145,9 @@ impl Step {
     /// # Ok::<(), lesmutka::Refusal>(())
     /// ```
     pub fn is_doubling(self, first: Value<'_>, second: Value<'_>) -> bool {
-        let is_same_sign = first.is_negative == second.is_negative;
-        first.size == second.size && is_same_sign == matches!(self, Step::Add(..))
+        // Zero, which no sound plan has, is its own opposite.
+        let is_sign_right = (first.is_negative == second.is_negative) == matches!(self, Step::Add(..));
+        first.size == second.size && (is_sign_right || first.size.is_empty())
     }
 }
 

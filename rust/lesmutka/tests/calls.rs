@@ -537,6 +537,8 @@ fn which_steps_double() {
                 assert!(subtract.is_doubling(first, second));
             }
         }
+        assert!(add.is_doubling(plus(&[]), plus(&[])) && subtract.is_doubling(plus(&[]), plus(&[])));
+        assert!(!add.is_doubling(plus(&[]), plus(&[1])) && !subtract.is_doubling(plus(&[]), plus(&[1])));
         // Sizes that differ in the lowest byte, in the highest, in one between, in length.
         for (size, other) in [
             (&[1][..], &[2][..]),

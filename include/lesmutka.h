@@ -234,7 +234,7 @@ typedef struct {
 } lesmutka_value;
 
 /* How many steps a plan has of each kind: an add step whose values are equal, and a subtract step
- * whose values are opposite, a(j) = -a(k), is a doubling; any other add step is an addition, any
+ * whose values are opposite, a(j) = -a(k), are doublings; any other add step is an addition, any
  * other subtract step a subtraction. Values decide, not positions: if two points are equal, the
  * addition formula of the curve divides by zero, and the doubling formula has to be used. */
 typedef struct {

@@ -9,7 +9,7 @@ use crate::refusal::*;
 use crate::{words, Counts};
 
 /// The value at a position of the chain.
-#[derive(Clone, Copy, PartialEq)]
+#[derive(Clone, Copy)]
 struct Value {
     negative: bool,
     size: [u64; VALUE_WORDS],
@@ -55,6 +55,12 @@ impl Value {
                 size: words::subtract(&self.size, &other.size),
             },
         }
+    }
+
+    fn is_same(&self, other: &Value) -> bool {
+        let pairs = self.size.iter().zip(&other.size);
+        let differing = pairs.fold(0, |bits, (a, b)| bits | (a ^ b));
+        (self.negative == other.negative) & (differing == 0)
     }
 
     /// Whether the size has more bits than a value may.
@@ -103,12 +109,12 @@ pub fn check(number: &[u8], plan: &[u8], space: &mut [u8]) -> Result<Counts, Ref
         value.store(space, i);
 
         // With the second sign turned where it subtracts, a step of either operation doubles if its
-        // values are equal. None is zero, so each has one sign.
-        match operation {
-            _ if left == right => counts.doublings += 1,
-            ADD => counts.additions += 1,
-            _ => counts.subtractions += 1,
-        }
+        // values are equal. None is zero, so each has one sign. No branch: it could not be predicted.
+        let is_doubling = left.is_same(&right);
+        let is_addition = operation == ADD && !is_doubling;
+        counts.doublings += usize::from(is_doubling);
+        counts.additions += usize::from(is_addition);
+        counts.subtractions += usize::from(!is_doubling && !is_addition);
     }
 
     // The sign counts too: minus the number is refused.

@@ -1,4 +1,4 @@
--- The counts of a plan, by the values that its steps take: an add step of equal values and a subtract step of opposite ones are doublings, wherever
+-- The counts of a plan, by the values that its steps take: an add step of equal values and a subtract step of opposite ones are doublings, whatever
 -- their positions are; any other add step is an addition, any other subtract step a subtraction.
 use Prim.Native.Nat.{ℕ, _+_, _<_}
 use mathlib.Core.Path.{_≡_}
@@ -46,7 +46,7 @@ sumCounts f (s ∷ steps) = plus (f s) (sumCounts f steps)
 unfoldable pub countsOf : List Step → Counts
 countsOf steps = sumCounts (stepCounts (valuesOf steps)) steps
 
--- A hidden doubling (source document 000) is one at two positions. A step hides none if values at different positions that it adds are different, and
+-- A hidden doubling (source document 000) is one at two different positions. A step hides none if values at different positions that it adds are different, and
 -- values that it subtracts are not opposite.
 pub record HidesNone (values : List ℤ) (s : Step) : Type 0 where
   pub sums : s .operation ≡ adding → s .first ≢ s .second → at values (s .first) ≢ at values (s .second)

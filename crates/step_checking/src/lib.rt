@@ -29,7 +29,8 @@ pub fn check_step(step: Step, space: &mut [u8], n: usize) -> Checked
     }
     let a = RECORD_BYTES * j;
     let b = RECORD_BYTES * k;
-    // What is added is the second value, or its opposite if the step subtracts.
+    // Whether what is added, the second value or its opposite if the step subtracts, has the sign of the
+    // first.
     if (space[a] ^ space[b]) == step.operation {
         return sum_step(space, a, b, i);
     }

@@ -56,6 +56,6 @@ pub record Names (s : Step) (n a b i : ℕ) : Type 0 where
   pub second : b ≡ recordBytes * s .second
   pub next : i ≡ n + 1
 
--- the signs of two records against each other: the operation, where what is added has the sign of the first value
+-- two sign bytes combined: this is the operation exactly where what is added has the sign of the first value
 abbrev pub signsAt : List ℕ → ℕ → ℕ → ℕ
 signsAt here a b = bitXor (getD here a 0) (getD here b 0)

@@ -1,4 +1,4 @@
-// The value of a step whose form is tested: past refusal 9, refusals 10 and 11.
+// The value of a step that is well formed: refusals 10 and 11, its record, and whether it is a doubling.
 use chain_values::is_small;
 use chain_values::is_zero;
 use records::distance_between;
@@ -22,8 +22,9 @@ pub struct Checked {
     pub doubling: bool,
 }
 
-// The step that adds two values of one sign: it may be a doubling, and its value is not zero, since
-// neither is.
+// The step whose records stand at `a` and `b` and which fills record i, where what is added, the second
+// value or its opposite if the step subtracts, has the sign of the first value. It may be a doubling; its
+// value is not zero, since neither of the two is.
 pub fn sum_step(space: &mut [u8], a: usize, b: usize, i: usize) -> Checked
     requires { ⌜ (a + recordBytes ≤ length (now space)) × (b + recordBytes ≤ length (now space)) × (recordBytes * i + recordBytes ≤ length (now space)) ⌝ }
     ensures { λ r. ⌜ ((s : Step) (n : ℕ) → Names s n a b i → signsAt (now (space .entry)) a b ≡ s .operation → StepChecked s n (now (space .entry)) (now (space .exit)) (r .verdict) (r .doubling)) ⌝ }
@@ -44,8 +45,8 @@ pub fn sum_step(space: &mut [u8], a: usize, b: usize, i: usize) -> Checked
     }
 }
 
-// The step that adds two values of opposite signs: it is no doubling, and its value is below the bound,
-// since both are.
+// The same where what is added has the other sign: no doubling, and its value is below the bound, since
+// both sizes are.
 pub fn difference_step(space: &mut [u8], a: usize, b: usize, i: usize) -> Checked
     requires { ⌜ (a + recordBytes ≤ length (now space)) × (b + recordBytes ≤ length (now space)) × (recordBytes * i + recordBytes ≤ length (now space)) ⌝ }
     ensures { λ r. ⌜ ((s : Step) (n : ℕ) → Names s n a b i → signsAt (now (space .entry)) a b ≢ s .operation → StepChecked s n (now (space .entry)) (now (space .exit)) (r .verdict) (r .doubling)) ⌝ }

@@ -135,7 +135,8 @@ impl<'a> Chain<'a> {
     }
 
     /// The chain as a graph for Graphviz: an arrow from each value that a step takes to the one that
-    /// it gives, dashed from the one that is subtracted. That from the first value of a doubling says so.
+    /// it gives, dashed from the one that is subtracted. The arrow from the first value of a doubling
+    /// is labelled `double`.
     fn put_graph(&self, out: &mut Vec<u8>) {
         out.extend_from_slice(b"digraph plan {\n    node [shape=box];\n");
         for (position, value) in self.values.iter().enumerate() {
@@ -154,7 +155,7 @@ impl<'a> Chain<'a> {
             let is_doubling = step.is_doubling(self.values[usize::from(j)], self.values[usize::from(k)]);
             arrow(j, if is_doubling { "double" } else { "+" });
             match step {
-                // The arrow is there.
+                // One arrow stands for both.
                 _ if is_doubling && j == k => {}
                 Step::Add(..) => arrow(k, "+"),
                 Step::Subtract(..) => arrow(k, "-\", style=\"dashed"),

@@ -57,6 +57,7 @@ impl Value {
         }
     }
 
+    /// Compares all words, without leaving early.
     fn is_same(&self, other: &Value) -> bool {
         let pairs = self.size.iter().zip(&other.size);
         let differing = pairs.fold(0, |bits, (a, b)| bits | (a ^ b));
@@ -111,10 +112,10 @@ pub fn check(number: &[u8], plan: &[u8], space: &mut [u8]) -> Result<Counts, Ref
         // With the second sign turned where it subtracts, a step of either operation doubles if its
         // values are equal. None is zero, so each has one sign. No branch: it could not be predicted.
         let is_doubling = left.is_same(&right);
-        let is_addition = operation == ADD && !is_doubling;
+        let is_addition = (operation == ADD) & !is_doubling;
         counts.doublings += usize::from(is_doubling);
         counts.additions += usize::from(is_addition);
-        counts.subtractions += usize::from(!is_doubling && !is_addition);
+        counts.subtractions += usize::from(!is_doubling & !is_addition);
     }
 
     // The sign counts too: minus the number is refused.

@@ -24,7 +24,7 @@ pub use refusal::Refusal;
 /// How many steps of each kind a plan has.
 ///
 /// An add step whose two values are equal and a subtract step whose two values
-/// are opposite are doublings, wherever these values stand. Any other add step
+/// are opposite are doublings, whatever their positions are. Any other add step
 /// is an addition, any other subtract step is a subtraction.
 #[derive(Clone, Copy, PartialEq, Eq, Debug)]
 pub struct Counts {

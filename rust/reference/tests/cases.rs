@@ -110,7 +110,7 @@ fn highest_bytes_of_zero_are_stored() {
     }
 }
 
-/// A doubling adds equal values or subtracts opposite ones, wherever they stand (docs/RULES.md, 3.7).
+/// A doubling adds equal values or subtracts opposite ones, whatever its positions are (docs/RULES.md, 3.7).
 #[test]
 fn hidden_doublings_are_stored() {
     let fields = |stored: &Stored| [0, 1, 2, 3, 4].map(|index| stored.field(index));

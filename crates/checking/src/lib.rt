@@ -60,10 +60,12 @@ pub fn check(number: &[u8], plan: &[u8], space: &mut [u8]) -> Counted
         n += 1;
     }
     if ends_at(number, space, steps) {
+        let additions = steps - not_additions;
+        let subtractions = not_additions - doublings;
         return Counted::Steps(Counts {
             doublings,
-            additions: steps - not_additions,
-            subtractions: not_additions - doublings,
+            additions,
+            subtractions,
         });
     }
     Counted::Refused(Refusal::WrongEnd(steps))

@@ -182,13 +182,13 @@ ended c =
     let e : at .loop .n ≡ length (args .plan .now) / stepBytes = omega arith in
     rw e at (underway-end (args .number .now) (args .plan .now) (args .space .now) (at .loop .space) (at .loop .n) (underway at) e {t = c .ends-at .result} (rw e (c .ends-at .ensures)))
 
-sub-t28 : tie.Need-sub-t28 Inv-loop μ-loop
-sub-t28 c =
+sub-additions : tie.Need-sub-additions Inv-loop μ-loop
+sub-additions c =
     let at : tie.At-loop Inv-loop μ-loop = search in
     omega (arith, holding-few (at .before .before .before .before .before .before .before .before .before .before .before .args .plan .now) (at .loop .n) _ _ (at .loop .inv .2) (at .loop .inv .0))
 
-sub-t29 : tie.Need-sub-t29 Inv-loop μ-loop
-sub-t29 c =
+sub-subtractions : tie.Need-sub-subtractions Inv-loop μ-loop
+sub-subtractions c =
     let at : tie.At-loop Inv-loop μ-loop = search in
     omega (arith, holding-few (at .before .before .before .before .before .before .before .before .before .before .before .args .plan .now) (at .loop .n) _ _ (at .loop .inv .2) (at .loop .inv .0))
 
@@ -245,8 +245,8 @@ check-spec =
     loop-less
     loop-again
     ends-at-requires
-    sub-t28
-    sub-t29
+    sub-additions
+    sub-subtractions
     same-length-2
     returns-3
     same-length-3

@@ -17,7 +17,7 @@ use Rattle.methods.specs.declared.Method.{Method}
 use Rattle.methods.specs.declared.Chosen.{Chosen}
 use Rattle.methods.specs.Method.{methodOf, stepsBy}
 use Rattle.methods.proofs.Laws.{Fit, plannable}
-use Rattle.methods.proofs.Every.{is-allowed, every-fit}
+use Rattle.methods.proofs.Every.{is-allowed, every-fit, every-unhidden}
 use Rattle.planning.specs.Plan.{forecastAnswer, planAnswer}
 use Rattle.planning.proofs.Promises.{forecast-answers, plan-answers}
 use Rattle.checking.specs.Check.{checkAnswer, roomFor}
@@ -47,19 +47,22 @@ module _ (number : List ℕ) (bytes : Below 256 number) (positive : Positive num
 
   -- the plan read back is those steps
   read-steps : stepsOf plan ≡ steps
-  read-steps = steps-of-plan steps (λ n h. let s = fit .made .sound .formed n h in record { first = omega (arith, s .first, few-steps); second = omega (arith, s .second, few-steps) })
+  read-steps = steps-of-plan steps (λ n h. let s = fit .sound .formed n h in record { first = omega (arith, s .first, few-steps); second = omega (arith, s .second, few-steps) })
 
   -- given work space enough, check accepts it with the same counts
   pub accepted : (room : ℕ) → roomFor (length plan) ≤ room → countedOutcome (checkAnswer number plan room) ≡ answered (countValues (countsOf steps))
   accepted room h =
       let e = length-plan steps in
       accepts number plan room (countValues (countsOf steps)) .1
-      (record { positive = positive; whole = omega arith; few = omega (arith, few-steps); fits = h }, rw read-steps (fit .made .sound), rw read-steps (fit .made .end), ap (λ (l : List Step). countValues (countsOf l)) (sym read-steps))
+      (record { positive = positive; whole = omega arith; few = omega (arith, few-steps); fits = h }, rw read-steps (fit .sound), rw read-steps (fit .end), ap (λ (l : List Step). countValues (countsOf l)) (sym read-steps))
 
   -- no step of it is a hidden doubling
+  unhidden : NoHiddenDoubling steps
+  unhidden = every-unhidden m (bytesValue number) (is-allowed method width asked) (plannable number bytes positive .some)
+
   pub no-hidden-doubling : NoHiddenDoubling (stepsOf plan)
-  no-hidden-doubling = rw read-steps (fit .made .unhidden)
+  no-hidden-doubling = rw read-steps unhidden
 
   -- so positions would give the counts that forecast, plan and check answer
   pub counts-by-positions : countsOf steps ≡ positionCounts steps
-  counts-by-positions = unhidden-counts steps (fit .made .unhidden)
+  counts-by-positions = unhidden-counts steps unhidden

@@ -25,11 +25,11 @@ use Rattle.methods.specs.Tables.{tableCounts}
 use Rattle.methods.specs.OddMultiples.{oddTable, oddPosition, tableLength}
 use Rattle.methods.specs.SlidingWindows.{longest, windowValue, slide, scanFrom, slidingWindowSteps}
 use Rattle.methods.specs.Forecast.{laterWindows, scanCounts, slidingWindowCounts}
-use Rattle.chains.proofs.Counts.{positions-counted}
-use Rattle.methods.proofs.Laws.{Plannable, length-followed, length-doubled}
+use Rattle.chains.proofs.Counts.{length-counted}
+use Rattle.methods.proofs.Laws.{length-followed, length-doubled}
 use Rattle.methods.proofs.Tables.{no-subtractions}
 use Rattle.methods.proofs.OddMultiples.{odd-length, Entry}
-use Rattle.methods.proofs.SlidingWindows.{scan-fuel, slide-grows, belowWindow, top, longest-window, window-entry, first-window, first-value, whole-entry, entry-whole, entry-or-scan, sliding-short, sliding-positions, sliding-counts}
+use Rattle.methods.proofs.SlidingWindows.{scan-fuel, slide-grows, belowWindow, top, longest-window, window-entry, first-window, first-value, whole-entry, entry-whole, entry-or-scan, sliding-short, sliding-counts}
 use Rattle.plan_writing.proofs.Underway.{Unfinished, finished}
 use Rattle.plan_writing.specs.declared.Cursor.{Cursor}
 use Rattle.plan_writing.specs.Writing.{Writing}
@@ -224,12 +224,9 @@ module _ (e d : ℕ) (some : 0 < e) (wide : 1 ≤ d) where
 
     -- the counts, and that they are few
     module _ (t : Counts) (windows : ℕ) (table : t ≡ tableCounts (s .table)) (later : windows ≡ laterWindows e d (s .below) (s .below)) where
-      so-many : slidingWindowCounts e d ≡ counts (t .doublings + s .below) (t .additions + windows) 0
-      so-many = rw (table, later, start ∙ started) (by-start .1)
-
-      pub counted : Plannable e → d ≤ slidingWindowBits → counts (t .doublings + s .below) (t .additions + windows) 0 ≡ countsOf (slidingWindowSteps e d)
-      counted plannable narrow = sym (sliding-counts e d plannable wide narrow ∙ so-many)
+      pub counted : counts (t .doublings + s .below) (t .additions + windows) 0 ≡ countsOf (slidingWindowSteps e d)
+      counted = sym (sliding-counts e d some wide ∙ rw (table, later, start ∙ started) (by-start .1))
 
       pub few : (n : ℕ) → bitLength e ≤ n → d ≤ slidingWindowBits → (t .doublings + s .below) + (t .additions + windows) ≤ 2 ^ slidingWindowBits + 2 * n
       few n h narrow =
-          omega (arith, ap total so-many, ap total (sliding-positions e d some wide), positions-counted (slidingWindowSteps e d), sliding-short e d some wide, pow-mono {i = d} {j = slidingWindowBits} narrow)
+          omega (arith, ap total counted, length-counted (slidingWindowSteps e d), sliding-short e d some wide, pow-mono {i = d} {j = slidingWindowBits} narrow)

@@ -2,7 +2,7 @@
 use mathlib.Core.Path.{_≡_, refl, _∙_}
 use Prim.Native.Nat.{ℕ, zero, suc, _+_, _*_, _-_, _/_, _%_, _^_, _<_, _≤_}
 use native.Mathlib.Decide.{decLt}
-use native.Mathlib.Nat.{sub-self, sub-zero}
+use native.Mathlib.Nat.{sub-self, sub-zero, lt-suc-self}
 use native.Mathlib.Numerals.{add-one}
 use native.Mathlib.Omega.{arith}
 use lib.Arith.{bin-ind}
@@ -11,14 +11,14 @@ use lib.Count.{ones, onesIn, ones-step}
 use lib.Pow.{shr-shr}
 use Rattle.rules.specs.Limits.{planSteps}
 use Rattle.chains.specs.Steps.{add}
-use Rattle.chains.specs.Counts.{counts, sumCounts, countsOf}
+use Rattle.chains.specs.Counts.{counts, sumCounts, countsOf, NoHiddenDoubling}
 use Rattle.chains.proofs.Counts.{positionCounts, unhidden-counts}
 use Rattle.methods.specs.PartialPlan.{PartialPlan, none, double, downFrom}
 use Rattle.integers.specs.Bits.{bit, bitLength}
 use Rattle.methods.specs.Binary.{atBit, binarySteps}
-use Rattle.integers.proofs.Bits.{top-bit, above-top, place-down, bit-small, quotient-none}
+use Rattle.integers.proofs.Bits.{top-bit, above-top, place-down, bit-small, quotient-le, quotient-none}
 use Rattle.methods.proofs.Counted.{countsIn, counts-double, counts-add, not-before}
-use Rattle.methods.proofs.Laws.{Small, small-below, quotient-small, Holds, Made, Fit, Plannable, plannable-small, none-holds, one-stands, double-holds, double-add, latest-followed, length-followed, down-from, made}
+use Rattle.methods.proofs.Laws.{Holds, Made, Fit, fit, Plannable, plannable-below, none-holds, one-stands, double-holds, double-add, latest-followed, length-followed, down-from, made}
 
 ones-place : (e i : ℕ) → e / 2 ^ i % 2 + ones (e / 2 ^ i / 2) ≡ bit e i + ones (e / 2 ^ suc i)
 unfolding bit
@@ -42,14 +42,14 @@ length-at-bit (suc zero) b h = omega (arith, length-followed b (add (b .latest) 
 length-at-bit (suc (suc x)) b h = absurd (omega arith)
 
 -- Above place i: the latest holds the bits from i on. Each bit below the top took a doubling, and an addition where it is 1.
-record Above (e i : ℕ) (b : PartialPlan) : Type 0 where
-  holds : Holds b (e / 2 ^ i)
+record Above (limit e i : ℕ) (b : PartialPlan) : Type 0 where
+  holds : Holds limit b (e / 2 ^ i)
   latest : b .latest ≡ length (b .steps)
   few : length (b .steps) + 2 * i ≤ 2 * (bitLength e - 1)
   counted : countsIn b ≡ counts (bitLength e - 1 - i) (ones (e / 2 ^ i) - 1) 0
 
-module _ (e : ℕ) (some : 0 < e) (small : Small e) where
-  at-bit : (i x : ℕ) (b : PartialPlan) → i < bitLength e - 1 → bit e i ≡ x → Above e (suc i) b → Above e i (atBit x b)
+module _ (e : ℕ) (some : 0 < e) {limit : ℕ} (small : e < limit) where
+  at-bit : (i x : ℕ) (b : PartialPlan) → i < bitLength e - 1 → bit e i ≡ x → Above limit e (suc i) b → Above limit e i (atBit x b)
   at-bit i x b l y a = go x y
     where
       v : ℕ
@@ -67,13 +67,13 @@ module _ (e : ℕ) (some : 0 < e) (small : Small e) where
       d : ℕ
       d = bitLength e - 1 - suc i
 
-      go : (x : ℕ) → bit e i ≡ x → Above e i (atBit x b)
+      go : (x : ℕ) → bit e i ≡ x → Above limit e i (atBit x b)
       go zero y =
           let q : e / 2 ^ i ≡ 2 * v = omega (arith, down) in
           let c : bitLength e - 1 - i ≡ d + 1 = omega arith in
           let o : ones (e / 2 ^ i) ≡ ones v = omega (arith, weight) in
           record {
-            holds = rw q (double-holds b v (a .holds) positive (rw q at (quotient-small e i small)));
+            holds = rw q (double-holds b v (a .holds) positive (omega (arith, quotient-le e i)));
             latest = latest-followed b (add (b .latest) (b .latest));
             few = omega (arith, a .few, length-followed b (add (b .latest) (b .latest)));
             counted = rw (c, o) (counts-double b d (ones v - 1) 0 (a .counted));
@@ -83,42 +83,43 @@ module _ (e : ℕ) (some : 0 < e) (small : Small e) where
           let c : bitLength e - 1 - i ≡ d + 1 = omega arith in
           let o : ones (e / 2 ^ i) - 1 ≡ ones v - 1 + 1 = omega (arith, weight, ones-positive v positive) in
           record {
-            holds = rw q (double-add b 0 v 1 (a .holds) (one-stands b) (omega arith) positive (rw q at (quotient-small e i small)));
+            holds = rw q (double-add b 0 v 1 (a .holds) (one-stands b) (omega arith) positive (omega (arith, quotient-le e i)));
             latest = latest-followed (double b) (add (double b .latest) 0);
             few = omega (arith, a .few, length-followed b (add (b .latest) (b .latest)), length-followed (double b) (add (double b .latest) 0));
             counted = rw (c, o) (counts-add (double b) (d + 1) (ones v - 1) 0 (counts-double b d (ones v - 1) 0 (a .counted)) 0 (not-before b (add (b .latest) (b .latest)) 0 (omega arith)));
           }
       go (suc (suc x)) y = absurd (omega (arith, bit-small e i))
 
-  all : Above e 0 (downFrom (λ i b. atBit (bit e i) b) (bitLength e - 1) none)
+  all : Above limit e 0 (downFrom (λ i b. atBit (bit e i) b) (bitLength e - 1) none)
   all =
       let t = top-bit e some in
-      down-from (Above e) (λ i b. atBit (bit e i) b) (bitLength e - 1) none (λ i b l a. at-bit i (bit e i) b l refl a)
+      down-from (Above limit e) (λ i b. atBit (bit e i) b) (bitLength e - 1) none (λ i b l a. at-bit i (bit e i) b l refl a)
       (record { holds = rw t none-holds; latest = refl; few = omega arith; counted = rw (sub-self (bitLength e - 1), t) none-counted })
 
-  pub binary-made : Made (binarySteps e) e
+  pub binary-made : Made limit (binarySteps e) e
   unfolding binarySteps
   binary-made = rw (quotient-none e) at (made _ (e / 2 ^ 0) (all .holds) (all .latest))
+
+module _ (e : ℕ) (some : 0 < e) where
+  pub binary-unhidden : NoHiddenDoubling (binarySteps e)
+  binary-unhidden = binary-made e some (lt-suc-self e) .unhidden
 
   -- at most two steps for each bit below the top
   pub binary-short : length (binarySteps e) ≤ 2 * (bitLength e - 1)
   unfolding binarySteps
-  binary-short = omega (arith, all .few)
+  binary-short = omega (arith, all e some (lt-suc-self e) .few)
 
   binary-positions : positionCounts (binarySteps e) ≡ counts (bitLength e - 1) (ones e - 1) 0
   unfolding binarySteps
-  binary-positions = rw (quotient-none e, sub-zero) at (all .counted)
+  binary-positions = rw (quotient-none e, sub-zero) at (all e some (lt-suc-self e) .counted)
 
   -- the bit length less one, and the ones less one
   pub binary-counts : countsOf (binarySteps e) ≡ counts (bitLength e - 1) (ones e - 1) 0
-  binary-counts = unhidden-counts (binarySteps e) (binary-made .unhidden) ∙ binary-positions
+  binary-counts = unhidden-counts (binarySteps e) binary-unhidden ∙ binary-positions
 
 module _ (e : ℕ) (plannable : Plannable e) where
-  small : Small e
-  small = small-below e (e + 1) (omega arith) (plannable-small plannable)
-
   pub binary-few : length (binarySteps e) ≤ planSteps
-  binary-few = omega (arith, binary-short e (plannable .some) small, plannable .bits)
+  binary-few = omega (arith, binary-short e (plannable .some), plannable .bits)
 
   pub binary-fit : Fit (binarySteps e) e
-  binary-fit = record { made = binary-made e (plannable .some) small; few = binary-few }
+  binary-fit = fit (binarySteps e) e (binary-made e (plannable .some) (plannable-below plannable)) binary-few

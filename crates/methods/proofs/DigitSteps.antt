@@ -19,7 +19,7 @@ use Rattle.methods.specs.Tables.{tableCounts}
 use Rattle.methods.specs.OddMultiples.{oddSecond, oddPosition}
 use Rattle.methods.specs.DigitSteps.{atDigit, atTop, digitSteps}
 use Rattle.methods.specs.Forecast.{isPlus, isMinus, plusDigits, minusDigits}
-use Rattle.methods.proofs.Laws.{Small, small-below, Holds, Stands, Made, double-holds, double-add, double-subtract, stands-followed, latest-followed, length-followed, down-from, made}
+use Rattle.methods.proofs.Laws.{Holds, Stands, Made, double-holds, double-add, double-subtract, stands-followed, latest-followed, length-followed, down-from, made}
 use Rattle.methods.proofs.Counted.{countsIn, counts-double, counts-add, counts-subtract, not-before}
 use Rattle.methods.proofs.Tables.{tabled, table-total, no-subtractions}
 use Rattle.methods.proofs.OddMultiples.{odd-length, tableValue, odd-counts, InTable, entry-holds}
@@ -42,14 +42,14 @@ signs-le (negsuc n ∷ ds) = omega (arith, signs-le ds)
 abbrev pub valueFrom : List ℤ → ℕ → ℕ
 valueFrom ds i = positivePart (value (drop i ds))
 
--- A string whose steps can follow n steps of the table. Each value from a place on is above zero and small, and so is that from which a digit below
--- zero is subtracted. The table has each digit that is not 0, and ends at a digit that is the whole string.
-pub record Suited (n : ℕ) (ds : List ℤ) : Type 0 where
+-- A string whose steps can follow n steps of the table. Each value from a place on is above zero and below the limit, and so is that from which a
+-- digit below zero is subtracted. The table has each digit that is not 0, and ends at a digit that is the whole string.
+pub record Suited (limit n : ℕ) (ds : List ℤ) : Type 0 where
   pub some : 0 < length ds
   pub positive : (i : ℕ) → i < length ds → 0 < valueFrom ds i
-  pub small : (i : ℕ) → i < length ds → Small (valueFrom ds i + negativePart (digitAt ds i))
+  pub small : (i : ℕ) → i < length ds → valueFrom ds i + negativePart (digitAt ds i) < limit
   pub entry : (i : ℕ) → i < length ds → digitAt ds i ≢ pos 0 → InTable n (natAbs (digitAt ds i))
-  pub table : Small (tableValue n)
+  pub table : tableValue n < limit
   pub single : length ds ≡ 1 → oddPosition (natAbs (digitAt ds 0)) ≡ n
 
 -- an integer above zero is its positive part
@@ -57,7 +57,7 @@ is-positive : (z : ℤ) → 0 < positivePart z → z ≡ pos (positivePart z)
 is-positive (pos v) h = refl
 is-positive (negsuc v) h = absurd (omega arith)
 
-module _ (n : ℕ) (ds : List ℤ) (suited : Suited n ds) where
+module _ {limit : ℕ} (n : ℕ) (ds : List ℤ) (suited : Suited limit n ds) where
   abbrev top : ℕ
   top = length ds - 1
 
@@ -85,7 +85,7 @@ module _ (n : ℕ) (ds : List ℤ) (suited : Suited n ds) where
   -- Above place i: the latest holds the value of the digits from i on, and the table stands. Each digit below the top took a doubling, and one step
   -- more where it is not 0.
   record Above (i : ℕ) (b : PartialPlan) : Type 0 where
-    holds : Holds b (valueFrom ds i)
+    holds : Holds limit b (valueFrom ds i)
     stands : (v : ℕ) → InTable n v → Stands b (oddPosition v) v
     latest : (i ≡ top → top ≡ 0) → b .latest ≡ length (b .steps)
     some : 1 ≤ plusDigits (drop i ds)
@@ -104,8 +104,8 @@ module _ (n : ℕ) (ds : List ℤ) (suited : Suited n ds) where
       more : tableCounts n .doublings + (top - i) ≡ tableCounts n .doublings + (top - suc i) + 1
       more = omega arith
 
-      small : (w : ℕ) → w ≤ valueFrom ds i + negativePart (digitAt ds i) → Small w
-      small w h = small-below w _ h (suited .small i (omega arith))
+      small : (w : ℕ) → w ≤ valueFrom ds i + negativePart (digitAt ds i) → w < limit
+      small w h = omega (arith, suited .small i (omega arith))
 
       positive : 0 < v
       positive = suited .positive (suc i) (omega arith)
@@ -163,7 +163,7 @@ module _ (n : ℕ) (ds : List ℤ) (suited : Suited n ds) where
       let some = suited .some in
       let d : natAbs (digitAt ds top) ≡ valueFrom ds top = ap natAbs top-above-zero in
       let positive = suited .positive top (omega arith) in
-      let holds : (v : ℕ) → InTable n v → Holds (tabled oddSecond n (oddPosition v)) v = λ v t. entry-holds n v (suited .table) t in
+      let holds : (v : ℕ) → InTable n v → Holds limit (tabled oddSecond n (oddPosition v)) v = λ v t. entry-holds n v (suited .table) t in
       record {
         holds = rw (← d) (holds (natAbs (digitAt ds top)) (suited .entry top (omega arith) (λ z. omega (arith, ap natAbs z))));
         stands = λ v t. record { filled = holds v t .within; value = holds v t .value };
@@ -175,7 +175,7 @@ module _ (n : ℕ) (ds : List ℤ) (suited : Suited n ds) where
   all : Above 0 (downFrom (λ i b. atDigit (digitAt ds i) b) top (atTop n ds))
   all = down-from Above (λ i b. atDigit (digitAt ds i) b) top (atTop n ds) (λ i b l a. at-digit i (digitAt ds i) b l refl a) at-top
 
-  pub digits-made : Made (digitSteps n ds) (positivePart (value ds))
+  pub digits-made : Made limit (digitSteps n ds) (positivePart (value ds))
   unfolding digitSteps
   digits-made = made _ _ (all .holds) (all .latest (λ e. sym e))
 

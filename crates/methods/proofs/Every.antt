@@ -1,4 +1,5 @@
--- Every method that is allowed: which they are, and that the steps are sound, end at the number, and are no more than a plan may have. Assumes nothing.
+-- Every method that is allowed: which they are, and that the steps are sound, end at the number, are no more than a plan may have, and hide no doubling.
+-- Assumes nothing.
 use mathlib.Core.Path.{_≡_, refl, sym}
 use mathlib.Core.Logic.{_↔_, ⊎-elim}
 use mathlib.Core.List.{List, [], _∷_, map, List·Memᴰ, List·Memᴰ·head, List·Memᴰ·tail, List·Memᴰ·not-nil, List·Memᴰ·cases-cons, List·Memᴰ·append-cases, Memᴰ·cast, Memᴰ·append-left, Memᴰ·append-right, Memᴰ·map, Memᴰ·of-map}
@@ -18,11 +19,11 @@ use Rattle.methods.specs.declared.Method.the-variants.{Binary, FixedWind
 use Rattle.methods.specs.declared.Chosen.{Chosen}
 use Rattle.methods.specs.Widths.{fixedWindowBits, slidingWindowBits}
 use Rattle.methods.specs.Method.{stepsBy, methodNumber, methodWidth, Entry, methods, within, numbered, methodOf, Allowed, countFrom, everyWidth, choices}
-use Rattle.methods.proofs.Laws.{Plannable, Fit, plannable-small, small-below}
-use Rattle.methods.proofs.Binary.{binary-fit, binary-short}
-use Rattle.methods.proofs.FixedWindows.{fixed-fit, fixed-short}
-use Rattle.methods.proofs.SlidingWindows.{sliding-fit, sliding-short}
-use Rattle.methods.proofs.NonAdjacentForm.{naf-fit, naf-short, naf-bits}
+use Rattle.methods.proofs.Laws.{Plannable, Fit}
+use Rattle.methods.proofs.Binary.{binary-fit, binary-short, binary-unhidden}
+use Rattle.methods.proofs.FixedWindows.{fixed-fit, fixed-short, fixed-unhidden}
+use Rattle.methods.proofs.SlidingWindows.{sliding-fit, sliding-short, sliding-unhidden}
+use Rattle.methods.proofs.NonAdjacentForm.{naf-fit, naf-short, naf-bits, naf-unhidden}
 
 -- ---- what two numbers ask for
 
@@ -145,10 +146,10 @@ every-fit Naf e a p = naf-fit e p
 -- ---- how many there are, over the bit length
 
 pub every-short : (m : Method) (e : ℕ) → Allowed m → Plannable e → length (stepsBy m e) ≤ 2 ^ methodWidth m + 2 * bitLength e
-every-short Binary e a p = omega (arith, binary-short e (p .some) (small-below e (e + 1) (omega arith) (plannable-small p)))
+every-short Binary e a p = omega (arith, binary-short e (p .some))
 every-short (FixedWindows d) e a p = omega (arith, fixed-short e d (p .some) (fixed-widths a .0))
 every-short (SlidingWindows d) e a p = omega (arith, sliding-short e d (p .some) (sliding-widths a .0))
-every-short Naf e a p = omega (arith, naf-short e (p .some) (plannable-small p), naf-bits e)
+every-short Naf e a p = omega (arith, naf-short e (p .some), naf-bits e)
 
 -- and that is below the limit
 pub every-below : (m : Method) (e : ℕ) → Allowed m → Plannable e → 2 ^ methodWidth m + 2 * bitLength e < planSteps
@@ -157,7 +158,10 @@ every-below (FixedWindows d) e a p = omega (arith, p .bits, pow-mono {i = d} {j 
 every-below (SlidingWindows d) e a p = omega (arith, p .bits, pow-mono {i = d} {j = slidingWindowBits} (sliding-widths a .1))
 every-below Naf e a p = omega (arith, p .bits)
 
--- ---- no doubling is hidden, whatever the method
+-- ---- no doubling is hidden, whatever the method and however large the number
 
-pub every-unhidden : (m : Method) (e : ℕ) → Allowed m → Plannable e → NoHiddenDoubling (stepsBy m e)
-every-unhidden m e a p = every-fit m e a p .made .unhidden
+pub every-unhidden : (m : Method) (e : ℕ) → Allowed m → 0 < e → NoHiddenDoubling (stepsBy m e)
+every-unhidden Binary e a some = binary-unhidden e some
+every-unhidden (FixedWindows d) e a some = fixed-unhidden e d some (fixed-widths a .0)
+every-unhidden (SlidingWindows d) e a some = sliding-unhidden e d some (sliding-widths a .0)
+every-unhidden Naf e a some = naf-unhidden e some

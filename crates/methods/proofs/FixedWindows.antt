@@ -3,7 +3,7 @@ use mathlib.Core.Path.{_≡_, refl, sym, ap, subst, _∙_}
 use mathlib.Core.Bool.{cond}
 use Prim.Native.Nat.{ℕ, zero, suc, _+_, _*_, _-_, _/_, _^_, _<_, _≤_}
 use borrow.Author.Tests.{ltb-true, ltb-false, lt-ltb, le-ltb}
-use native.Mathlib.Nat.{lt-of-not-le, not-le-of-lt, add-zero, add-mul, mul-zero, mul-suc, mul-le-mul-left, mul-le-mul-right, mod-lt, mul-div-le, lt-mul-div-succ, le-div-iff-mul-le, div-le-self}
+use native.Mathlib.Nat.{lt-of-not-le, not-le-of-lt, add-zero, add-mul, mul-zero, mul-suc, mul-le-mul-left, mul-le-mul-right, mod-lt, mul-div-le, lt-mul-div-succ, le-div-iff-mul-le, div-le-self, div-zero}
 use native.Mathlib.Omega.{arith}
 use lib.Dec.{ltb, eqb, eqb·suc-zero}
 use lib.ListN.{length}
@@ -11,7 +11,7 @@ use lib.Pow.{pow-pos, pow-mono, shr-shr, shr-mod, split}
 use Rattle.signed_digits.proofs.Parts.{cond-cases}
 use Rattle.rules.specs.Limits.{planSteps}
 use Rattle.chains.specs.Steps.{Step, add}
-use Rattle.chains.specs.Counts.{counts, countsOf, total}
+use Rattle.chains.specs.Counts.{counts, countsOf, total, NoHiddenDoubling}
 use Rattle.chains.proofs.Counts.{positionCounts, positions-counted, unhidden-counts}
 use Rattle.methods.specs.PartialPlan.{PartialPlan, doubled, downFrom}
 use Rattle.integers.specs.Bits.{bitLength}
@@ -21,7 +21,7 @@ use Rattle.methods.specs.Tables.{tableCounts}
 use Rattle.methods.specs.Forecast.{nonzeroWindows, fixedWindowCounts}
 use Rattle.integers.proofs.Bits.{bit-length-iff, above-top, quotient-le, quotient-none}
 use Rattle.methods.proofs.Counted.{countsIn, counts-add, counts-doubled, counts-cond, not-before-doubled}
-use Rattle.methods.proofs.Laws.{Small, small-below, power-small, Holds, Stands, Made, Fit, Plannable, plannable-small, stands-followed, stands-doubled, latest-followed, length-followed, length-doubled, latest-doubled, add-holds, doubled-holds, down-from, made}
+use Rattle.methods.proofs.Laws.{power-small, Holds, Stands, Made, Fit, fit, Plannable, plannable-below, stands-followed, stands-doubled, latest-followed, length-followed, length-doubled, latest-doubled, add-holds, doubled-holds, down-from, made}
 use Rattle.methods.proofs.Tables.{tabled, length-table, table-holds, table-counts, table-total, no-subtractions}
 
 -- ---- the multiples
@@ -34,7 +34,7 @@ pub length-multiples : (n : ℕ) → length (multiples n) ≡ n
 length-multiples n = length-table (λ i. 0) n
 
 -- value p + 1 stands at position p
-multiples-holds : (n : ℕ) → Small (suc n) → (p : ℕ) → p ≤ n → Holds (multiplied n p) (suc p)
+multiples-holds : {limit : ℕ} (n : ℕ) → suc n < limit → (p : ℕ) → p ≤ n → Holds limit (multiplied n p) (suc p)
 multiples-holds = table-holds (λ i. 0) suc refl (λ n. omega arith) (λ n. omega arith)
 
 multiples-counts : (n : ℕ) → positionCounts (multiples n) ≡ tableCounts n
@@ -102,13 +102,13 @@ length-at-window d (suc p) b = rw (eqb·suc-zero p) (omega (arith, length-double
 -- ---- the values
 
 -- Above window i: the latest holds the windows from i on, and the table stands. Once a lower window is done, the latest is the last position.
-record Above (e d i : ℕ) (b : PartialPlan) : Type 0 where
-  holds : Holds b (e / 2 ^ (d * i))
+record Above (limit e d i : ℕ) (b : PartialPlan) : Type 0 where
+  holds : Holds limit b (e / 2 ^ (d * i))
   table : (p : ℕ) → p + 2 ≤ 2 ^ d → Stands b p (suc p)
   latest : i < topWindow e d → b .latest ≡ length (b .steps)
 
-module _ (e d : ℕ) (some : 0 < e) (wide : 1 ≤ d) (small : Small e) (small-table : Small (2 ^ d)) where
-  at-window : (i v : ℕ) (b : PartialPlan) → i < topWindow e d → window e d i ≡ v → Above e d (suc i) b → Above e d i (atFixedWindow d v b)
+module _ (e d : ℕ) (some : 0 < e) (wide : 1 ≤ d) {limit : ℕ} (small : e < limit) (small-table : 2 ^ d < limit) where
+  at-window : (i v : ℕ) (b : PartialPlan) → i < topWindow e d → window e d i ≡ v → Above limit e d (suc i) b → Above limit e d i (atFixedWindow d v b)
   at-window i v b l y a = go v y
     where
       q : ℕ
@@ -117,10 +117,10 @@ module _ (e d : ℕ) (some : 0 < e) (wide : 1 ≤ d) (small : Small e) (small-ta
       down : e / 2 ^ (d * i) ≡ q * 2 ^ d + window e d i
       down = window-down e d i
 
-      part-small : (w : ℕ) → w ≤ e / 2 ^ (d * i) → Small w
-      part-small w h = small-below w e (omega (arith, quotient-le e (d * i))) small
+      part-small : (w : ℕ) → w ≤ e / 2 ^ (d * i) → w < limit
+      part-small w h = omega (arith, quotient-le e (d * i))
 
-      moved : Holds (doubled d b) (q * 2 ^ d)
+      moved : Holds limit (doubled d b) (q * 2 ^ d)
       moved = doubled-holds d b q (a .holds) (above-top-window e d some wide (suc i) l) (part-small (q * 2 ^ d) (omega (arith, down)))
 
       -- a window is below what stands above it
@@ -130,7 +130,7 @@ module _ (e d : ℕ) (some : 0 < e) (wide : 1 ≤ d) (small : Small e) (small-ta
       kept : (p : ℕ) → p + 2 ≤ 2 ^ d → Stands (doubled d b) p (suc p)
       kept p h = stands-doubled d b p (suc p) (a .table p h)
 
-      go : (v : ℕ) → window e d i ≡ v → Above e d i (atFixedWindow d v b)
+      go : (v : ℕ) → window e d i ≡ v → Above limit e d i (atFixedWindow d v b)
       go zero y =
           let w : e / 2 ^ (d * i) ≡ q * 2 ^ d = omega (arith, down) in
           record { holds = rw w moved; table = kept; latest = λ h. latest-doubled d b wide }
@@ -143,21 +143,21 @@ module _ (e d : ℕ) (some : 0 < e) (wide : 1 ≤ d) (small : Small e) (small-ta
             latest = λ h. latest-followed (doubled d b) s;
           }
 
-  all : Above e d 0 (downFrom (λ i b. atFixedWindow d (window e d i) b) (topWindow e d) (multiplied (2 ^ d - 2) (window e d (topWindow e d) - 1)))
-  all = down-from (Above e d) (λ i b. atFixedWindow d (window e d i) b) (topWindow e d) _ (λ i b l a. at-window i (window e d i) b l refl a) start
+  all : Above limit e d 0 (downFrom (λ i b. atFixedWindow d (window e d i) b) (topWindow e d) (multiplied (2 ^ d - 2) (window e d (topWindow e d) - 1)))
+  all = down-from (Above limit e d) (λ i b. atFixedWindow d (window e d i) b) (topWindow e d) _ (λ i b l a. at-window i (window e d i) b l refl a) start
     where
       t : ℕ
       t = topWindow e d
 
-      entry : (p : ℕ) → p ≤ 2 ^ d - 2 → Holds (multiplied (2 ^ d - 2) p) (suc p)
-      entry = multiples-holds (2 ^ d - 2) (small-below (suc (2 ^ d - 2)) (2 ^ d) (omega (arith, pow-pos d)) small-table)
+      entry : (p : ℕ) → p ≤ 2 ^ d - 2 → Holds limit (multiplied (2 ^ d - 2) p) (suc p)
+      entry = multiples-holds (2 ^ d - 2) (omega (arith, pow-pos d))
 
-      start : Above e d t (multiplied (2 ^ d - 2) (window e d t - 1))
+      start : Above limit e d t (multiplied (2 ^ d - 2) (window e d t - 1))
       start =
           let p : ℕ = window e d t - 1 in
           let v : suc p ≡ e / 2 ^ (d * t) = omega (arith, top-window e d some wide, above-top-window e d some wide t (omega arith)) in
           record {
-            holds = subst (Holds (multiplied (2 ^ d - 2) p)) v (entry p (omega (arith, window-small e d t)));
+            holds = subst (Holds limit (multiplied (2 ^ d - 2) p)) v (entry p (omega (arith, window-small e d t)));
             table = λ r h. let s = entry r (omega arith) in record { filled = s .within; value = s .value };
             latest = λ h. absurd (omega arith);
           }
@@ -211,26 +211,43 @@ module _ (e d : ℕ) where
       (λ t. omega (arith, table-total (2 ^ d - 2), add-mul d 1 (topWindow e d), nonzero-windows-le e d (topWindow e d))))
 
 module _ (e d : ℕ) (some : 0 < e) (wide : 1 ≤ d) where
-  pub fixed-made : Small e → Small (2 ^ d) → Made (fixedWindowSteps e d) e
+  pub fixed-made : {limit : ℕ} → e < limit → 2 ^ d < limit → Made limit (fixedWindowSteps e d) e
   unfolding fixedWindowSteps windowSteps
-  fixed-made small small-table =
+  fixed-made {limit} small small-table =
       let last : ℕ = e - 1 in
       let v : suc last ≡ e = omega arith in
       let a = all e d some wide small small-table in
-      cond-cases (ltb e (2 ^ d)) (multiples last) (windowSteps e d) (λ steps. Made steps e)
-      (λ t. made (multiplied last last) e (subst (Holds (multiplied last last)) v (multiples-holds last (rw v small) last (omega arith))) (sym (length-multiples last)))
+      cond-cases (ltb e (2 ^ d)) (multiples last) (windowSteps e d) (λ steps. Made limit steps e)
+      (λ t. made (multiplied last last) e (subst (Holds limit (multiplied last last)) v (multiples-holds last (rw v small) last (omega arith))) (sym (length-multiples last)))
       (λ t. rw (mul-zero d, quotient-none e) at (made _ (e / 2 ^ (d * 0)) (a .holds) (a .latest (lower-window e d some wide (ltb-false e (2 ^ d) t)))))
 
   -- the table, and at most two steps for each bit below the top
   pub fixed-short : length (fixedWindowSteps e d) ≤ 2 ^ d + 2 * (bitLength e - 1)
   fixed-short = omega (arith, fixed-brauer e d, add-mul d 1 (topWindow e d), windows-below-top e d, div-le-self (bitLength e - 1) d)
 
+  pub fixed-unhidden : NoHiddenDoubling (fixedWindowSteps e d)
+  fixed-unhidden = fixed-made {limit = suc (e + 2 ^ d)} (omega arith) (omega arith) .unhidden
+
+-- no steps for zero, nor by windows of no bits
+zero-empty : (d : ℕ) → length (fixedWindowSteps 0 d) ≡ 0
+unfolding fixedWindowSteps
+zero-empty d = rw (lt-ltb 0 (2 ^ d) (pow-pos d)) (length-multiples 0)
+
+narrow-empty : (e : ℕ) → length (fixedWindowSteps e 0) ≡ 0
+narrow-empty e = let z : topWindow e 0 ≡ 0 = div-zero (bitLength e - 1) in omega (arith, rw z at (fixed-brauer e 0))
+
+-- multiples alone; or the table, d doublings for each lower window, and an addition for each that is not zero
+pub fixed-counts : (e d : ℕ) → countsOf (fixedWindowSteps e d) ≡ fixedWindowCounts e d
+fixed-counts e d = unhidden-counts (fixedWindowSteps e d) (go e d) ∙ fixed-positions e d
+  where
+    go : (e d : ℕ) → NoHiddenDoubling (fixedWindowSteps e d)
+    go zero d n h = absurd (omega (arith, zero-empty d))
+    go (suc e) zero n h = absurd (omega (arith, narrow-empty (suc e)))
+    go (suc e) (suc d) n h = fixed-unhidden (suc e) (suc d) (omega arith) (omega arith) n h
+
 module _ (e d : ℕ) (plannable : Plannable e) (wide : 1 ≤ d) (narrow : d ≤ fixedWindowBits) where
   pub fixed-few : length (fixedWindowSteps e d) ≤ planSteps
   fixed-few = omega (arith, fixed-short e d (plannable .some) wide, plannable .bits, pow-mono {i = d} {j = fixedWindowBits} narrow)
 
   pub fixed-fit : Fit (fixedWindowSteps e d) e
-  fixed-fit = record { made = fixed-made e d (plannable .some) wide (small-below e (e + 1) (omega arith) (plannable-small plannable)) (power-small d (omega arith)); few = fixed-few }
-
-  pub fixed-counts : countsOf (fixedWindowSteps e d) ≡ fixedWindowCounts e d
-  fixed-counts = unhidden-counts (fixedWindowSteps e d) (fixed-fit .made .unhidden) ∙ fixed-positions e d
+  fixed-fit = fit (fixedWindowSteps e d) e (fixed-made e d (plannable .some) wide (plannable-below plannable) (power-small d (omega arith))) fixed-few

@@ -5,12 +5,12 @@ use mathlib.Core.Logic.{_≢_}
 use mathlib.Core.List.{List, [], _∷_, _++_}
 use Prim.Native.Nat.{ℕ, zero, suc, _+_, _*_, _-_, _/_, _^_, _<_, _≤_}
 use native.Mathlib.Decide.{decLt}
-use native.Mathlib.Nat.{pow-succ', mul-assoc, mul-comm, mul-le-mul-left, mul-pos, lt-of-le-of-lt, lt-of-lt-of-le}
+use native.Mathlib.Nat.{le-add-right, pow-succ', mul-assoc, mul-comm, mul-le-mul-left, mul-pos, lt-of-le-of-lt, lt-of-lt-of-le}
 use native.Mathlib.Numerals.{add-one}
 use native.Mathlib.Omega.{arith}
-use lib.IntN.{ℤ, pos, negℤ}
+use lib.IntN.{ℤ, pos, negℤ, natAbs}
 use lib.ListN.{length, length-append, List·getD-append}
-use lib.Pow.{pow-pos, pow-mono, shr-le}
+use lib.Pow.{pow-pos, pow-mono}
 use lib.Seq.{getD-at}
 use Rattle.rules.specs.Limits.{numberBytes, planSteps, valueBytes, valueBound}
 use Rattle.integers.specs.Bits.{bitLength}
@@ -20,7 +20,7 @@ use Rattle.integers.proofs.Positional.{Below}
 use Rattle.numbers.specs.Admission.{Positive}
 use Rattle.chains.specs.Steps.{Step, add, subtract}
 use Rattle.chains.specs.Values.{at, start, stepValue, extend, valuesOf, endOf}
-use Rattle.chains.specs.Sound.{stepAt, WellFormed, Representable, Sound}
+use Rattle.chains.specs.Sound.{stepAt, WellFormed, Sound}
 use Rattle.chains.specs.Counts.{HidesNone, NoHiddenDoubling}
 use Rattle.chains.proofs.Values.{extend-append, extend-keeps, length-values}
 use Rattle.signed_digits.proofs.Steps.{minus-smaller}
@@ -41,11 +41,22 @@ value-new : (steps : List Step) (s : Step) → at (valuesOf (steps ++ (s ∷ [])
 value-new steps s =
     ap (λ (l : List ℤ). at l (suc (length steps))) (values-followed steps s) ∙ getD-at (valuesOf steps) (stepValue (valuesOf steps) s) [] (pos 0) (suc (length steps)) (length-values steps)
 
-sound-none : Sound []
-sound-none = record { formed = λ n h. absurd (omega arith); representable = λ n h. absurd (omega arith) }
+-- not zero, and of size below a limit
+pub record Sized (limit : ℕ) (z : ℤ) : Type 0 where
+  pub nonzero : z ≢ pos 0
+  pub small : natAbs z < limit
 
-sound-followed : (steps : List Step) (s : Step) → Sound steps → WellFormed (suc (length steps)) s → Representable (stepValue (valuesOf steps) s) → Sound (steps ++ (s ∷ []))
-sound-followed steps s all n v = record { formed = formed; representable = representable }
+-- sound, with any limit in place of that for representable values
+pub record SoundBelow (limit : ℕ) (steps : List Step) : Type 0 where
+  pub formed : (n : ℕ) → n < length steps → WellFormed (suc n) (stepAt steps n)
+  pub sized : (n : ℕ) → n < length steps → Sized limit (at (valuesOf steps) (suc n))
+
+sound-none : {limit : ℕ} → SoundBelow limit []
+sound-none = record { formed = λ n h. absurd (omega arith); sized = λ n h. absurd (omega arith) }
+
+sound-followed : {limit : ℕ} (steps : List Step) (s : Step) → SoundBelow limit steps → WellFormed (suc (length steps)) s → Sized limit (stepValue (valuesOf steps) s)
+    → SoundBelow limit (steps ++ (s ∷ []))
+sound-followed {limit} steps s all n v = record { formed = formed; sized = sized }
   where
     formed : (i : ℕ) → i < length (steps ++ (s ∷ [])) → WellFormed (suc i) (stepAt (steps ++ (s ∷ [])) i)
     formed i h = go (decLt i (length steps))
@@ -56,11 +67,11 @@ sound-followed steps s all n v = record { formed = formed; representable = repre
             let e : i ≡ length steps = omega (arith, length-append steps (s ∷ [])) in
             rw (e, getD-at steps s [] (add 0 0) (length steps) refl) n
 
-    representable : (i : ℕ) → i < length (steps ++ (s ∷ [])) → Representable (at (valuesOf (steps ++ (s ∷ []))) (suc i))
-    representable i h = go (decLt i (length steps))
+    sized : (i : ℕ) → i < length (steps ++ (s ∷ [])) → Sized limit (at (valuesOf (steps ++ (s ∷ []))) (suc i))
+    sized i h = go (decLt i (length steps))
       where
-        go : Dec (i < length steps) → Representable (at (valuesOf (steps ++ (s ∷ []))) (suc i))
-        go (yes l) = rw (value-kept steps s (suc i) (omega arith)) (all .representable i l)
+        go : Dec (i < length steps) → Sized limit (at (valuesOf (steps ++ (s ∷ []))) (suc i))
+        go (yes l) = rw (value-kept steps s (suc i) (omega arith)) (all .sized i l)
         go (no l) =
             let e : i ≡ length steps = omega (arith, length-append steps (s ∷ [])) in
             rw (e, value-new steps s) v
@@ -75,7 +86,7 @@ hides-kept steps s r n h =
     let second = value-kept steps s (r .second) (omega (arith, n .second)) in
     record { sums = rw (first, second) (h .sums); differences = rw (first, second) (h .differences) }
 
-unhidden-followed : (steps : List Step) (s : Step) → Sound steps → NoHiddenDoubling steps → WellFormed (suc (length steps)) s → HidesNone (valuesOf steps) s
+unhidden-followed : {limit : ℕ} (steps : List Step) (s : Step) → SoundBelow limit steps → NoHiddenDoubling steps → WellFormed (suc (length steps)) s → HidesNone (valuesOf steps) s
     → NoHiddenDoubling (steps ++ (s ∷ []))
 unhidden-followed steps s all before n here i h = go (decLt i (length steps))
   where
@@ -90,27 +101,9 @@ unhidden-followed steps s all before n here i h = go (decLt i (length steps))
 
 -- ---- a plan in the making
 
--- a value of size below the limit; kept shut, since the limit is too long for omega
-unfoldable pub Small : ℕ → Type 0
-Small v = v < valueBound
-
-pub small-below : (a b : ℕ) → a ≤ b → Small b → Small a
-unfolding Small
-small-below a b h s = lt-of-le-of-lt h s
-
--- a power of two within the limit is small
-pub power-small : (d : ℕ) → d < 8 * valueBytes → Small (2 ^ d)
-unfolding Small
-power-small d h =
-    let more : 2 ^ d < 2 ^ suc d = rw (pow-succ' 2 d) (omega (arith, pow-pos d)) in
-    lt-of-lt-of-le more (pow-mono h)
-
-pub quotient-small : (e i : ℕ) → Small e → Small (e / 2 ^ i)
-quotient-small e i s = small-below (e / 2 ^ i) e (shr-le e i) s
-
--- all steps so far are sound, none hides a doubling, and the latest position holds v
-pub record Holds (b : PartialPlan) (v : ℕ) : Type 0 where
-  pub sound : Sound (b .steps)
+-- all steps so far are sound, with values below the limit; none hides a doubling, and the latest position holds v
+pub record Holds (limit : ℕ) (b : PartialPlan) (v : ℕ) : Type 0 where
+  pub sound : SoundBelow limit (b .steps)
   pub unhidden : NoHiddenDoubling (b .steps)
   pub within : b .latest ≤ length (b .steps)
   pub value : at (valuesOf (b .steps)) (b .latest) ≡ pos v
@@ -120,7 +113,7 @@ pub record Stands (b : PartialPlan) (p w : ℕ) : Type 0 where
   pub filled : p ≤ length (b .steps)
   pub value : at (valuesOf (b .steps)) p ≡ pos w
 
-pub none-holds : Holds none 1
+pub none-holds : {limit : ℕ} → Holds limit none 1
 unfolding valuesOf extend
 none-holds = record { sound = sound-none; unhidden = unhidden-none; within = omega arith; value = refl }
 
@@ -145,9 +138,9 @@ one-stands b = record { filled = omega arith; value = extend-keeps start (b .ste
 zero-not : (v : ℕ) → 0 < v → v ≡ 0 → ⊥
 zero-not v p e = omega arith
 
-followed-holds : (b : PartialPlan) (s : Step) (u v : ℕ) → Holds b u → WellFormed (suc (length (b .steps))) s → HidesNone (valuesOf (b .steps)) s
-    → stepValue (valuesOf (b .steps)) s ≡ pos v → 0 < v → Small v → Holds (followed b s) v
-unfolding followed Small
+followed-holds : {limit : ℕ} (b : PartialPlan) (s : Step) (u v : ℕ) → Holds limit b u → WellFormed (suc (length (b .steps))) s → HidesNone (valuesOf (b .steps)) s
+    → stepValue (valuesOf (b .steps)) s ≡ pos v → 0 < v → v < limit → Holds limit (followed b s) v
+unfolding followed
 followed-holds b s u v h n hides e p l = record {
   sound = sound-followed (b .steps) s (h .sound) n (rw e (record { nonzero = λ z. let y : v ≡ 0 = cc in zero-not v p y; small = l }));
   unhidden = unhidden-followed (b .steps) s (h .sound) (h .unhidden) n hides;
@@ -162,14 +155,14 @@ formed-add : (b : PartialPlan) (p : ℕ) → b .latest ≤ length (b .steps) →
 formed-add b p h l = record { operation = omega arith; first = omega arith; second = omega arith }
 
 -- what stands at another position is another value
-pub add-holds : (b : PartialPlan) (p v w : ℕ) → Holds b v → Stands b p w → (b .latest ≢ p → v ≢ w) → 0 < v + w → Small (v + w) → Holds (addAt p b) (v + w)
+pub add-holds : {limit : ℕ} (b : PartialPlan) (p v w : ℕ) → Holds limit b v → Stands b p w → (b .latest ≢ p → v ≢ w) → 0 < v + w → v + w < limit → Holds limit (addAt p b) (v + w)
 unfolding stepValue
 add-holds b p v w h t other some small =
     followed-holds b (add (b .latest) p) v (v + w) h (formed-add b p (h .within) (t .filled))
     (record { sums = λ o d e. other d (let f : pos v ≡ pos w = sym (h .value) ∙ e ∙ t .value in cc); differences = λ o. absurd (o refl) })
     (rw (h .value, t .value)) some small
 
-pub double-holds : (b : PartialPlan) (v : ℕ) → Holds b v → 0 < v → Small (2 * v) → Holds (double b) (2 * v)
+pub double-holds : {limit : ℕ} (b : PartialPlan) (v : ℕ) → Holds limit b v → 0 < v → 2 * v < limit → Holds limit (double b) (2 * v)
 double-holds b v h some small =
     let e : 2 * v ≡ v + v = omega arith in
     rw e (add-holds b (b .latest) v v h (record { filled = h .within; value = h .value }) (λ o. absurd (o refl)) (omega arith) (rw e at small))
@@ -179,33 +172,33 @@ not-opposite : (v w : ℕ) → 0 < v → pos v ≢ negℤ (pos w)
 not-opposite v zero h e = let z : v ≡ 0 = cc in omega arith
 not-opposite v (suc w) h e = let z : _≡_ {A = ℕ} 0 1 = cc in omega arith
 
-subtract-holds : (b : PartialPlan) (p v w : ℕ) → Holds b v → Stands b p w → w < v → Small v → Holds (subtractAt p b) (v - w)
+subtract-holds : {limit : ℕ} (b : PartialPlan) (p v w : ℕ) → Holds limit b v → Stands b p w → w < v → v < limit → Holds limit (subtractAt p b) (v - w)
 unfolding stepValue
 subtract-holds b p v w h t less small =
     followed-holds b (subtract (b .latest) p) v (v - w) h (record { operation = omega arith; first = omega (arith, h .within); second = omega (arith, t .filled) })
     (record { sums = λ o. absurd (omega arith); differences = λ o e. not-opposite v w (omega arith) (sym (h .value) ∙ e ∙ ap negℤ (t .value)) })
-    (rw (h .value, t .value) (minus-smaller v w (omega arith))) (omega arith) (small-below (v - w) v (omega arith) small)
+    (rw (h .value, t .value) (minus-smaller v w (omega arith))) (omega arith) (omega arith)
 
 -- a doubling, then what stands at p added or taken away
-pub double-add : (b : PartialPlan) (p v w : ℕ) → Holds b v → Stands b p w → 2 * v ≢ w → 0 < v → Small (2 * v + w) → Holds (addAt p (double b)) (2 * v + w)
+pub double-add : {limit : ℕ} (b : PartialPlan) (p v w : ℕ) → Holds limit b v → Stands b p w → 2 * v ≢ w → 0 < v → 2 * v + w < limit → Holds limit (addAt p (double b)) (2 * v + w)
 double-add b p v w h t other some small =
-    add-holds (double b) p (2 * v) w (double-holds b v h some (small-below (2 * v) (2 * v + w) (omega arith) small))
+    add-holds (double b) p (2 * v) w (double-holds b v h some (omega arith))
     (stands-followed b (add (b .latest) (b .latest)) p w t) (λ o. other) (omega arith) small
 
-pub double-subtract : (b : PartialPlan) (p v w : ℕ) → Holds b v → Stands b p w → w < 2 * v → Small (2 * v) → Holds (subtractAt p (double b)) (2 * v - w)
+pub double-subtract : {limit : ℕ} (b : PartialPlan) (p v w : ℕ) → Holds limit b v → Stands b p w → w < 2 * v → 2 * v < limit → Holds limit (subtractAt p (double b)) (2 * v - w)
 double-subtract b p v w h t less small =
     subtract-holds (double b) p (2 * v) w (double-holds b v h (omega arith) small) (stands-followed b (add (b .latest) (b .latest)) p w t) less small
 
 -- ---- repeated
 
 -- n doublings, with what stood before
-pub doubled-holds : (n : ℕ) (b : PartialPlan) (v : ℕ) → Holds b v → 0 < v → Small (v * 2 ^ n) → Holds (doubled n b) (v * 2 ^ n)
+pub doubled-holds : {limit : ℕ} (n : ℕ) (b : PartialPlan) (v : ℕ) → Holds limit b v → 0 < v → v * 2 ^ n < limit → Holds limit (doubled n b) (v * 2 ^ n)
 unfolding doubled
 doubled-holds zero b v h some small = let e : v * 2 ^ 0 ≡ v = omega arith in rw e h
-doubled-holds (suc n) b v h some small =
+doubled-holds {limit} (suc n) b v h some small =
     let e : v * 2 ^ suc n ≡ 2 * v * 2 ^ n = rw (pow-succ', ← mul-assoc v 2 (2 ^ n), mul-comm v 2) in
-    let one : 2 * v ≤ 2 * v * 2 ^ n = omega (arith, mul-le-mul-left (2 * v) (pow-pos n)) in
-    rw e (doubled-holds n (double b) (2 * v) (double-holds b v h some (small-below (2 * v) (2 * v * 2 ^ n) one (rw e at small))) (omega arith) (rw e at small))
+    let all : 2 * v * 2 ^ n < limit = rw e at small in
+    rw e (doubled-holds n (double b) (2 * v) (double-holds b v h some (omega (arith, mul-le-mul-left (2 * v) (pow-pos n)))) (omega arith) all)
 
 pub stands-doubled : (n : ℕ) (b : PartialPlan) (p w : ℕ) → Stands b p w → Stands (doubled n b) p w
 unfolding doubled
@@ -231,9 +224,9 @@ latest-doubled (suc zero) b h = latest-followed b (add (b .latest) (b .latest))
 latest-doubled (suc (suc n)) b h = latest-doubled (suc n) (double b) (omega arith)
 
 -- n doublings, then what stands at p added
-pub doubled-add : (n : ℕ) (b : PartialPlan) (p v w : ℕ) → Holds b v → Stands b p w → v * 2 ^ n ≢ w → 0 < v → Small (v * 2 ^ n + w) → Holds (addAt p (doubled n b)) (v * 2 ^ n + w)
+pub doubled-add : {limit : ℕ} (n : ℕ) (b : PartialPlan) (p v w : ℕ) → Holds limit b v → Stands b p w → v * 2 ^ n ≢ w → 0 < v → v * 2 ^ n + w < limit → Holds limit (addAt p (doubled n b)) (v * 2 ^ n + w)
 doubled-add n b p v w h t other some small =
-    add-holds (doubled n b) p (v * 2 ^ n) w (doubled-holds n b v h some (small-below (v * 2 ^ n) (v * 2 ^ n + w) (omega arith) small))
+    add-holds (doubled n b) p (v * 2 ^ n) w (doubled-holds n b v h some (omega arith))
     (stands-doubled n b p w t) (λ o. other) (omega (arith, mul-pos some (pow-pos n))) small
 
 -- from n places down to none
@@ -250,19 +243,27 @@ down-grows f (suc n) b more = omega (arith, more n b, down-grows f n (f n b) mor
 
 -- ---- what every method comes to
 
--- sound steps that end at the number, with no hidden doubling
-pub record Made (steps : List Step) (e : ℕ) : Type 0 where
-  pub sound : Sound steps
+-- sound steps that end at the number, with values below the limit and no hidden doubling
+pub record Made (limit : ℕ) (steps : List Step) (e : ℕ) : Type 0 where
+  pub sound : SoundBelow limit steps
   pub unhidden : NoHiddenDoubling steps
   pub end : endOf steps ≡ pos e
 
-pub made : (b : PartialPlan) (e : ℕ) → Holds b e → b .latest ≡ length (b .steps) → Made (b .steps) e
+pub made : {limit : ℕ} (b : PartialPlan) (e : ℕ) → Holds limit b e → b .latest ≡ length (b .steps) → Made limit (b .steps) e
 made b e h l = record { sound = h .sound; unhidden = h .unhidden; end = rw (← l) (h .value) }
 
--- no more of them than a plan may have
+-- a plan for the number: sound, and no longer than a plan may be
 pub record Fit (steps : List Step) (e : ℕ) : Type 0 where
-  pub made : Made steps e
+  pub sound : Sound steps
+  pub end : endOf steps ≡ pos e
   pub few : length steps ≤ planSteps
+
+pub fit : (steps : List Step) (e : ℕ) → Made valueBound steps e → length steps ≤ planSteps → Fit steps e
+fit steps e m few = record {
+  sound = record { formed = m .sound .formed; representable = λ n h. let z = m .sound .sized n h in record { nonzero = z .nonzero; small = z .small } };
+  end = m .end;
+  few = few;
+}
 
 -- a number that a plan is made for: above zero and within the limit
 pub record Plannable (e : ℕ) : Type 0 where
@@ -272,8 +273,17 @@ pub record Plannable (e : ℕ) : Type 0 where
 pub plannable : (number : List ℕ) → Below 256 number → Positive number → Plannable (bytesValue number)
 plannable number bytes p = record { some = omega (arith, p .nonzero); bits = bytes-length number numberBytes bytes (p .admitted .short) }
 
--- it is small, with one to spare
-pub plannable-small : {e : ℕ} → Plannable e → Small (e + 1)
+-- a power of two of no more bits than a value has is representable
+pub power-small : (d : ℕ) → d < 8 * valueBytes → 2 ^ d < valueBound
+power-small d h =
+    let more : 2 ^ d < 2 ^ suc d = rw (pow-succ' 2 d) (omega (arith, pow-pos d)) in
+    lt-of-lt-of-le more (pow-mono h)
+
+-- and so is a number, with one to spare
+pub plannable-small : {e : ℕ} → Plannable e → e + 1 < valueBound
 plannable-small {e} p =
     let h : e < 2 ^ (8 * numberBytes) = bit-length-iff e (8 * numberBytes) .0 (p .bits) in
-    small-below (e + 1) (2 ^ (8 * numberBytes)) (rw add-one h) (power-small (8 * numberBytes) (omega arith))
+    lt-of-le-of-lt (rw add-one h) (power-small (8 * numberBytes) (omega arith))
+
+pub plannable-below : {e : ℕ} → Plannable e → e < valueBound
+plannable-below {e} p = lt-of-le-of-lt (le-add-right e 1) (plannable-small p)

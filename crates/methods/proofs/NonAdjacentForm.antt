@@ -3,7 +3,7 @@ use mathlib.Core.Path.{_≡_, refl, ap}
 use mathlib.Core.Logic.{_≢_}
 use mathlib.Core.List.{List, []}
 use Prim.Native.Nat.{ℕ, suc, _+_, _*_, _-_, _^_, _<_, _≤_}
-use native.Mathlib.Nat.{zero-add, pow-suc}
+use native.Mathlib.Nat.{zero-add, pow-suc, lt-suc-self}
 use native.Mathlib.Numerals.{add-one}
 use native.Mathlib.Omega.{arith}
 use lib.IntN.{ℤ, pos, natAbs}
@@ -16,7 +16,7 @@ use Rattle.signed_digits.proofs.Left.{rests, some-digits, rests-le, value-left,
 use Rattle.signed_digits.proofs.Exists.{naf-value}
 use Rattle.signed_digits.proofs.Length.{length-at-most}
 use Rattle.rules.specs.Limits.{planSteps}
-use Rattle.chains.specs.Counts.{counts, countsOf}
+use Rattle.chains.specs.Counts.{counts, countsOf, NoHiddenDoubling}
 use Rattle.integers.specs.Bits.{bitLength}
 use Rattle.integers.proofs.Bits.{bit-length-iff}
 use Rattle.methods.specs.PartialPlan.{none, downFrom}
@@ -25,7 +25,7 @@ use Rattle.methods.specs.OddMultiples.{oddPosition}
 use Rattle.methods.specs.DigitSteps.{atDigit, digitSteps}
 use Rattle.methods.specs.NonAdjacentForm.{nafSteps}
 use Rattle.methods.specs.Forecast.{plusDigits, minusDigits}
-use Rattle.methods.proofs.Laws.{Small, small-below, Made, Fit, Plannable, plannable-small}
+use Rattle.methods.proofs.Laws.{Made, Fit, fit, Plannable, plannable-small}
 use Rattle.methods.proofs.OddMultiples.{tableValue, InTable}
 use Rattle.methods.proofs.DigitSteps.{Suited, top-above-zero, digits-made, digits-counts, digits-short}
 
@@ -52,7 +52,7 @@ low-top v (even q) e h = absurd (omega (arith, ap natAbs e))
 low-top v (plus q) e h = refl
 low-top v (minus q) e h = absurd (omega (arith, ap negativePart e))
 
-module _ (e : ℕ) (some : 0 < e) (small : Small (e + 1)) where
+module _ (e : ℕ) (some : 0 < e) where
   abbrev ds : List ℤ
   ds = canonical (pos e)
 
@@ -60,38 +60,45 @@ module _ (e : ℕ) (some : 0 < e) (small : Small (e + 1)) where
   unfolding rests
   step i = rw (digit-left 2 (omega arith) i e) (low-digit (rests 2 i e))
 
-  suited : Suited 0 ds
+  suited : {limit : ℕ} → e + 1 < limit → Suited limit 0 ds
   unfolding tableValue
-  suited = record {
+  suited small = record {
     some = some-digits 2 (omega arith) e some;
     positive = λ i h. rw (value-left 2 (omega arith) i e) (some-left 2 (omega arith) i e h);
-    small = λ i h. rw (value-left 2 (omega arith) i e) (small-below _ (e + 1) (omega (arith, rests-le 2 (omega arith) i e, low-minus (step i))) small);
+    small = λ i h. rw (value-left 2 (omega arith) i e) (omega (arith, rests-le 2 (omega arith) i e, low-minus (step i)));
     entry = λ i h. low-entry (step i);
-    table = small-below 1 (e + 1) (omega arith) small;
+    table = omega arith;
     single = λ h. low-single (step 0);
   }
 
+  -- with a limit just above it
+  suited-alone : Suited (suc (e + 1)) 0 ds
+  suited-alone = suited (lt-suc-self (e + 1))
+
   pub top-digit : digitAt (canonical (pos e)) (length (canonical (pos e)) - 1) ≡ pos 1
-  top-digit = low-top _ (step (length ds - 1)) (top-above-zero 0 ds suited) (suited .positive (length ds - 1) (omega (arith, some-digits 2 (omega arith) e some)))
+  top-digit = low-top _ (step (length ds - 1)) (top-above-zero 0 ds suited-alone) (suited-alone .positive (length ds - 1) (omega (arith, some-digits 2 (omega arith) e some)))
 
   -- with no table, the steps begin at position 0
   pub naf-down : nafSteps e ≡ downFrom (λ i b. atDigit (digitAt (canonical (pos e)) i) b) (length (canonical (pos e)) - 1) none .steps
   unfolding nafSteps digitSteps tableBy
   naf-down = ap (λ (d : ℤ). downFrom (λ i b. atDigit (digitAt ds i) b) (length ds - 1) (record { steps = []; latest = oddPosition (natAbs d) }) .steps) top-digit
 
-  pub naf-made : Made (nafSteps e) e
+  pub naf-made : {limit : ℕ} → e + 1 < limit → Made limit (nafSteps e) e
   unfolding nafSteps
-  naf-made = rw (naf-value 2 (pos e) (omega arith)) at (digits-made 0 ds suited)
+  naf-made small = rw (naf-value 2 (pos e) (omega arith)) at (digits-made 0 ds (suited small))
+
+  pub naf-unhidden : NoHiddenDoubling (nafSteps e)
+  naf-unhidden = naf-made (lt-suc-self (e + 1)) .unhidden
 
   -- at most two steps for each digit below the top
   pub naf-short : length (nafSteps e) ≤ 2 * (length (canonical (pos e)) - 1)
   unfolding nafSteps
-  naf-short = omega (arith, digits-short 0 ds suited)
+  naf-short = omega (arith, digits-short 0 ds suited-alone)
 
   -- a doubling for each digit below the top; the digits 1 below it, and the digits -1
   pub naf-counts : countsOf (nafSteps e) ≡ counts (length (canonical (pos e)) - 1) (plusDigits (canonical (pos e)) - 1) (minusDigits (canonical (pos e)))
   unfolding nafSteps tableCounts
-  naf-counts = simp zero-add at (digits-counts 0 ds suited)
+  naf-counts = simp zero-add at (digits-counts 0 ds suited-alone)
 
 -- a number of L bits has at most L + 1 digits
 pub naf-bits : (e : ℕ) → length (canonical (pos e)) ≤ bitLength e + 1
@@ -102,7 +109,7 @@ naf-bits e =
 
 module _ (e : ℕ) (plannable : Plannable e) where
   pub naf-few : length (nafSteps e) ≤ planSteps
-  naf-few = omega (arith, naf-short e (plannable .some) (plannable-small plannable), naf-bits e, plannable .bits)
+  naf-few = omega (arith, naf-short e (plannable .some), naf-bits e, plannable .bits)
 
   pub naf-fit : Fit (nafSteps e) e
-  naf-fit = record { made = naf-made e (plannable .some) (plannable-small plannable); few = naf-few }
+  naf-fit = fit (nafSteps e) e (naf-made e (plannable .some) (plannable-small plannable)) naf-few

@@ -13,7 +13,7 @@ use Rattle.signed_digits.proofs.Parts.{cond-cases}
 use Rattle.chains.proofs.Counts.{positionCounts}
 use Rattle.methods.specs.Tables.{tableCounts}
 use Rattle.methods.specs.OddMultiples.{oddSecond, oddTable, oddPosition, tableLength}
-use Rattle.methods.proofs.Laws.{Small, Holds}
+use Rattle.methods.proofs.Laws.{Holds}
 use Rattle.methods.proofs.Tables.{tabled, length-table, table-holds, table-counts}
 
 pub odd-length : (n : ℕ) → length (oddTable n) ≡ n
@@ -54,7 +54,7 @@ second-before zero = omega arith
 second-before (suc zero) = omega arith
 second-before (suc (suc n)) = omega arith
 
-odd-holds : (n : ℕ) → Small (tableValue n) → (p : ℕ) → p ≤ n → Holds (tabled oddSecond n p) (tableValue p)
+odd-holds : {limit : ℕ} (n : ℕ) → tableValue n < limit → (p : ℕ) → p ≤ n → Holds limit (tabled oddSecond n p) (tableValue p)
 unfolding tableValue
 odd-holds = table-holds oddSecond tableValue refl value-next (λ n. omega (arith, second-before n))
 
@@ -66,7 +66,7 @@ pub record InTable (n v : ℕ) : Type 0 where
   pub odd : v % 2 ≡ 1
   pub within : oddPosition v ≤ n
 
-pub entry-holds : (n v : ℕ) → Small (tableValue n) → InTable n v → Holds (tabled oddSecond n (oddPosition v)) v
+pub entry-holds : {limit : ℕ} (n v : ℕ) → tableValue n < limit → InTable n v → Holds limit (tabled oddSecond n (oddPosition v)) v
 entry-holds n v small t = rw (position-value v (t .odd)) at (odd-holds n small (oddPosition v) (t .within))
 
 -- ---- the whole table for d bits

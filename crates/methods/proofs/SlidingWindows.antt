@@ -13,7 +13,7 @@ use lib.Pow.{pow-pos, pow-mono, mod-mod-pow}
 use Rattle.rules.specs.declared.Counts.{Counts}
 use Rattle.rules.specs.Limits.{planSteps}
 use Rattle.chains.specs.Steps.{Step, add}
-use Rattle.chains.specs.Counts.{counts, countsOf}
+use Rattle.chains.specs.Counts.{counts, countsOf, NoHiddenDoubling}
 use Rattle.chains.proofs.Counts.{positionCounts, unhidden-counts}
 use Rattle.methods.specs.PartialPlan.{PartialPlan, double, addAt, doubled}
 use Rattle.integers.specs.Bits.{bit, bitLength}
@@ -22,9 +22,9 @@ use Rattle.methods.specs.OddMultiples.{oddSecond, oddTable, oddPosition,
 use Rattle.methods.specs.Widths.{slidingWindowBits}
 use Rattle.methods.specs.SlidingWindows.{longest, windowValue, slide, scanFrom, slidingWindowSteps}
 use Rattle.methods.specs.Forecast.{laterWindows, scanCounts, slidingWindowCounts}
-use Rattle.integers.proofs.Bits.{bit-length-iff, some-bits, top-bit, place-down, places-down, bit-small, quotient-none}
+use Rattle.integers.proofs.Bits.{bit-length-iff, some-bits, top-bit, place-down, places-down, bit-small, quotient-le, quotient-none}
 use Rattle.methods.proofs.Counted.{countsIn, counts-double, counts-add, counts-doubled}
-use Rattle.methods.proofs.Laws.{Small, small-below, power-small, quotient-small, Holds, Stands, Made, Fit, Plannable, plannable-small, double-holds, doubled-add, stands-followed, stands-doubled, latest-followed, latest-doubled, length-followed, length-doubled, made}
+use Rattle.methods.proofs.Laws.{power-small, Holds, Stands, Made, Fit, fit, Plannable, plannable-below, double-holds, doubled-add, stands-followed, stands-doubled, latest-followed, latest-doubled, length-followed, length-doubled, made}
 use Rattle.methods.proofs.Tables.{tabled, no-subtractions}
 use Rattle.methods.proofs.OddMultiples.{odd-length, tableValue, position-less, position-value, odd-counts, entry-holds, Entry, table-narrow, entry-in-table}
 
@@ -102,8 +102,8 @@ data Scan (e d : ℕ) : ℕ → PartialPlan → ℕ → PartialPlan → Type 0 w
   zero-bit : (n : ℕ) (b : PartialPlan) {w : ℕ} {c : PartialPlan} → bit e n ≢ 1 → Scan e d n (double b) w c → Scan e d (suc n) b w c
 
 -- At place i: the latest holds the bits from i on, and each entry of the table stands. At place 0 the latest is the position filled last.
-record Reached (e d i : ℕ) (b : PartialPlan) : Type 0 where
-  holds : Holds b (e / 2 ^ i)
+record Reached (limit e d i : ℕ) (b : PartialPlan) : Type 0 where
+  holds : Holds limit b (e / 2 ^ i)
   positive : 0 < e / 2 ^ i
   stands : (v : ℕ) → Entry d v → Stands b (oddPosition v) v
   last : i ≡ 0 → b .latest ≡ length (b .steps)
@@ -171,12 +171,12 @@ module _ (e d : ℕ) (wide : 1 ≤ d) where
       let f : x + suc n ≡ x + 1 + n = omega arith in
       rw f (scan-counted s (omega (arith, length-followed b (add (b .latest) (b .latest)))) (x + 1) y (counts-double b x y 0 q))
 
-  module _ (small : Small e) where
-    at-window : (n : ℕ) (b : PartialPlan) → bit e n ≡ 1 → Reached e d (suc n) b → Reached e d (belowWindow e d n) (pastWindow e d n b)
+  module _ {limit : ℕ} (small : e < limit) where
+    at-window : (n : ℕ) (b : PartialPlan) → bit e n ≡ 1 → Reached limit e d (suc n) b → Reached limit e d (belowWindow e d n) (pastWindow e d n b)
     at-window n b o r = record {
       holds =
-          subst (λ (v : ℕ). Holds (pastWindow e d n b) v) (sym down)
-          (doubled-add l b (oddPosition x) (e / 2 ^ suc n) x (r .holds) (r .stands x entry) (omega (arith, above)) (r .positive) (subst Small down (quotient-small e (suc n - l) small)));
+          subst (λ (v : ℕ). Holds limit (pastWindow e d n b) v) (sym down)
+          (doubled-add l b (oddPosition x) (e / 2 ^ suc n) x (r .holds) (r .stands x entry) (omega (arith, above)) (r .positive) (omega (arith, down, quotient-le e (suc n - l))));
       positive = omega (arith, down, entry .odd);
       stands = λ v t. stands-followed (doubled l b) _ (oddPosition v) v (stands-doubled l b (oddPosition v) v (r .stands v t));
       last = λ z. latest-followed (doubled l b) _;
@@ -198,17 +198,17 @@ module _ (e d : ℕ) (wide : 1 ≤ d) where
         down : e / 2 ^ (suc n - l) ≡ e / 2 ^ suc n * 2 ^ l + x
         down = window-down (longest-window e n d o wide)
 
-    at-zero : (n : ℕ) (b : PartialPlan) → bit e n ≢ 1 → Reached e d (suc n) b → Reached e d n (double b)
+    at-zero : (n : ℕ) (b : PartialPlan) → bit e n ≢ 1 → Reached limit e d (suc n) b → Reached limit e d n (double b)
     at-zero n b z r =
         let down : e / 2 ^ n ≡ 2 * (e / 2 ^ suc n) = omega (arith, place-down e n, bit-small e n) in
         record {
-          holds = rw down (double-holds b (e / 2 ^ suc n) (r .holds) (r .positive) (rw down at (quotient-small e n small)));
+          holds = rw down (double-holds b (e / 2 ^ suc n) (r .holds) (r .positive) (omega (arith, quotient-le e n)));
           positive = omega (arith, r .positive);
           stands = λ v t. stands-followed b _ (oddPosition v) v (r .stands v t);
           last = λ z. latest-followed b _;
         }
 
-    scan-reached : {i w : ℕ} {b c : PartialPlan} → Scan e d i b w c → Reached e d i b → Reached e d 0 c
+    scan-reached : {i w : ℕ} {b c : PartialPlan} → Scan e d i b w c → Reached limit e d i b → Reached limit e d 0 c
     scan-reached done r = r
     scan-reached (window n b o s) r = scan-reached s (at-window n b o r)
     scan-reached (zero-bit n b z s) r = scan-reached s (at-zero n b z r)
@@ -248,16 +248,16 @@ module _ (e d : ℕ) (some : 0 < e) (wide : 1 ≤ d) where
       let n : bitLength e ≤ d = bit-length-iff e d .1 (t .narrow) in
       omega (arith, reaches e (top e) d (omega (arith, some-bits e some)) (omega (arith, t .odd)))
 
-  first-reached : (Entry d e → ⊥) → Small (2 ^ d) → Reached e d (belowWindow e d (top e)) (atFirst e d)
-  first-reached more room = record {
-    holds = subst (λ (v : ℕ). Holds (atFirst e d) v) (sym first-value) (holds _ (window-entry first-window));
+  first-reached : {limit : ℕ} → (Entry d e → ⊥) → 2 ^ d < limit → Reached limit e d (belowWindow e d (top e)) (atFirst e d)
+  first-reached {limit} more room = record {
+    holds = subst (λ (v : ℕ). Holds limit (atFirst e d) v) (sym first-value) (holds _ (window-entry first-window));
     positive = omega (arith, first-value, window-entry first-window .odd);
     stands = λ v t. record { filled = holds v t .within; value = holds v t .value };
     last = λ z. absurd (more (whole-entry z));
   }
     where
-      holds : (v : ℕ) → Entry d v → Holds (tabled oddSecond (tableLength d) (oddPosition v)) v
-      holds v t = entry-holds (tableLength d) v (small-below (tableValue (tableLength d)) (2 ^ d) (table-narrow d wide) room) (entry-in-table d wide v t)
+      holds : (v : ℕ) → Entry d v → Holds limit (tabled oddSecond (tableLength d) (oddPosition v)) v
+      holds v t = entry-holds (tableLength d) v (omega (arith, table-narrow d wide)) (entry-in-table d wide v t)
 
   scan-all : Scan e d (belowWindow e d (top e)) (atFirst e d) (laterWindows e d (top e) (belowWindow e d (top e))) (slide e d (top e) (belowWindow e d (top e)) (atFirst e d))
   scan-all = scan e d wide (top e) (belowWindow e d (top e)) (atFirst e d) (omega (arith, first-window .some))
@@ -276,16 +276,16 @@ module _ (e d : ℕ) (some : 0 < e) (wide : 1 ≤ d) where
         | no m ↦ rw (le-ltb e (2 ^ d) (omega arith)) (more (λ t. m (t .narrow)))
       ]
 
-  pub sliding-made : Small e → Small (2 ^ d) → Made (slidingWindowSteps e d) e
-  sliding-made small room = entry-or-scan (λ s c. Made s e) from-table from-scan
+  pub sliding-made : {limit : ℕ} → e < limit → 2 ^ d < limit → Made limit (slidingWindowSteps e d) e
+  sliding-made {limit} small room = entry-or-scan (λ s c. Made limit s e) from-table from-scan
     where
-      from-table : Entry d e → Made (oddTable (oddPosition e)) e
+      from-table : Entry d e → Made limit (oddTable (oddPosition e)) e
       from-table t =
           let p : ℕ = oddPosition e in
           let v : tableValue p ≡ e = position-value e (t .odd) in
           made (tabled oddSecond p p) e (entry-holds p e (rw v small) (record { odd = t .odd; within = omega arith })) (sym (odd-length p))
 
-      from-scan : (Entry d e → ⊥) → Made (scanFrom e d (top e)) e
+      from-scan : (Entry d e → ⊥) → Made limit (scanFrom e d (top e)) e
       from-scan more =
           let r = scan-reached e d wide small scan-all (first-reached more room) in
           made _ e (rw (quotient-none e) at (r .holds)) (r .last refl)
@@ -297,19 +297,22 @@ module _ (e d : ℕ) (some : 0 < e) (wide : 1 ≤ d) where
       (λ t. omega (arith, odd-length (oddPosition e), position-less (oddPosition e), position-value e (t .odd), t .narrow))
       (λ more. omega (arith, scan-short e d wide scan-all, first-window .some, odd-length (tableLength d), position-less (tableLength d), table-narrow d wide))
 
-  pub sliding-positions : positionCounts (slidingWindowSteps e d) ≡ slidingWindowCounts e d
+  sliding-positions : positionCounts (slidingWindowSteps e d) ≡ slidingWindowCounts e d
   sliding-positions =
       entry-or-scan (λ s c. positionCounts s ≡ c)
       (λ t. odd-counts (oddPosition e))
       (λ more. scan-counted e d wide scan-all (omega (arith, odd-length (tableLength d))) _ _ (odd-counts (tableLength d) ∙ no-subtractions (tableLength d)))
+
+  pub sliding-unhidden : NoHiddenDoubling (slidingWindowSteps e d)
+  sliding-unhidden = sliding-made {limit = suc (e + 2 ^ d)} (omega arith) (omega arith) .unhidden
+
+  -- each bit below the first window takes a doubling, each later window an addition
+  pub sliding-counts : countsOf (slidingWindowSteps e d) ≡ slidingWindowCounts e d
+  sliding-counts = unhidden-counts (slidingWindowSteps e d) sliding-unhidden ∙ sliding-positions
 
 module _ (e d : ℕ) (plannable : Plannable e) (wide : 1 ≤ d) (narrow : d ≤ slidingWindowBits) where
   pub sliding-few : length (slidingWindowSteps e d) ≤ planSteps
   sliding-few = omega (arith, sliding-short e d (plannable .some) wide, plannable .bits, pow-mono {i = d} {j = slidingWindowBits} narrow)
 
   pub sliding-fit : Fit (slidingWindowSteps e d) e
-  sliding-fit = record { made = sliding-made e d (plannable .some) wide (small-below e (e + 1) (omega arith) (plannable-small plannable)) (power-small d (omega arith)); few = sliding-few }
-
-  -- each bit below the first window takes a doubling, each later window an addition
-  pub sliding-counts : countsOf (slidingWindowSteps e d) ≡ slidingWindowCounts e d
-  sliding-counts = unhidden-counts (slidingWindowSteps e d) (sliding-fit .made .unhidden) ∙ sliding-positions e d (plannable .some) wide
+  sliding-fit = fit (slidingWindowSteps e d) e (sliding-made e d (plannable .some) wide (plannable-below plannable) (power-small d (omega arith))) sliding-few

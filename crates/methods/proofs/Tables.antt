@@ -11,7 +11,7 @@ use Rattle.chains.proofs.Counts.{positionCounts}
 use Rattle.methods.specs.PartialPlan.{PartialPlan, none, followed, addAt}
 use Rattle.methods.specs.Tables.{tableBy, tableCounts}
 use Rattle.methods.proofs.Counted.{counts-double, counts-add}
-use Rattle.methods.proofs.Laws.{value-kept, Small, small-below, Holds, none-holds, add-holds}
+use Rattle.methods.proofs.Laws.{value-kept, Holds, none-holds, add-holds}
 
 -- n steps of a table, and the latest at position p
 abbrev pub tabled : (ℕ → ℕ) → ℕ → ℕ → PartialPlan
@@ -42,11 +42,11 @@ module _ (second : ℕ → ℕ) where
           | no l ↦ let q : p ≡ n = omega arith in rw q (omega (arith, next n, value-some (second n)))
         ]
 
-    pub table-holds : (n : ℕ) → Small (value n) → (p : ℕ) → p ≤ n → Holds (tabled second n p) (value p)
+    pub table-holds : {limit : ℕ} (n : ℕ) → value n < limit → (p : ℕ) → p ≤ n → Holds limit (tabled second n p) (value p)
     unfolding tableBy followed
     table-holds zero small p h = let z : p ≡ 0 = omega arith in rw (z, first) none-holds
-    table-holds (suc n) small p h =
-        let below = table-holds n (small-below (value n) (value (suc n)) (omega (arith, next n)) small) in
+    table-holds {limit} (suc n) small p h =
+        let below = table-holds {limit = limit} n (omega (arith, next n)) in
         let s = below (second n) (before n) in
         let more = rw (← table-next n, ← next n) at (add-holds (tabled second n n) (second n) (value n) (value (second n)) (below n (omega arith)) (record { filled = s .within; value = s .value }) (λ o. omega (arith, value-grows n (second n) (omega (arith, before n)))) (omega (arith, value-some n)) (rw (next n) at small)) in
         elim (decLt n p) [

@@ -3,8 +3,6 @@ use mathlib.Core.Path.{sym}
 use native.Mathlib.Omega.{arith}
 use Rattle.integers.specs.Positional.{bytesValue}
 use Rattle.integers.proofs.Bits.{some-bits}
-use Prim.Native.Nat.{ℕ, _+_}
-use Rattle.methods.proofs.Laws.{Small, small-below, plannable, plannable-small}
 use Rattle.methods.proofs.Binary.{ones-positive, binary-counts}
 use borrow.Author.Needs.{needs}
 use Rattle.method_binary.proofs.counts.Statement.{statement}
@@ -23,11 +21,7 @@ sub-t5 : tie.Need-sub-t5
 sub-t5 c = omega (arith, c .ones .ensures, ones-positive (bytesValue (c .before .before .before .args .number .now)) (search needs))
 
 returns : tie.Need-returns
-returns c =
-    let number = c .before .before .before .args .number .now in
-    let e : ℕ = bytesValue number in
-    let small : Small (e + 1) = plannable-small (plannable number (λ i. c .before .before .shared-slice-known .given i .fits) (c .before .before .before .pre)) in
-    rw (c .before .bit-length .ensures, c .ones .ensures) (sym (binary-counts e (search needs) (small-below e (e + 1) (omega arith) small)))
+returns c = rw (c .before .bit-length .ensures, c .ones .ensures) (sym (binary-counts (bytesValue (c .before .before .before .args .number .now)) (search needs)))
 
 pub counts-spec : {M : Type 1} → statement M
 counts-spec = tie.close (tie.spec bit-length-requires sub-t3 ones-requires sub-t5 returns)

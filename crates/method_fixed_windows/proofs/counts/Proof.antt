@@ -7,13 +7,10 @@ use lib.Pow.{pow-mono}
 use borrow.Author.Tests.{lt-ltb, le-ltb}
 use Rattle.rules.specs.declared.Counts.{Counts}
 use Rattle.integers.specs.Positional.{bytesValue}
-use Rattle.chains.specs.Counts.{total, countsOf}
+use Rattle.chains.specs.Counts.{total}
 use Rattle.methods.specs.Widths.{fixedWindowBits}
-use Rattle.methods.specs.FixedWindows.{fixedWindowSteps}
-use Rattle.methods.specs.Forecast.{fixedWindowCounts}
 use Rattle.methods.specs.Tables.{tableCounts}
 use Rattle.methods.proofs.Tables.{table-total}
-use Rattle.methods.proofs.Laws.{plannable}
 use Rattle.methods.proofs.FixedWindows.{one-window, more-windows, fixed-counts}
 use borrow.Author.Needs.{needs}
 use Rattle.method_fixed_windows.proofs.counts.Statement.{statement}
@@ -22,14 +19,6 @@ use Rattle.method_fixed_windows.proofs.counts.Tie as tie
 -- few steps are counted
 few : (t : Counts) (n : ℕ) → t ≡ tableCounts n → t .doublings + t .additions ≤ n
 few t n e = omega (arith, ap total e, table-total n)
-
--- the counts of the steps
-all-counts : (c : tie.After-shared-slice-known) → let args = c .before .args in
-    countsOf (fixedWindowSteps (bytesValue (args .number .now)) (args .width)) ≡ fixedWindowCounts (bytesValue (args .number .now)) (args .width)
-all-counts c =
-    let entry = c .before in
-    let number = entry .args .number .now in
-    fixed-counts (bytesValue number) (entry .args .width) (plannable number (λ i. c .shared-slice-known .given i .fits) (entry .pre .0)) (entry .pre .1 .0) (entry .pre .1 .1)
 
 top-window-requires : tie.Need-top-window-requires
 top-window-requires c κs = search needs
@@ -49,7 +38,7 @@ returns : tie.Need-returns
 returns c =
     let args = c .before .before .before .before .before .args in
     let e : ℕ = bytesValue (args .number .now) in
-    rw (c .table-counts .ensures, c .before .small-value .ensures, all-counts (c .before .before .before .before), lt-ltb e (2 ^ args .width) (one-window e (args .width) (search needs) (search needs)))
+    rw (c .table-counts .ensures, c .before .small-value .ensures, fixed-counts e (args .width), lt-ltb e (2 ^ args .width) (one-window e (args .width) (search needs) (search needs)))
 
 table-length-requires : tie.Need-table-length-requires
 table-length-requires c κs = search needs
@@ -80,7 +69,7 @@ returns-2 c =
     let e : ℕ = bytesValue (args .number .now) in
     let t = c .before .before .before .before .before .before .top-window in
     let more : 2 ^ args .width ≤ e = more-windows e (args .width) (search needs) (omega (arith, t .ensures .0)) in
-    rw (c .before .nonzero-windows .ensures .0, c .before .before .before .table-counts2 .ensures, c .before .before .before .before .table-length .ensures, t .ensures .0, all-counts (c .before .before .before .before .before .before .before), le-ltb e (2 ^ args .width) more)
+    rw (c .before .nonzero-windows .ensures .0, c .before .before .before .table-counts2 .ensures, c .before .before .before .before .table-length .ensures, t .ensures .0, fixed-counts e (args .width), le-ltb e (2 ^ args .width) more)
 
 pub counts-spec : {M : Type 1} → statement M
 counts-spec =

@@ -1,7 +1,7 @@
 -- `method_naf::counts` meets its contract. Assumes nothing.
 use mathlib.Core.Path.{_≡_, sym}
 use mathlib.Core.List.{List}
-use Prim.Native.Nat.{ℕ, _+_, _-_}
+use Prim.Native.Nat.{ℕ, _-_}
 use native.Mathlib.Omega.{arith}
 use lib.IntN.{ℤ, pos}
 use lib.ListN.{length}
@@ -9,7 +9,6 @@ use Rattle.integers.specs.Positional.{bytesValue}
 use Rattle.signed_digits.specs.Naf.{canonical}
 use Rattle.signed_digits.proofs.Left.{some-digits}
 use Rattle.recoding_digits.proofs.Triple.{digit-count}
-use Rattle.methods.proofs.Laws.{Small, plannable, plannable-small}
 use Rattle.methods.proofs.NonAdjacentForm.{top-digit, naf-counts}
 use Rattle.method_naf.proofs.Tally.{plus-digits, minus-digits, some-plus}
 use borrow.Author.Needs.{needs}
@@ -26,21 +25,17 @@ sub-t3 c =
 
 sub-t4 : tie.Need-sub-t4
 sub-t4 c =
-    let number = c .before .before .before .before .args .number .now in
-    let e : ℕ = bytesValue number in
+    let e : ℕ = bytesValue (c .before .before .before .before .args .number .now) in
     let ds : List ℤ = canonical (pos e) in
-    let small : Small (e + 1) = plannable-small (plannable number (λ i. c .before .before .before .shared-slice-known .given i .fits) (c .before .before .before .before .pre)) in
-    omega (arith, c .before .before .tally-of .ensures .0, plus-digits e, some-plus ds (length ds - 1) (top-digit e (search needs) small))
+    omega (arith, c .before .before .tally-of .ensures .0, plus-digits e, some-plus ds (length ds - 1) (top-digit e (search needs)))
 
 returns : tie.Need-returns
 returns c =
-    let number = c .before .before .before .before .args .number .now in
-    let e : ℕ = bytesValue number in
+    let e : ℕ = bytesValue (c .before .before .before .before .args .number .now) in
     let ds : List ℤ = canonical (pos e) in
-    let small : Small (e + 1) = plannable-small (plannable number (λ i. c .before .before .before .shared-slice-known .given i .fits) (c .before .before .before .before .pre)) in
     let t = c .before .before .tally-of in
     let below : t .result .length - 2 ≡ length ds - 1 = omega (arith, t .ensures .2, digit-count e (search needs)) in
-    rw (below, t .ensures .0, t .ensures .1, ← plus-digits e, ← minus-digits e) (sym (naf-counts e (search needs) small))
+    rw (below, t .ensures .0, t .ensures .1, ← plus-digits e, ← minus-digits e) (sym (naf-counts e (search needs)))
 
 pub counts-spec : {M : Type 1} → statement M
 counts-spec = tie.close (tie.spec tally-of-requires sub-t3 sub-t4 returns)

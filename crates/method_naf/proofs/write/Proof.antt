@@ -11,7 +11,6 @@ use Rattle.signed_digits.proofs.Left.{some-digits}
 use Rattle.methods.specs.PartialPlan.{PartialPlan, none}
 use Rattle.methods.specs.DigitSteps.{atDigit}
 use Rattle.methods.specs.NonAdjacentForm.{nafSteps}
-use Rattle.methods.proofs.Laws.{Small, plannable, plannable-small}
 use Rattle.methods.proofs.DigitSteps.{length-at-digit}
 use Rattle.methods.proofs.NonAdjacentForm.{naf-down}
 use Rattle.plan_writing.proofs.Underway.{Underway, down-one, nothing-written, underway-next, underway-room, underway-end}
@@ -46,8 +45,7 @@ loop-holds c =
     let e : ℕ = bytesValue (args .number .now) in
     let n = c .recoded .ensures .count in
     let first = c .before .before .first in
-    let small : Small (e + 1) = plannable-small (plannable (args .number .now) (λ i. c .before .before .before .before .shared-slice-known .given i .fits) (c .before .before .before .before .before .pre .0)) in
-    (record { partial = none; writing = nothing-written (args .out .now) (first .result) (first .ensures .0) (first .ensures .1); rest = rw (n, naf-down e (search needs) small) }, omega (arith, n, some-digits 2 (omega arith) e (search needs)), refl)
+    (record { partial = none; writing = nothing-written (args .out .now) (first .result) (first .ensures .0) (first .ensures .1); rest = rw (n, naf-down e (search needs)) }, omega (arith, n, some-digits 2 (omega arith) e (search needs)), refl)
 
 sub-i-2 : tie.Need-sub-i-2 Inv-loop μ-loop
 sub-i-2 c = search needs

@@ -62,7 +62,7 @@ returns c =
     let entry = at .before .before .before .before in
     rw (← number at .same)
     (counted (wordsValue (at .before .before .words-of .result)) (entry .args .width) (number at .some) (search needs) (done .before .before .before .start-of .result) (done .before .before .before .start-of .ensures) (done .before .before .table-counts .result) (done .later-windows .result)
-    (done .before .before .table-counts .ensures) (done .later-windows .ensures) (record { some = number at .some; bits = number at .few }) (search needs))
+    (done .before .before .table-counts .ensures) (done .later-windows .ensures))
 
 pub counts-spec : {M : Type 1} → statement M
 counts-spec =

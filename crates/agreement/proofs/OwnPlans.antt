@@ -47,14 +47,14 @@ module _ (number : List ℕ) (bytes : Below 256 number) (positive : Positive num
 
   -- the plan read back is those steps
   read-steps : stepsOf plan ≡ steps
-  read-steps = steps-of-plan steps (λ n h. let s = fit .sound .formed n h in record { first = omega (arith, s .first, few-steps); second = omega (arith, s .second, few-steps) })
+  read-steps = steps-of-plan steps (λ n h. let s = fit .made .sound .formed n h in record { first = omega (arith, s .first, few-steps); second = omega (arith, s .second, few-steps) })
 
   -- given work space enough, check accepts it with the same counts
   pub accepted : (room : ℕ) → roomFor (length plan) ≤ room → countedOutcome (checkAnswer number plan room) ≡ answered (countValues (countsOf steps))
   accepted room h =
       let e = length-plan steps in
       accepts number plan room (countValues (countsOf steps)) .1
-      (record { positive = positive; whole = omega arith; few = omega (arith, few-steps); fits = h }, rw read-steps (fit .sound), rw read-steps (fit .end), ap (λ (l : List Step). countValues (countsOf l)) (sym read-steps))
+      (record { positive = positive; whole = omega arith; few = omega (arith, few-steps); fits = h }, rw read-steps (fit .made .sound), rw read-steps (fit .made .end), ap (λ (l : List Step). countValues (countsOf l)) (sym read-steps))
 
   -- no step of it is a hidden doubling
   unhidden : NoHiddenDoubling steps

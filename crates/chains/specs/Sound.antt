@@ -18,11 +18,18 @@ pub record WellFormed (i : ℕ) (s : Step) : Type 0 where
   pub first : s .first < i
   pub second : s .second < i
 
--- a value that is representable: not zero, which is the point at infinity, and of size below the bound
-pub record Representable (z : ℤ) : Type 0 where
+-- a value that is not zero, which is the point at infinity, and of size below a limit; with the limit of the rules it is representable
+pub record RepresentableBelow (limit : ℕ) (z : ℤ) : Type 0 where
   pub nonzero : z ≢ pos 0
-  pub small : natAbs z < valueBound
+  pub small : natAbs z < limit
 
-pub record Sound (steps : List Step) : Type 0 where
+abbrev pub Representable : ℤ → Type 0
+Representable z = RepresentableBelow valueBound z
+
+-- likewise
+pub record SoundBelow (limit : ℕ) (steps : List Step) : Type 0 where
   pub formed : (n : ℕ) → n < length steps → WellFormed (suc n) (stepAt steps n)
-  pub representable : (n : ℕ) → n < length steps → Representable (at (valuesOf steps) (suc n))
+  pub representable : (n : ℕ) → n < length steps → RepresentableBelow limit (at (valuesOf steps) (suc n))
+
+abbrev pub Sound : List Step → Type 0
+Sound steps = SoundBelow valueBound steps

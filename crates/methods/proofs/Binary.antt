@@ -18,7 +18,7 @@ use Rattle.integers.specs.Bits.{bit, bitLength}
 use Rattle.methods.specs.Binary.{atBit, binarySteps}
 use Rattle.integers.proofs.Bits.{top-bit, above-top, place-down, bit-small, quotient-le, quotient-none}
 use Rattle.methods.proofs.Counted.{countsIn, counts-double, counts-add, not-before}
-use Rattle.methods.proofs.Laws.{Holds, Made, Fit, fit, Plannable, plannable-below, none-holds, one-stands, double-holds, double-add, latest-followed, length-followed, down-from, made}
+use Rattle.methods.proofs.Laws.{Holds, Made, Fit, Plannable, plannable-below, none-holds, one-stands, double-holds, double-add, latest-followed, length-followed, down-from, made}
 
 ones-place : (e i : ℕ) → e / 2 ^ i % 2 + ones (e / 2 ^ i / 2) ≡ bit e i + ones (e / 2 ^ suc i)
 unfolding bit
@@ -122,4 +122,4 @@ module _ (e : ℕ) (plannable : Plannable e) where
   binary-few = omega (arith, binary-short e (plannable .some), plannable .bits)
 
   pub binary-fit : Fit (binarySteps e) e
-  binary-fit = fit (binarySteps e) e (binary-made e (plannable .some) (plannable-below plannable)) binary-few
+  binary-fit = record { made = binary-made e (plannable .some) (plannable-below plannable); few = binary-few }

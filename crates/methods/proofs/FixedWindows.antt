@@ -21,7 +21,7 @@ use Rattle.methods.specs.Tables.{tableCounts}
 use Rattle.methods.specs.Forecast.{nonzeroWindows, fixedWindowCounts}
 use Rattle.integers.proofs.Bits.{bit-length-iff, above-top, quotient-le, quotient-none}
 use Rattle.methods.proofs.Counted.{countsIn, counts-add, counts-doubled, counts-cond, not-before-doubled}
-use Rattle.methods.proofs.Laws.{power-small, Holds, Stands, Made, Fit, fit, Plannable, plannable-below, stands-followed, stands-doubled, latest-followed, length-followed, length-doubled, latest-doubled, add-holds, doubled-holds, down-from, made}
+use Rattle.methods.proofs.Laws.{power-small, Holds, Stands, Made, Fit, Plannable, plannable-below, stands-followed, stands-doubled, latest-followed, length-followed, length-doubled, latest-doubled, add-holds, doubled-holds, down-from, made}
 use Rattle.methods.proofs.Tables.{tabled, length-table, table-holds, table-counts, table-total, no-subtractions}
 
 -- ---- the multiples
@@ -250,4 +250,4 @@ module _ (e d : ℕ) (plannable : Plannable e) (wide : 1 ≤ d) (narrow : d ≤ 
   fixed-few = omega (arith, fixed-short e d (plannable .some) wide, plannable .bits, pow-mono {i = d} {j = fixedWindowBits} narrow)
 
   pub fixed-fit : Fit (fixedWindowSteps e d) e
-  fixed-fit = fit (fixedWindowSteps e d) e (fixed-made e d (plannable .some) wide (plannable-below plannable) (power-small d (omega arith))) fixed-few
+  fixed-fit = record { made = fixed-made e d (plannable .some) wide (plannable-below plannable) (power-small d (omega arith)); few = fixed-few }

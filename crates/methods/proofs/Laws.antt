@@ -3,12 +3,12 @@
 use mathlib.Core.Path.{_≡_, refl, sym, ap, _∙_}
 use mathlib.Core.Logic.{_≢_}
 use mathlib.Core.List.{List, [], _∷_, _++_}
-use Prim.Native.Nat.{ℕ, zero, suc, _+_, _*_, _-_, _/_, _^_, _<_, _≤_}
+use Prim.Native.Nat.{ℕ, zero, suc, _+_, _*_, _-_, _^_, _<_, _≤_}
 use native.Mathlib.Decide.{decLt}
 use native.Mathlib.Nat.{le-add-right, pow-succ', mul-assoc, mul-comm, mul-le-mul-left, mul-pos, lt-of-le-of-lt, lt-of-lt-of-le}
 use native.Mathlib.Numerals.{add-one}
 use native.Mathlib.Omega.{arith}
-use lib.IntN.{ℤ, pos, negℤ, natAbs}
+use lib.IntN.{ℤ, pos, negℤ}
 use lib.ListN.{length, length-append, List·getD-append}
 use lib.Pow.{pow-pos, pow-mono}
 use lib.Seq.{getD-at}
@@ -20,7 +20,7 @@ use Rattle.integers.proofs.Positional.{Below}
 use Rattle.numbers.specs.Admission.{Positive}
 use Rattle.chains.specs.Steps.{Step, add, subtract}
 use Rattle.chains.specs.Values.{at, start, stepValue, extend, valuesOf, endOf}
-use Rattle.chains.specs.Sound.{stepAt, WellFormed, Sound}
+use Rattle.chains.specs.Sound.{stepAt, WellFormed, RepresentableBelow, SoundBelow}
 use Rattle.chains.specs.Counts.{HidesNone, NoHiddenDoubling}
 use Rattle.chains.proofs.Values.{extend-append, extend-keeps, length-values}
 use Rattle.signed_digits.proofs.Steps.{minus-smaller}
@@ -41,22 +41,12 @@ value-new : (steps : List Step) (s : Step) → at (valuesOf (steps ++ (s ∷ [])
 value-new steps s =
     ap (λ (l : List ℤ). at l (suc (length steps))) (values-followed steps s) ∙ getD-at (valuesOf steps) (stepValue (valuesOf steps) s) [] (pos 0) (suc (length steps)) (length-values steps)
 
--- not zero, and of size below a limit
-pub record Sized (limit : ℕ) (z : ℤ) : Type 0 where
-  pub nonzero : z ≢ pos 0
-  pub small : natAbs z < limit
-
--- sound, with any limit in place of that for representable values
-pub record SoundBelow (limit : ℕ) (steps : List Step) : Type 0 where
-  pub formed : (n : ℕ) → n < length steps → WellFormed (suc n) (stepAt steps n)
-  pub sized : (n : ℕ) → n < length steps → Sized limit (at (valuesOf steps) (suc n))
-
 sound-none : {limit : ℕ} → SoundBelow limit []
-sound-none = record { formed = λ n h. absurd (omega arith); sized = λ n h. absurd (omega arith) }
+sound-none = record { formed = λ n h. absurd (omega arith); representable = λ n h. absurd (omega arith) }
 
-sound-followed : {limit : ℕ} (steps : List Step) (s : Step) → SoundBelow limit steps → WellFormed (suc (length steps)) s → Sized limit (stepValue (valuesOf steps) s)
+sound-followed : {limit : ℕ} (steps : List Step) (s : Step) → SoundBelow limit steps → WellFormed (suc (length steps)) s → RepresentableBelow limit (stepValue (valuesOf steps) s)
     → SoundBelow limit (steps ++ (s ∷ []))
-sound-followed {limit} steps s all n v = record { formed = formed; sized = sized }
+sound-followed {limit} steps s all n v = record { formed = formed; representable = representable }
   where
     formed : (i : ℕ) → i < length (steps ++ (s ∷ [])) → WellFormed (suc i) (stepAt (steps ++ (s ∷ [])) i)
     formed i h = go (decLt i (length steps))
@@ -67,11 +57,11 @@ sound-followed {limit} steps s all n v = record { formed = formed; sized = sized
             let e : i ≡ length steps = omega (arith, length-append steps (s ∷ [])) in
             rw (e, getD-at steps s [] (add 0 0) (length steps) refl) n
 
-    sized : (i : ℕ) → i < length (steps ++ (s ∷ [])) → Sized limit (at (valuesOf (steps ++ (s ∷ []))) (suc i))
-    sized i h = go (decLt i (length steps))
+    representable : (i : ℕ) → i < length (steps ++ (s ∷ [])) → RepresentableBelow limit (at (valuesOf (steps ++ (s ∷ []))) (suc i))
+    representable i h = go (decLt i (length steps))
       where
-        go : Dec (i < length steps) → Sized limit (at (valuesOf (steps ++ (s ∷ []))) (suc i))
-        go (yes l) = rw (value-kept steps s (suc i) (omega arith)) (all .sized i l)
+        go : Dec (i < length steps) → RepresentableBelow limit (at (valuesOf (steps ++ (s ∷ []))) (suc i))
+        go (yes l) = rw (value-kept steps s (suc i) (omega arith)) (all .representable i l)
         go (no l) =
             let e : i ≡ length steps = omega (arith, length-append steps (s ∷ [])) in
             rw (e, value-new steps s) v
@@ -252,18 +242,10 @@ pub record Made (limit : ℕ) (steps : List Step) (e : ℕ) : Type 0 where
 pub made : {limit : ℕ} (b : PartialPlan) (e : ℕ) → Holds limit b e → b .latest ≡ length (b .steps) → Made limit (b .steps) e
 made b e h l = record { sound = h .sound; unhidden = h .unhidden; end = rw (← l) (h .value) }
 
--- a plan for the number: sound, and no longer than a plan may be
+-- with the limit of the rules, and no more of them than a plan may have
 pub record Fit (steps : List Step) (e : ℕ) : Type 0 where
-  pub sound : Sound steps
-  pub end : endOf steps ≡ pos e
+  pub made : Made valueBound steps e
   pub few : length steps ≤ planSteps
-
-pub fit : (steps : List Step) (e : ℕ) → Made valueBound steps e → length steps ≤ planSteps → Fit steps e
-fit steps e m few = record {
-  sound = record { formed = m .sound .formed; representable = λ n h. let z = m .sound .sized n h in record { nonzero = z .nonzero; small = z .small } };
-  end = m .end;
-  few = few;
-}
 
 -- a number that a plan is made for: above zero and within the limit
 pub record Plannable (e : ℕ) : Type 0 where

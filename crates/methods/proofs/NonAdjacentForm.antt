@@ -25,7 +25,7 @@ use Rattle.methods.specs.OddMultiples.{oddPosition}
 use Rattle.methods.specs.DigitSteps.{atDigit, digitSteps}
 use Rattle.methods.specs.NonAdjacentForm.{nafSteps}
 use Rattle.methods.specs.Forecast.{plusDigits, minusDigits}
-use Rattle.methods.proofs.Laws.{Made, Fit, fit, Plannable, plannable-small}
+use Rattle.methods.proofs.Laws.{Made, Fit, Plannable, plannable-small}
 use Rattle.methods.proofs.OddMultiples.{tableValue, InTable}
 use Rattle.methods.proofs.DigitSteps.{Suited, top-above-zero, digits-made, digits-counts, digits-short}
 
@@ -112,4 +112,4 @@ module _ (e : ℕ) (plannable : Plannable e) where
   naf-few = omega (arith, naf-short e (plannable .some), naf-bits e, plannable .bits)
 
   pub naf-fit : Fit (nafSteps e) e
-  naf-fit = fit (nafSteps e) e (naf-made e (plannable .some) (plannable-small plannable)) naf-few
+  naf-fit = record { made = naf-made e (plannable .some) (plannable-small plannable); few = naf-few }

@@ -24,7 +24,7 @@ use Rattle.methods.specs.SlidingWindows.{longest, windowValue, slide, sc
 use Rattle.methods.specs.Forecast.{laterWindows, scanCounts, slidingWindowCounts}
 use Rattle.integers.proofs.Bits.{bit-length-iff, some-bits, top-bit, place-down, places-down, bit-small, quotient-le, quotient-none}
 use Rattle.methods.proofs.Counted.{countsIn, counts-double, counts-add, counts-doubled}
-use Rattle.methods.proofs.Laws.{power-small, Holds, Stands, Made, Fit, fit, Plannable, plannable-below, double-holds, doubled-add, stands-followed, stands-doubled, latest-followed, latest-doubled, length-followed, length-doubled, made}
+use Rattle.methods.proofs.Laws.{power-small, Holds, Stands, Made, Fit, Plannable, plannable-below, double-holds, doubled-add, stands-followed, stands-doubled, latest-followed, latest-doubled, length-followed, length-doubled, made}
 use Rattle.methods.proofs.Tables.{tabled, no-subtractions}
 use Rattle.methods.proofs.OddMultiples.{odd-length, tableValue, position-less, position-value, odd-counts, entry-holds, Entry, table-narrow, entry-in-table}
 
@@ -315,4 +315,4 @@ module _ (e d : ℕ) (plannable : Plannable e) (wide : 1 ≤ d) (narrow : d ≤ 
   sliding-few = omega (arith, sliding-short e d (plannable .some) wide, plannable .bits, pow-mono {i = d} {j = slidingWindowBits} narrow)
 
   pub sliding-fit : Fit (slidingWindowSteps e d) e
-  sliding-fit = fit (slidingWindowSteps e d) e (sliding-made e d (plannable .some) wide (plannable-below plannable) (power-small d (omega arith))) sliding-few
+  sliding-fit = record { made = sliding-made e d (plannable .some) wide (plannable-below plannable) (power-small d (omega arith)); few = sliding-few }

@@ -1,3 +1,2 @@
-pub mod Signed
 mod Limits
 mod Sizes

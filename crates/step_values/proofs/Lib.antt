@@ -1,2 +1,3 @@
+mod Signed
 pub mod Tested
 pub mod Outcomes

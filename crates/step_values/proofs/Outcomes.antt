@@ -18,7 +18,6 @@ use Rattle.rules.specs.declared.Verdict.the-variants.{Passed, Failed}
 use Rattle.integers.specs.Positional.{bytesValue, lowBytes}
 use Rattle.integers.specs.Signed.{signOf, isSame}
 use Rattle.integers.proofs.Blocks.{placed}
-use Rattle.chain_values.proofs.Signed.{addend, addend-size, agreeing, same-sign, same-sizes, opposite-size, opposite-sign, opposite-differ}
 use Rattle.chains.specs.Steps.{Step, adding}
 use Rattle.chains.specs.Values.{at, stepValue}
 use Rattle.chains.specs.Sound.{WellFormed, Representable}
@@ -28,6 +27,7 @@ use Rattle.records.specs.Recording.{Recording, sizeBytes, distanceOf}
 use Rattle.records.proofs.Recording.{has-record, recording-more}
 use Rattle.records.proofs.Records.{record-read}
 use Rattle.step_values.specs.Verdicts.{isWellFormed, stepVerdict, StepChecked, signsAt}
+use Rattle.step_values.proofs.Signed.{addend, addend-size, agreeing, same-sign, same-sizes, opposite-size, opposite-sign, opposite-differ}
 use Rattle.step_values.proofs.Tested.{value-is-zero, value-too-large, passed, size-zero, tested-only}
 
 -- ---- a step by its two values

@@ -10,14 +10,16 @@ use lib.Dec.{ltb, eqb}
 use lib.IntN.{ℤ, pos, negsuc, negℤ, natAbs, _+ℤ_}
 use mir.Val.{boolByte}
 use Rattle.integers.specs.Signed.{signOf, isSame}
+use Rattle.chains.specs.Steps.{adding, subtracting}
+use Rattle.records.specs.Recording.{distanceOf}
 
 -- ---- what a step adds to its first value: the second, or its opposite
 
 abbrev pub addend : ℕ → ℤ → ℤ
-addend operation y = cond (eqb operation 0) y (negℤ y)
+addend operation y = cond (eqb operation adding) y (negℤ y)
 
 pub addend-size : (operation : ℕ) (y : ℤ) → natAbs (addend operation y) ≡ natAbs y
-addend-size operation y = go (eqb operation 0) y
+addend-size operation y = go (eqb operation adding) y
   where
     go : (adds : Bool) (y : ℤ) → natAbs (cond adds y (negℤ y)) ≡ natAbs y
     go true y = refl
@@ -26,7 +28,7 @@ addend-size operation y = go (eqb operation 0) y
     go false (negsuc n) = refl
 
 -- the signs of both values give the operation where what is added has the first one's sign
-pub agreeing : (operation : ℕ) (x y : ℤ) → operation ≤ 1 → y ≢ pos 0 → eqb (bitXor (signOf x) (signOf y)) operation ≡ eqb (signOf x) (signOf (addend operation y))
+pub agreeing : (operation : ℕ) (x y : ℤ) → operation ≤ subtracting → y ≢ pos 0 → eqb (bitXor (signOf x) (signOf y)) operation ≡ eqb (signOf x) (signOf (addend operation y))
 agreeing operation x (pos zero) h d = absurd (d refl)
 agreeing zero (pos m) (pos (suc n)) h d = refl
 agreeing zero (pos m) (negsuc n) h d = refl
@@ -69,17 +71,17 @@ module _ (x w : ℤ) (e : signOf x ≡ signOf w) where
 
 -- ---- of opposite signs: the sizes are taken from each other, the larger decides, and no two are the same
 
-pub opposite-size : (x w : ℤ) → signOf x ≢ signOf w → natAbs (x +ℤ w) ≡ natAbs x - natAbs w + (natAbs w - natAbs x)
+pub opposite-size : (x w : ℤ) → signOf x ≢ signOf w → natAbs (x +ℤ w) ≡ distanceOf (natAbs x) (natAbs w)
 opposite-size (pos m) (pos n) d = absurd (d refl)
 opposite-size (negsuc m) (negsuc n) d = absurd (d refl)
 opposite-size (pos m) (negsuc n) d = go (ltb m (suc n)) refl
   where
-    go : (t : Bool) → ltb m (suc n) ≡ t → natAbs (cond t (negsuc (suc n - suc m)) (pos (m - suc n))) ≡ m - suc n + (suc n - m)
+    go : (t : Bool) → ltb m (suc n) ≡ t → natAbs (cond t (negsuc (suc n - suc m)) (pos (m - suc n))) ≡ distanceOf m (suc n)
     go true l = omega (arith, ltb-true m (suc n) l)
     go false l = omega (arith, ltb-false m (suc n) l)
 opposite-size (negsuc m) (pos n) d = go (ltb n (suc m)) refl
   where
-    go : (t : Bool) → ltb n (suc m) ≡ t → natAbs (cond t (negsuc (suc m - suc n)) (pos (n - suc m))) ≡ suc m - n + (n - suc m)
+    go : (t : Bool) → ltb n (suc m) ≡ t → natAbs (cond t (negsuc (suc m - suc n)) (pos (n - suc m))) ≡ distanceOf (suc m) n
     go true l = omega (arith, ltb-true n (suc m) l)
     go false l = omega (arith, ltb-false n (suc m) l)
 

@@ -110,35 +110,35 @@ twice-doubles values s e = go (eqb (s .operation) adding) refl (eqb (s .first) (
     go true a false p e = cc
     go false a p q e = cc
 
--- with m additions and k subtractions moved to the doublings
+-- with some additions and some subtractions moved to the doublings
 pub record Moved (before after : Counts) : Type 0 where
-  pub m : ℕ
-  pub k : ℕ
-  pub doublings : after .doublings ≡ before .doublings + m + k
-  pub additions : before .additions ≡ after .additions + m
-  pub subtractions : before .subtractions ≡ after .subtractions + k
+  pub from-additions : ℕ
+  pub from-subtractions : ℕ
+  pub doublings : after .doublings ≡ before .doublings + from-additions + from-subtractions
+  pub additions : before .additions ≡ after .additions + from-additions
+  pub subtractions : before .subtractions ≡ after .subtractions + from-subtractions
 
 moved-one : (values : List ℤ) (s : Step) → Moved (oneStep (namesTwice s) s) (stepCounts values s)
 moved-one values s = go (namesTwice s) refl (isDoubling values s) refl (eqb (s .operation) adding)
   where
     go : (p : Bool) → namesTwice s ≡ p → (d : Bool) → isDoubling values s ≡ d → (adds : Bool)
         → Moved (cond p (counts 1 0 0) (cond adds (counts 0 1 0) (counts 0 0 1))) (cond d (counts 1 0 0) (cond adds (counts 0 1 0) (counts 0 0 1)))
-    go true p true d adds = record { m = 0; k = 0; doublings = refl; additions = refl; subtractions = refl }
+    go true p true d adds = record { from-additions = 0; from-subtractions = 0; doublings = refl; additions = refl; subtractions = refl }
     go true p false d adds = absurd (false≢true (sym d ∙ twice-doubles values s p))
-    go false p true d true = record { m = 1; k = 0; doublings = refl; additions = refl; subtractions = refl }
-    go false p true d false = record { m = 0; k = 1; doublings = refl; additions = refl; subtractions = refl }
-    go false p false d true = record { m = 0; k = 0; doublings = refl; additions = refl; subtractions = refl }
-    go false p false d false = record { m = 0; k = 0; doublings = refl; additions = refl; subtractions = refl }
+    go false p true d true = record { from-additions = 1; from-subtractions = 0; doublings = refl; additions = refl; subtractions = refl }
+    go false p true d false = record { from-additions = 0; from-subtractions = 1; doublings = refl; additions = refl; subtractions = refl }
+    go false p false d true = record { from-additions = 0; from-subtractions = 0; doublings = refl; additions = refl; subtractions = refl }
+    go false p false d false = record { from-additions = 0; from-subtractions = 0; doublings = refl; additions = refl; subtractions = refl }
 
 moved-all : (values : List ℤ) (steps : List Step) → Moved (sumCounts (λ s. oneStep (namesTwice s) s) steps) (sumCounts (stepCounts values) steps)
 unfolding sumCounts
-moved-all values [] = record { m = 0; k = 0; doublings = refl; additions = refl; subtractions = refl }
+moved-all values [] = record { from-additions = 0; from-subtractions = 0; doublings = refl; additions = refl; subtractions = refl }
 moved-all values (s ∷ steps) =
     let one = moved-one values s in
     let more = moved-all values steps in
     record {
-      m = one .m + more .m;
-      k = one .k + more .k;
+      from-additions = one .from-additions + more .from-additions;
+      from-subtractions = one .from-subtractions + more .from-subtractions;
       doublings = omega (arith, one .doublings, more .doublings);
       additions = omega (arith, one .additions, more .additions);
       subtractions = omega (arith, one .subtractions, more .subtractions);

@@ -46,8 +46,8 @@ sumCounts f (s ∷ steps) = plus (f s) (sumCounts f steps)
 unfoldable pub countsOf : List Step → Counts
 countsOf steps = sumCounts (stepCounts (valuesOf steps)) steps
 
--- A hidden doubling (source document 000) is one at two different positions. A step hides none if values at different positions that it adds are different, and
--- values that it subtracts are not opposite.
+-- A hidden doubling (source document 000) is one at two different positions. A step hides none if values at different positions that it adds are
+-- different, and values that it subtracts are not opposite.
 pub record HidesNone (values : List ℤ) (s : Step) : Type 0 where
   pub sums : s .operation ≡ adding → s .first ≢ s .second → at values (s .first) ≢ at values (s .second)
   pub differences : s .operation ≢ adding → at values (s .first) ≢ negℤ (at values (s .second))

@@ -182,15 +182,15 @@ ended c =
     let e : at .loop .n ≡ length (args .plan .now) / stepBytes = omega arith in
     rw e at (underway-end (args .number .now) (args .plan .now) (args .space .now) (at .loop .space) (at .loop .n) (underway at) e {t = c .ends-at .result} (rw e (c .ends-at .ensures)))
 
+-- no count is below zero
+few : (c : tie.At-loop Inv-loop μ-loop) → (c .loop .doublings ≤ c .loop .not-additions) × (c .loop .not-additions ≤ c .loop .n)
+few c = holding-few _ (c .loop .n) _ _ (c .loop .inv .2) (c .loop .inv .0)
+
 sub-additions : tie.Need-sub-additions Inv-loop μ-loop
-sub-additions c =
-    let at : tie.At-loop Inv-loop μ-loop = search in
-    omega (arith, holding-few (at .before .before .before .before .before .before .before .before .before .before .before .args .plan .now) (at .loop .n) _ _ (at .loop .inv .2) (at .loop .inv .0))
+sub-additions c = let at : tie.At-loop Inv-loop μ-loop = search in omega (arith, few at)
 
 sub-subtractions : tie.Need-sub-subtractions Inv-loop μ-loop
-sub-subtractions c =
-    let at : tie.At-loop Inv-loop μ-loop = search in
-    omega (arith, holding-few (at .before .before .before .before .before .before .before .before .before .before .before .args .plan .now) (at .loop .n) _ _ (at .loop .inv .2) (at .loop .inv .0))
+sub-subtractions c = let at : tie.At-loop Inv-loop μ-loop = search in omega (arith, few at)
 
 same-length-2 : tie.Need-same-length-2 Inv-loop μ-loop
 same-length-2 c = let at : tie.At-loop Inv-loop μ-loop = search in kept at

@@ -56,10 +56,10 @@ module _ (number : List ℕ) (bytes : Below 256 number) (positive : Positive num
       accepts number plan room (countValues (countsOf steps)) .1
       (record { positive = positive; whole = omega arith; few = omega (arith, few-steps); fits = h }, rw read-steps (fit .made .sound), rw read-steps (fit .made .end), ap (λ (l : List Step). countValues (countsOf l)) (sym read-steps))
 
-  -- no step of it is a hidden doubling
   unhidden : NoHiddenDoubling steps
   unhidden = every-unhidden m (bytesValue number) (is-allowed method width asked) (plannable number bytes positive .some)
 
+  -- no step of the plan is a hidden doubling
   pub no-hidden-doubling : NoHiddenDoubling (stepsOf plan)
   no-hidden-doubling = rw read-steps unhidden
 

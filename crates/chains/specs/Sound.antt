@@ -18,18 +18,20 @@ pub record WellFormed (i : ℕ) (s : Step) : Type 0 where
   pub first : s .first < i
   pub second : s .second < i
 
--- a value that is not zero, which is the point at infinity, and of size below a limit; with the limit of the rules it is representable
+-- not zero, which is the point at infinity, and of size below a limit
 pub record RepresentableBelow (limit : ℕ) (z : ℤ) : Type 0 where
   pub nonzero : z ≢ pos 0
   pub small : natAbs z < limit
 
+-- a representable value: the limit is that of the rules
 abbrev pub Representable : ℤ → Type 0
 Representable z = RepresentableBelow valueBound z
 
--- likewise
+-- Each step is well formed and gives such a value. Any limit will do, so that the laws of the methods are about numbers of any size.
 pub record SoundBelow (limit : ℕ) (steps : List Step) : Type 0 where
   pub formed : (n : ℕ) → n < length steps → WellFormed (suc n) (stepAt steps n)
   pub representable : (n : ℕ) → n < length steps → RepresentableBelow limit (at (valuesOf steps) (suc n))
 
+-- a sound plan: the limit is that of the rules
 abbrev pub Sound : List Step → Type 0
 Sound steps = SoundBelow valueBound steps

@@ -143,13 +143,13 @@ every-fit (FixedWindows d) e a p = let w = fixed-widths a in fixed-fit e d p (w 
 every-fit (SlidingWindows d) e a p = let w = sliding-widths a in sliding-fit e d p (w .0) (w .1)
 every-fit Naf e a p = naf-fit e p
 
--- ---- how many there are, over the bit length
+-- ---- how many there are, over the bit length, however large the number
 
-pub every-short : (m : Method) (e : ℕ) → Allowed m → Plannable e → length (stepsBy m e) ≤ 2 ^ methodWidth m + 2 * bitLength e
-every-short Binary e a p = omega (arith, binary-short e (p .some))
-every-short (FixedWindows d) e a p = omega (arith, fixed-short e d (p .some) (fixed-widths a .0))
-every-short (SlidingWindows d) e a p = omega (arith, sliding-short e d (p .some) (sliding-widths a .0))
-every-short Naf e a p = omega (arith, naf-short e (p .some), naf-bits e)
+pub every-short : (m : Method) (e : ℕ) → Allowed m → 0 < e → length (stepsBy m e) ≤ 2 ^ methodWidth m + 2 * bitLength e
+every-short Binary e a some = omega (arith, binary-short e some)
+every-short (FixedWindows d) e a some = omega (arith, fixed-short e d some (fixed-widths a .0))
+every-short (SlidingWindows d) e a some = omega (arith, sliding-short e d some (sliding-widths a .0))
+every-short Naf e a some = omega (arith, naf-short e some, naf-bits e)
 
 -- and that is below the limit
 pub every-below : (m : Method) (e : ℕ) → Allowed m → Plannable e → 2 ^ methodWidth m + 2 * bitLength e < planSteps
@@ -162,6 +162,6 @@ every-below Naf e a p = omega (arith, p .bits)
 
 pub every-unhidden : (m : Method) (e : ℕ) → Allowed m → 0 < e → NoHiddenDoubling (stepsBy m e)
 every-unhidden Binary e a some = binary-unhidden e some
-every-unhidden (FixedWindows d) e a some = fixed-unhidden e d some (fixed-widths a .0)
+every-unhidden (FixedWindows d) e a some = fixed-unhidden e d
 every-unhidden (SlidingWindows d) e a some = sliding-unhidden e d some (sliding-widths a .0)
 every-unhidden Naf e a some = naf-unhidden e some

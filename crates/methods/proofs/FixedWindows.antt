@@ -225,9 +225,6 @@ module _ (e d : ℕ) (some : 0 < e) (wide : 1 ≤ d) where
   pub fixed-short : length (fixedWindowSteps e d) ≤ 2 ^ d + 2 * (bitLength e - 1)
   fixed-short = omega (arith, fixed-brauer e d, add-mul d 1 (topWindow e d), windows-below-top e d, div-le-self (bitLength e - 1) d)
 
-  pub fixed-unhidden : NoHiddenDoubling (fixedWindowSteps e d)
-  fixed-unhidden = fixed-made {limit = suc (e + 2 ^ d)} (omega arith) (omega arith) .unhidden
-
 -- no steps for zero, nor by windows of no bits
 zero-empty : (d : ℕ) → length (fixedWindowSteps 0 d) ≡ 0
 unfolding fixedWindowSteps
@@ -236,14 +233,14 @@ zero-empty d = rw (lt-ltb 0 (2 ^ d) (pow-pos d)) (length-multiples 0)
 narrow-empty : (e : ℕ) → length (fixedWindowSteps e 0) ≡ 0
 narrow-empty e = let z : topWindow e 0 ≡ 0 = div-zero (bitLength e - 1) in omega (arith, rw z at (fixed-brauer e 0))
 
+pub fixed-unhidden : (e d : ℕ) → NoHiddenDoubling (fixedWindowSteps e d)
+fixed-unhidden zero d n h = absurd (omega (arith, zero-empty d))
+fixed-unhidden (suc e) zero n h = absurd (omega (arith, narrow-empty (suc e)))
+fixed-unhidden (suc e) (suc d) n h = fixed-made (suc e) (suc d) (omega arith) (omega arith) {limit = suc (suc e + 2 ^ suc d)} (omega arith) (omega arith) .unhidden n h
+
 -- multiples alone; or the table, d doublings for each lower window, and an addition for each that is not zero
 pub fixed-counts : (e d : ℕ) → countsOf (fixedWindowSteps e d) ≡ fixedWindowCounts e d
-fixed-counts e d = unhidden-counts (fixedWindowSteps e d) (go e d) ∙ fixed-positions e d
-  where
-    go : (e d : ℕ) → NoHiddenDoubling (fixedWindowSteps e d)
-    go zero d n h = absurd (omega (arith, zero-empty d))
-    go (suc e) zero n h = absurd (omega (arith, narrow-empty (suc e)))
-    go (suc e) (suc d) n h = fixed-unhidden (suc e) (suc d) (omega arith) (omega arith) n h
+fixed-counts e d = unhidden-counts (fixedWindowSteps e d) (fixed-unhidden e d) ∙ fixed-positions e d
 
 module _ (e d : ℕ) (plannable : Plannable e) (wide : 1 ≤ d) (narrow : d ≤ fixedWindowBits) where
   pub fixed-few : length (fixedWindowSteps e d) ≤ planSteps

@@ -76,13 +76,13 @@ hides-kept steps s r n h =
     let second = value-kept steps s (r .second) (omega (arith, n .second)) in
     record { sums = rw (first, second) (h .sums); differences = rw (first, second) (h .differences) }
 
-unhidden-followed : {limit : ℕ} (steps : List Step) (s : Step) → SoundBelow limit steps → NoHiddenDoubling steps → WellFormed (suc (length steps)) s → HidesNone (valuesOf steps) s
-    → NoHiddenDoubling (steps ++ (s ∷ []))
-unhidden-followed steps s all before n here i h = go (decLt i (length steps))
+unhidden-followed : (steps : List Step) (s : Step) → ((i : ℕ) → i < length steps → WellFormed (suc i) (stepAt steps i)) → NoHiddenDoubling steps → WellFormed (suc (length steps)) s
+    → HidesNone (valuesOf steps) s → NoHiddenDoubling (steps ++ (s ∷ []))
+unhidden-followed steps s formed before n here i h = go (decLt i (length steps))
   where
     go : Dec (i < length steps) → HidesNone (valuesOf (steps ++ (s ∷ []))) (stepAt (steps ++ (s ∷ [])) i)
     go (yes l) =
-        let f : WellFormed (suc i) (stepAt steps i) = all .formed i l in
+        let f : WellFormed (suc i) (stepAt steps i) = formed i l in
         rw (List·getD-append steps (s ∷ []) (add 0 0) i l)
         (hides-kept steps s (stepAt steps i) (record { operation = f .operation; first = omega (arith, f .first); second = omega (arith, f .second) }) (before i l))
     go (no l) =
@@ -133,7 +133,7 @@ followed-holds : {limit : ℕ} (b : PartialPlan) (s : Step) (u v : ℕ) → Hold
 unfolding followed
 followed-holds b s u v h n hides e p l = record {
   sound = sound-followed (b .steps) s (h .sound) n (rw e (record { nonzero = λ z. let y : v ≡ 0 = cc in zero-not v p y; small = l }));
-  unhidden = unhidden-followed (b .steps) s (h .sound) (h .unhidden) n hides;
+  unhidden = unhidden-followed (b .steps) s (h .sound .formed) (h .unhidden) n hides;
   within = rw length-append (omega arith);
   value = rw add-one (value-new (b .steps) s ∙ e);
 }
@@ -255,7 +255,7 @@ pub record Plannable (e : ℕ) : Type 0 where
 pub plannable : (number : List ℕ) → Below 256 number → Positive number → Plannable (bytesValue number)
 plannable number bytes p = record { some = omega (arith, p .nonzero); bits = bytes-length number numberBytes bytes (p .admitted .short) }
 
--- a power of two of no more bits than a value has is representable
+-- a power of two that fits into the bytes of a value is below the limit
 pub power-small : (d : ℕ) → d < 8 * valueBytes → 2 ^ d < valueBound
 power-small d h =
     let more : 2 ^ d < 2 ^ suc d = rw (pow-succ' 2 d) (omega (arith, pow-pos d)) in

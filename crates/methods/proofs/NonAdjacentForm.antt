@@ -71,7 +71,7 @@ module _ (e : ℕ) (some : 0 < e) where
     single = λ h. low-single (step 0);
   }
 
-  -- with a limit just above it
+  -- where the limit does not matter, the least one
   suited-alone : Suited (suc (e + 1)) 0 ds
   suited-alone = suited (lt-suc-self (e + 1))
 

@@ -249,7 +249,7 @@ module _ (e d : ℕ) (some : 0 < e) (wide : 1 ≤ d) where
       omega (arith, reaches e (top e) d (omega (arith, some-bits e some)) (omega (arith, t .odd)))
 
   first-reached : {limit : ℕ} → (Entry d e → ⊥) → 2 ^ d < limit → Reached limit e d (belowWindow e d (top e)) (atFirst e d)
-  first-reached {limit} more room = record {
+  first-reached {limit} more small-table = record {
     holds = subst (λ (v : ℕ). Holds limit (atFirst e d) v) (sym first-value) (holds _ (window-entry first-window));
     positive = omega (arith, first-value, window-entry first-window .odd);
     stands = λ v t. record { filled = holds v t .within; value = holds v t .value };
@@ -277,7 +277,7 @@ module _ (e d : ℕ) (some : 0 < e) (wide : 1 ≤ d) where
       ]
 
   pub sliding-made : {limit : ℕ} → e < limit → 2 ^ d < limit → Made limit (slidingWindowSteps e d) e
-  sliding-made {limit} small room = entry-or-scan (λ s c. Made limit s e) from-table from-scan
+  sliding-made {limit} small small-table = entry-or-scan (λ s c. Made limit s e) from-table from-scan
     where
       from-table : Entry d e → Made limit (oddTable (oddPosition e)) e
       from-table t =
@@ -287,7 +287,7 @@ module _ (e d : ℕ) (some : 0 < e) (wide : 1 ≤ d) where
 
       from-scan : (Entry d e → ⊥) → Made limit (scanFrom e d (top e)) e
       from-scan more =
-          let r = scan-reached e d wide small scan-all (first-reached more room) in
+          let r = scan-reached e d wide small scan-all (first-reached more small-table) in
           made _ e (rw (quotient-none e) at (r .holds)) (r .last refl)
 
   -- at most 2 ^ d steps for the table, and two for each bit below the top

@@ -2,3 +2,4 @@ pub mod Records
 pub mod Values
 pub mod Bytes
 pub mod Counts
+pub mod Largest

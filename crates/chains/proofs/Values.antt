@@ -76,3 +76,7 @@ value-at steps n h =
     let v : ℤ = stepValue (valuesAfter steps n) (stepAt steps n) in
     sym (getD-take (suc (suc n)) (valuesOf steps) (suc n) (pos 0) (omega arith)) ∙ ap (λ (l : List ℤ). at l (suc n)) (after-more steps n h)
     ∙ getD-at (valuesAfter steps n) v [] (pos 0) (suc n) (length-after steps n (omega arith))
+
+pub value-first : (steps : List Step) → at (valuesOf steps) 0 ≡ pos 1
+unfolding valuesOf
+value-first steps = extend-keeps start steps 0 (omega arith)

@@ -19,10 +19,10 @@ use Rattle.integers.proofs.Bits.{bit-length-iff, bytes-length}
 use Rattle.integers.proofs.Positional.{Below}
 use Rattle.numbers.specs.Admission.{Positive}
 use Rattle.chains.specs.Steps.{Step, add, subtract}
-use Rattle.chains.specs.Values.{at, start, stepValue, extend, valuesOf, endOf}
+use Rattle.chains.specs.Values.{at, stepValue, extend, valuesOf, endOf}
 use Rattle.chains.specs.Sound.{stepAt, WellFormed, RepresentableBelow, SoundBelow}
 use Rattle.chains.specs.Counts.{HidesNone, NoHiddenDoubling}
-use Rattle.chains.proofs.Values.{extend-append, extend-keeps, length-values}
+use Rattle.chains.proofs.Values.{extend-append, length-values, value-first}
 use Rattle.signed_digits.proofs.Steps.{minus-smaller}
 use Rattle.methods.specs.PartialPlan.{PartialPlan, none, followed, double, addAt, subtractAt, doubled, downFrom}
 
@@ -122,8 +122,7 @@ stands-followed b s p w t = record { filled = rw length-append (omega (arith, t 
 
 -- position 0 holds 1 from the start
 pub one-stands : (b : PartialPlan) → Stands b 0 1
-unfolding valuesOf
-one-stands b = record { filled = omega arith; value = extend-keeps start (b .steps) 0 (omega arith) }
+one-stands b = record { filled = omega arith; value = value-first (b .steps) }
 
 zero-not : (v : ℕ) → 0 < v → v ≡ 0 → ⊥
 zero-not v p e = omega arith

@@ -10,3 +10,4 @@ pub mod SlidingWindows
 pub mod NonAdjacentForm
 pub mod Method
 pub mod Forecast
+pub mod Largest

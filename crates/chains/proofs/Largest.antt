@@ -1,0 +1,160 @@
+-- The largest size among the values of a plan: its bit length is the least number of bits that holds every size, and a step at most doubles it. Assumes
+-- nothing.
+use mathlib.Core.Path.{_≡_, refl, sym, ap, _∙_}
+use mathlib.Core.Logic.{_↔_}
+use mathlib.Core.Bool.{Bool, true, false, cond}
+use mathlib.Core.List.{List, [], _∷_, _++_}
+use Prim.Native.Nat.{ℕ, zero, suc, max, _+_, _*_, _-_, _/_, _%_, _^_, _<_, _≤_}
+use borrow.Author.Tests.{ltb-true}
+use native.Mathlib.Decide.{decLt, decLe}
+use native.Mathlib.Nat.{pow-suc, div-lt-iff-lt-mul, lt-of-le-of-lt}
+use native.Mathlib.Omega.{arith}
+use lib.Dec.{ltb, eqb}
+use lib.IntN.{ℤ, pos, negsuc, negℤ, _+ℤ_, _-ℤ_, subℕ, natAbs}
+use lib.ListN.{length}
+use lib.Pow.{pow-pos, pow-mono}
+use Rattle.integers.specs.Bits.{bit, bitLength, lengthUpTo}
+use Rattle.integers.proofs.Bits.{bit-length-iff}
+use Rattle.chains.specs.Steps.{Step, adding, add, subtract}
+use Rattle.chains.specs.Values.{at, stepValue, extend, valuesOf, endOf}
+use Rattle.chains.specs.Largest.{largest, largestBits}
+use Rattle.chains.specs.Sound.{stepAt, SoundBelow}
+use Rattle.chains.proofs.Values.{length-values, value-first}
+
+-- ---- of any values
+
+pub largest-each : (values : List ℤ) (i : ℕ) → i < length values → natAbs (at values i) ≤ largest values
+unfolding largest
+largest-each [] i h = absurd (omega arith)
+largest-each (z ∷ values) zero h = omega arith
+largest-each (z ∷ values) (suc i) h = omega (arith, largest-each values i (omega arith))
+
+-- it is one of them
+pub largest-one : (values : List ℤ) → 0 < length values → (i : ℕ) × (i < length values) × (natAbs (at values i) ≡ largest values)
+unfolding largest
+largest-one [] h = absurd (omega arith)
+largest-one (z ∷ []) h = (0, omega arith, omega arith)
+largest-one (z ∷ (y ∷ values)) h =
+    let (i, l, e) = largest-one (y ∷ values) (omega arith) in
+    elim (decLe (natAbs z) (largest (y ∷ values))) [
+      | yes g ↦ (suc i, omega arith, omega arith)
+      | no g ↦ (0, omega arith, omega arith)
+    ]
+
+-- one value more
+pub largest-append : (values : List ℤ) (z : ℤ) → largest (values ++ (z ∷ [])) ≡ max (largest values) (natAbs z)
+unfolding largest
+largest-append [] z = omega arith
+largest-append (y ∷ values) z = omega (arith, largest-append values z)
+
+-- what stands at no position is 0
+at-largest : (values : List ℤ) (i : ℕ) → natAbs (at values i) ≤ largest values
+unfolding largest
+at-largest [] i = omega arith
+at-largest (z ∷ values) zero = omega arith
+at-largest (z ∷ values) (suc i) = omega (arith, at-largest values i)
+
+difference-size : (a b : ℕ) → natAbs (subℕ a b) ≤ a + b
+difference-size a b = go (ltb a b) refl
+  where
+    go : (t : Bool) → ltb a b ≡ t → natAbs (cond t (negsuc (b - suc a)) (pos (a - b))) ≤ a + b
+    go true e = omega (arith, ltb-true a b e)
+    go false e = omega arith
+
+sum-size : (x y : ℤ) → natAbs (x +ℤ y) ≤ natAbs x + natAbs y
+sum-size (pos a) (pos b) = omega arith
+sum-size (pos a) (negsuc b) = difference-size a (suc b)
+sum-size (negsuc a) (pos b) = omega (arith, difference-size b (suc a))
+sum-size (negsuc a) (negsuc b) = omega arith
+
+opposite-size : (x : ℤ) → natAbs (negℤ x) ≡ natAbs x
+opposite-size (pos zero) = refl
+opposite-size (pos (suc n)) = refl
+opposite-size (negsuc n) = refl
+
+-- a step at most doubles it
+pub step-size : (values : List ℤ) (s : Step) → natAbs (stepValue values s) ≤ 2 * largest values
+unfolding stepValue
+step-size values s = go (eqb (s .operation) adding)
+  where
+    a : ℤ
+    a = at values (s .first)
+
+    b : ℤ
+    b = at values (s .second)
+
+    go : (t : Bool) → natAbs (cond t (a +ℤ b) (a -ℤ b)) ≤ 2 * largest values
+    go true = omega (arith, sum-size a b, at-largest values (s .first), at-largest values (s .second))
+    go false = omega (arith, sum-size a (negℤ b), opposite-size b, at-largest values (s .first), at-largest values (s .second))
+
+-- ---- bits
+
+pub bits-up : (m n : ℕ) → m ≤ n → bitLength m ≤ bitLength n
+bits-up m n h = bit-length-iff m (bitLength n) .1 (lt-of-le-of-lt h (bit-length-iff n (bitLength n) .0 (omega arith)))
+
+-- the larger of two numbers, one of which is at most twice the other, has one bit more exactly where the bit above the other is 1
+larger-bits : (m n : ℕ) → n ≤ 2 * m → bitLength (max m n) ≡ bitLength m + bit n (bitLength m)
+unfolding bit
+larger-bits m n h =
+    let b : ℕ = bitLength m in
+    let low : m < 2 ^ b = bit-length-iff m b .0 (omega arith) in
+    let below : n / 2 ^ b < 2 = div-lt-iff-lt-mul (pow-pos b) .1 (omega arith) in
+    elim (decLt n (2 ^ b)) [
+      | yes l ↦
+          let none : n / 2 ^ b < 1 = div-lt-iff-lt-mul (pow-pos b) .1 (omega arith) in
+          omega (arith, bits-up m (max m n) (omega arith), bit-length-iff (max m n) b .1 (omega arith))
+      | no l ↦
+          let some : n / 2 ^ b < 1 → ⊥ = λ q. let r = div-lt-iff-lt-mul (pow-pos b) .0 q in omega arith in
+          let few : bitLength (max m n) ≤ b → ⊥ = λ q. let r = bit-length-iff (max m n) b .0 q in omega arith in
+          omega (arith, bit-length-iff (max m n) (suc b) .1 (omega (arith, pow-suc 2 b)))
+    ]
+
+-- one step more
+pub bits-append : (values : List ℤ) (s : Step) → let z = stepValue values s in
+    bitLength (largest (values ++ (z ∷ []))) ≡ bitLength (largest values) + bit (natAbs z) (bitLength (largest values))
+bits-append values s = rw (largest-append values (stepValue values s)) (larger-bits (largest values) (natAbs (stepValue values s)) (step-size values s))
+
+-- ---- of a plan
+
+-- position 0 alone
+pub bits-none : largestBits [] ≡ 1
+unfolding largestBits largest valuesOf extend bitLength lengthUpTo
+bits-none = refl
+
+-- 1, 2, -1, -3, -6, 1: neither the last value nor the largest one, but the largest size decides
+pub bits-below-zero : largestBits (add 0 0 ∷ subtract 0 1 ∷ subtract 2 1 ∷ add 3 3 ∷ add 1 2 ∷ []) ≡ 3
+unfolding largestBits largest valuesOf extend stepValue bitLength lengthUpTo
+bits-below-zero = refl
+
+module _ (steps : List Step) where
+  -- the least number of bits that holds every size
+  pub bits-least : (k : ℕ) → largestBits steps ≤ k ↔ ((i : ℕ) → i ≤ length steps → natAbs (at (valuesOf steps) i) < 2 ^ k)
+  unfolding largestBits
+  bits-least k = (to, from)
+    where
+      l : ℕ
+      l = largest (valuesOf steps)
+
+      to : bitLength l ≤ k → (i : ℕ) → i ≤ length steps → natAbs (at (valuesOf steps) i) < 2 ^ k
+      to h i w = lt-of-le-of-lt (largest-each (valuesOf steps) i (omega (arith, length-values steps))) (bit-length-iff l k .0 h)
+
+      from : ((i : ℕ) → i ≤ length steps → natAbs (at (valuesOf steps) i) < 2 ^ k) → bitLength l ≤ k
+      from h =
+          let (i, w, e) = largest-one (valuesOf steps) (omega (arith, length-values steps)) in
+          bit-length-iff l k .1 (rw e at (h i (omega (arith, length-values steps))))
+
+  -- so it holds the size of each position
+  pub bits-each : (i : ℕ) → i ≤ length steps → bitLength (natAbs (at (valuesOf steps) i)) ≤ largestBits steps
+  bits-each i w = bit-length-iff _ (largestBits steps) .1 (bits-least (largestBits steps) .0 (omega arith) i w)
+
+  -- that of the last one, which is the number where a plan is accepted, and of position 0
+  pub bits-end : bitLength (natAbs (endOf steps)) ≤ largestBits steps
+  bits-end = bits-each (length steps) (omega arith)
+
+  -- and where all values are below a power of two, its exponent is enough
+  pub bits-below : {k : ℕ} → 0 < k → SoundBelow (2 ^ k) steps → largestBits steps ≤ k
+  bits-below {k} some sound = bits-least k .1 each
+    where
+      each : (i : ℕ) → i ≤ length steps → natAbs (at (valuesOf steps) i) < 2 ^ k
+      each zero w = rw (value-first steps) (omega (arith, pow-mono {i = 1} {j = k} some))
+      each (suc i) w = sound .representable i (omega arith) .small

@@ -1,0 +1,22 @@
+-- How many bits the largest size in a method's plan has, for a number e above zero. That it is so is shown in proofs/.
+use Prim.Native.Nat.{ℕ, _+_, _%_, _^_}
+use mathlib.Core.Bool.{_&&_, cond}
+use lib.Dec.{ltb, eqb}
+use Rattle.integers.specs.Bits.{bitLength}
+use Rattle.methods.specs.declared.Method.{Method}
+use Rattle.methods.specs.declared.Method.the-variants.{Binary, FixedWindows, SlidingWindows, Naf}
+
+-- method 3: an even number shorter than a window gets the whole table, which ends at 2^d - 1
+abbrev pub slidingLargestBits : ℕ → ℕ → ℕ
+slidingLargestBits e d = cond (eqb (e % 2) 0 && ltb (bitLength e) d) d (bitLength e)
+
+-- method 4: 2^L - 1, but for 1, is made from 2^L
+abbrev pub nafLargestBits : ℕ → ℕ
+nafLargestBits e = cond (ltb 1 e && eqb (e + 1) (2 ^ bitLength e)) (bitLength e + 1) (bitLength e)
+
+-- any other plan has no value wider than the number; a line a method
+abbrev pub largestBitsBy : Method → ℕ → ℕ
+largestBitsBy Binary e = bitLength e
+largestBitsBy (FixedWindows d) e = bitLength e
+largestBitsBy (SlidingWindows d) e = slidingLargestBits e d
+largestBitsBy Naf e = nafLargestBits e

@@ -13,13 +13,14 @@ use lib.Dec.{ltb, eqb}
 use lib.IntN.{ℤ, pos, negsuc, negℤ, _+ℤ_, _-ℤ_, subℕ, natAbs}
 use lib.ListN.{length}
 use lib.Pow.{pow-pos, pow-mono}
+use lib.Seq.{getD-at}
 use Rattle.integers.specs.Bits.{bit, bitLength, lengthUpTo}
-use Rattle.integers.proofs.Bits.{bit-length-iff}
+use Rattle.integers.proofs.Bits.{bit-length-iff, bit-small}
 use Rattle.chains.specs.Steps.{Step, adding, add, subtract}
 use Rattle.chains.specs.Values.{at, stepValue, extend, valuesOf, endOf}
 use Rattle.chains.specs.Largest.{largest, largestBits}
 use Rattle.chains.specs.Sound.{stepAt, SoundBelow}
-use Rattle.chains.proofs.Values.{length-values, value-first}
+use Rattle.chains.proofs.Values.{valuesAfter, length-values, length-after, after-none, after-all, after-more, value-first}
 
 -- ---- of any values
 
@@ -109,8 +110,7 @@ larger-bits m n h =
           omega (arith, bit-length-iff (max m n) (suc b) .1 (omega (arith, pow-suc 2 b)))
     ]
 
--- one step more
-pub bits-append : (values : List ℤ) (s : Step) → let z = stepValue values s in
+bits-append : (values : List ℤ) (s : Step) → let z = stepValue values s in
     bitLength (largest (values ++ (z ∷ []))) ≡ bitLength (largest values) + bit (natAbs z) (bitLength (largest values))
 bits-append values s = rw (largest-append values (stepValue values s)) (larger-bits (largest values) (natAbs (stepValue values s)) (step-size values s))
 
@@ -127,6 +127,30 @@ unfolding largestBits largest valuesOf extend stepValue bitLength lengthUpTo
 bits-below-zero = refl
 
 module _ (steps : List Step) where
+  -- once n steps are behind
+  abbrev pub bitsAfter : ℕ → ℕ
+  bitsAfter n = bitLength (largest (valuesAfter steps n))
+
+  -- the next step adds the bit of its size just above
+  pub bits-next : (n : ℕ) → n < length steps → bitsAfter (suc n) ≡ bitsAfter n + bit (natAbs (at (valuesAfter steps (suc n)) (suc n))) (bitsAfter n)
+  bits-next n h =
+      let values : List ℤ = valuesAfter steps n in
+      let last : at (values ++ (stepValue values (stepAt steps n) ∷ [])) (suc n) ≡ stepValue values (stepAt steps n) = getD-at values _ [] (pos 0) (suc n) (length-after steps n (omega arith)) in
+      rw (after-more steps n h, last) (bits-append values (stepAt steps n))
+
+  pub bits-start : bitsAfter 0 ≡ 1
+  unfolding largest bitLength lengthUpTo
+  bits-start = rw (after-none steps)
+
+  pub bits-all : bitsAfter (length steps) ≡ largestBits steps
+  unfolding largestBits
+  bits-all = rw (after-all steps)
+
+  -- so n steps add at most n
+  pub bits-few : (n : ℕ) → n ≤ length steps → bitsAfter n ≤ suc n
+  bits-few zero h = omega (arith, bits-start)
+  bits-few (suc n) h = omega (arith, bits-next n h, bits-few n (omega arith), bit-small (natAbs (at (valuesAfter steps (suc n)) (suc n))) (bitsAfter n))
+
   -- the least number of bits that holds every size
   pub bits-least : (k : ℕ) → largestBits steps ≤ k ↔ ((i : ℕ) → i ≤ length steps → natAbs (at (valuesOf steps) i) < 2 ^ k)
   unfolding largestBits

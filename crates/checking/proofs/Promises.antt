@@ -7,9 +7,9 @@ use native.Mathlib.Omega.{arith}
 use lib.IntN.{ℤ, pos, natAbs, ℤ-discrete}
 use lib.ListN.{length, take}
 use Rattle.rules.specs.Limits.{numberBytes, stepBytes, planSteps, valueBound}
-use Rattle.rules.specs.Outcome.{Outcome, refused, answered, refusal, countValues, countedOutcome, andThen, unlessFailed}
+use Rattle.rules.specs.Outcome.{Outcome, refused, answered, refusal, checkedValues, checkedOutcome, andThen, unlessFailed}
 use Rattle.rules.specs.declared.Refusal.{Refusal}
-use Rattle.rules.specs.declared.Counted.the-variants.{Steps, Refused}
+use Rattle.rules.specs.declared.Checked.the-variants.{Accepted, Refused}
 use Rattle.rules.specs.declared.Verdict.{Verdict}
 use Rattle.rules.specs.declared.Verdict.the-variants.{Failed}
 use Rattle.integers.specs.Positional.{bytesValue}
@@ -20,6 +20,7 @@ use Rattle.chains.specs.Steps.{Step, stepsOf}
 use Rattle.chains.specs.Values.{at, start, valuesOf, endOf}
 use Rattle.chains.specs.Sound.{stepAt, WellFormed, Sound}
 use Rattle.chains.specs.Counts.{countsOf}
+use Rattle.chains.specs.Largest.{largestBits}
 use Rattle.records.specs.Recording.{recorded}
 use Rattle.step_values.proofs.Tested.{Tested, malformed, value-is-zero, value-too-large}
 use Rattle.checking.specs.Check.{roomFor, admission, Judged, judge, judged, stepsVerdict, checkAnswer, checkSpace, endVerdict}
@@ -48,7 +49,7 @@ first-judged {steps} f t = rw (f .place) (judges-only steps (stops (f .within) (
 module _ (number plan : List ℕ) (room : ℕ) where
   -- the outcome, in the rules' numbers
   abbrev pub outcome : Outcome
-  outcome = countedOutcome (checkAnswer number plan room)
+  outcome = checkedOutcome (checkAnswer number plan room)
 
   -- each outcome with what it is given for
   pub data Given : Outcome → Type 0 where
@@ -63,14 +64,14 @@ module _ (number plan : List ℕ) (room : ℕ) where
     twelve : {i : ℕ} → Checkable number (length plan) room → Sound (stepsOf plan) → i ≡ length (stepsOf plan) → endOf (stepsOf plan) ≢ pos (bytesValue number)
         → Given (refused 12 i)
     accepted : {vs : List ℕ} → Checkable number (length plan) room → Sound (stepsOf plan) → endOf (stepsOf plan) ≡ pos (bytesValue number)
-        → vs ≡ countValues (countsOf (stepsOf plan)) → Given (answered vs)
+        → vs ≡ checkedValues (countsOf (stepsOf plan)) (largestBits (stepsOf plan)) → Given (answered vs)
 
   stopped : {r : Refusal} → Admits number (length plan) room (Failed r) → outcome ≡ refusal r
   stopped t = rw (admits-only number (length plan) room t)
 
   -- the outcome by what judging comes to
   outcome-is : Checkable number (length plan) room → {j : Judged} → judge start (stepsOf plan) ≡ j
-      → let r = length (stepsOf plan) in outcome ≡ countedOutcome (unlessFailed Refused (andThen (j .verdict) (endVerdict number (at (j .values) r) r)) (Steps (countsOf (stepsOf plan))))
+      → let r = length (stepsOf plan) in outcome ≡ checkedOutcome (unlessFailed Refused (andThen (j .verdict) (endVerdict number (at (j .values) r) r)) (Accepted (countsOf (stepsOf plan)) (largestBits (stepsOf plan))))
   unfolding stepsVerdict judged
   outcome-is a e = rw (admits-only number (length plan) room (checkable a), e)
 
@@ -155,9 +156,9 @@ module _ (number plan : List ℕ) (room : ℕ) where
       → outcome ≡ refused 12 i ↔ Checkable number (length plan) room × Sound (stepsOf plan) × (i ≡ length (stepsOf plan)) × (endOf (stepsOf plan) ≢ pos (bytesValue number))
   refuses-12 i = (λ e. elim (given e) [ twelve a s p d ↦ (a, s, p, d) ], λ h. given-only (twelve (h .0) (h .1) (h .2) (h .3)))
 
-  -- counts are answered exactly for a sound plan that ends at the number, and they are its own
+  -- counts and bits are answered exactly for a sound plan that ends at the number, and they are its own
   pub accepts : (vs : List ℕ)
-      → outcome ≡ answered vs ↔ Checkable number (length plan) room × Sound (stepsOf plan) × (endOf (stepsOf plan) ≡ pos (bytesValue number)) × (vs ≡ countValues (countsOf (stepsOf plan)))
+      → outcome ≡ answered vs ↔ Checkable number (length plan) room × Sound (stepsOf plan) × (endOf (stepsOf plan) ≡ pos (bytesValue number)) × (vs ≡ checkedValues (countsOf (stepsOf plan)) (largestBits (stepsOf plan)))
   accepts vs = (λ e. elim (given e) [ accepted a s x v ↦ (a, s, x, v) ], λ h. given-only (accepted (h .0) (h .1) (h .2) (h .3)))
 
 -- ---- memory

@@ -10,18 +10,21 @@ use Rattle.rules.specs.Limits.{stepBytes}
 use Rattle.rules.specs.Outcome.{unlessFailed}
 use Rattle.rules.specs.declared.Refusal.{Refusal}
 use Rattle.rules.specs.declared.Refusal.the-variants.{WrongEnd}
-use Rattle.rules.specs.declared.Counted.the-variants.{Steps, Refused}
+use Rattle.rules.specs.declared.Checked.the-variants.{Accepted, Refused}
 use Rattle.rules.specs.declared.Verdict.{Verdict}
 use Rattle.rules.specs.declared.Verdict.the-variants.{Passed, Failed}
 use Rattle.chains.specs.Steps.{Step, subtracting, readStep, stepsOf}
 use Rattle.chains.specs.Values.{start, stepValue, valuesOf}
 use Rattle.chains.specs.Sound.{stepAt}
 use Rattle.chains.specs.Counts.{isDoubling, countsOf}
+use Rattle.chains.specs.Largest.{largestBits}
 use Rattle.chains.proofs.Counts.{doubling-after}
+use Rattle.chains.proofs.Largest.{bitsAfter, bits-next, bits-all}
 use Rattle.chains.proofs.Values.{valuesAfter, length-values, length-after, after-none, after-all, after-more}
 use Rattle.chains.proofs.Bytes.{length-steps, step-at}
 use Rattle.step_values.specs.Verdicts.{stepVerdict, grown, StepChecked}
 use Rattle.records.specs.Recording.{Recording}
+use Rattle.work_space.specs.Bits.{IsBit}
 use Rattle.work_space.specs.End.{EndsAt}
 use Rattle.checking.specs.Check.{admission, judge, judged, stepsVerdict, checkAnswer, checkSpace}
 use Rattle.checking.proofs.Judge.{step-formed, judge-next, judge-stop, judge-end}
@@ -40,7 +43,7 @@ pub record Done (number plan lent here : List ℕ) (v : Verdict) : Type 0 where
   pub recording : Recording lent here (judged plan .values)
 
 module _ {number plan lent here : List ℕ} {v : Verdict} (passed : admission number (length plan) (length lent) ≡ Passed) (d : Done number plan lent here v) where
-  pub done-answer : unlessFailed Refused v (Steps (countsOf (stepsOf plan))) ≡ checkAnswer number plan (length lent)
+  pub done-answer : unlessFailed Refused v (Accepted (countsOf (stepsOf plan)) (largestBits (stepsOf plan))) ≡ checkAnswer number plan (length lent)
   done-answer = rw (passed, d .verdict)
 
   pub done-space : here ≡ checkSpace number plan lent
@@ -92,3 +95,16 @@ module _ (number plan lent here : List ℕ) (n : ℕ) (u : Underway plan lent he
         verdict = rw (none, f, rw f at (end lent (valuesOf (stepsOf plan)) (rw add-one (rw f (length-values (stepsOf plan)))) all));
         recording = rw none all;
       }
+
+-- the size recorded last adds its bit just above the largest before it
+pub underway-bits : (plan lent here : List ℕ) (n bits b : ℕ) → Underway plan lent here (n + 1) → n < length plan / stepBytes → bits ≡ bitsAfter (stepsOf plan) n → IsBit (n + 1) bits here b
+    → bits + b ≡ bitsAfter (stepsOf plan) (n + 1)
+underway-bits plan lent here n bits b u h e is =
+    let within : n < length (stepsOf plan) = rw (length-steps plan) h in
+    let long : length (valuesAfter (stepsOf plan) (n + 1)) ≡ n + 1 + 1 = omega (arith, length-after (stepsOf plan) (n + 1) (omega arith)) in
+    let known = is lent (valuesAfter (stepsOf plan) (n + 1)) long (u .recording) in
+    rw (known, e, add-one) (sym (bits-next (stepsOf plan) n within))
+
+-- after the last, it is that of all
+pub underway-widest : (plan : List ℕ) (n bits : ℕ) → n ≡ length plan / stepBytes → bits ≡ bitsAfter (stepsOf plan) n → bits ≡ largestBits (stepsOf plan)
+underway-widest plan n bits e b = let f : n ≡ length (stepsOf plan) = e ∙ sym (length-steps plan) in b ∙ rw f (bits-all (stepsOf plan))

@@ -9,8 +9,8 @@ use lib.ListN.{length}
 use Rattle.rules.specs.Limits.{stepBytes, planSteps, recordBytes}
 use Rattle.rules.specs.Outcome.{andThen, unlessFailed}
 use Rattle.rules.specs.declared.Refusal.the-variants.{PlanLength, WorkSpaceTooShort, WrongEnd}
-use Rattle.rules.specs.declared.Counted.{Counted}
-use Rattle.rules.specs.declared.Counted.the-variants.{Steps, Refused}
+use Rattle.rules.specs.declared.Checked.{Checked}
+use Rattle.rules.specs.declared.Checked.the-variants.{Accepted, Refused}
 use Rattle.rules.specs.declared.Verdict.{Verdict}
 use Rattle.rules.specs.declared.Verdict.the-variants.{Passed, Failed}
 use Rattle.integers.specs.Positional.{bytesValue}
@@ -19,6 +19,7 @@ use Rattle.numbers.specs.Admission.{positiveVerdict}
 use Rattle.chains.specs.Steps.{Step, stepsOf}
 use Rattle.chains.specs.Values.{at, start, stepValue}
 use Rattle.chains.specs.Counts.{countsOf}
+use Rattle.chains.specs.Largest.{largestBits}
 use Rattle.step_values.specs.Verdicts.{stepVerdict}
 use Rattle.records.specs.Recording.{recorded}
 
@@ -64,8 +65,10 @@ stepsVerdict number plan =
     andThen (judged plan .verdict) (endVerdict number (at (judged plan .values) r) r)
 
 -- ---- the answer, and the work space: untouched at 1, 13, 2, 7 and 8; else the records of the values by then, and the bytes past these stay
-abbrev pub checkAnswer : List ℕ → List ℕ → ℕ → Counted
-checkAnswer number plan room = unlessFailed Refused (andThen (admission number (length plan) room) (stepsVerdict number plan)) (Steps (countsOf (stepsOf plan)))
+abbrev pub checkAnswer : List ℕ → List ℕ → ℕ → Checked
+checkAnswer number plan room =
+    unlessFailed Refused (andThen (admission number (length plan) room) (stepsVerdict number plan))
+    (Accepted (countsOf (stepsOf plan)) (largestBits (stepsOf plan)))
 
 abbrev pub checkSpace : List ℕ → List ℕ → List ℕ → List ℕ
 checkSpace number plan space = unlessFailed (λ r. space) (admission number (length plan) (length space)) (recorded (judged plan .values) space)

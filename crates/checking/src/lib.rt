@@ -1,6 +1,6 @@
 // Checking a plan for a number.
 use numbers::positive_verdict;
-use rules::Counted;
+use rules::Checked;
 use rules::Counts;
 use rules::PLAN_STEPS;
 use rules::RECORD_BYTES;
@@ -11,6 +11,7 @@ use step_checking::check_step;
 use step_reading::read_step;
 use work_space::begin;
 use work_space::ends_at;
+use work_space::size_bit;
 ghost use mathlib.Core.Path.{_≡_};
 ghost use lib.ListN.{length};
 ghost use Rattle.checking.specs.Check.{admission, checkAnswer, checkSpace};
@@ -35,38 +36,45 @@ fn admit(number: &[u8], plan_length: usize, room: usize) -> Verdict
 }
 
 // Checks a plan for a number, in a lent work space.
-pub fn check(number: &[u8], plan: &[u8], space: &mut [u8]) -> Counted
+pub fn check(number: &[u8], plan: &[u8], space: &mut [u8]) -> Checked
     ensures answer { λ r. ⌜ r ≡ checkAnswer (now (number .entry)) (now (plan .entry)) (length (now (space .entry))) ⌝ }
     ensures space { λ r. ⌜ now (space .exit) ≡ checkSpace (now (number .entry)) (now (plan .entry)) (now (space .entry)) ⌝ }
 {
     if let Verdict::Failed(refusal) = admit(number, plan.len(), space.len()) {
-        return Counted::Refused(refusal);
+        return Checked::Refused(refusal);
     }
     begin(space);
     let steps = plan.len() / STEP_BYTES;
     // Kept are the doublings, and all steps but the additions; the other counts follow at the end.
     let mut doublings = 0;
     let mut not_additions = 0;
+    // That of 1, at position 0. A step at most doubles the largest size, so it adds a bit or none.
+    let mut largest_bits = 1;
     let mut n = 0;
     while n < steps {
         let step = read_step(plan, n);
         let checked = check_step(step, space, n);
         let verdict = checked.verdict;
         if let Verdict::Failed(refusal) = verdict {
-            return Counted::Refused(refusal);
+            return Checked::Refused(refusal);
         }
         doublings += checked.doubling as usize;
         not_additions += checked.doubling as usize | step.operation as usize;
         n += 1;
+        largest_bits += size_bit(space, n, largest_bits);
     }
     if ends_at(number, space, steps) {
         let additions = steps - not_additions;
         let subtractions = not_additions - doublings;
-        return Counted::Steps(Counts {
+        let counts = Counts {
             doublings,
             additions,
             subtractions,
-        });
+        };
+        return Checked::Accepted {
+            counts,
+            largest_bits,
+        };
     }
-    Counted::Refused(Refusal::WrongEnd(steps))
+    Checked::Refused(Refusal::WrongEnd(steps))
 }

@@ -1,12 +1,14 @@
 -- What a call comes to, in numbers: the definition through which every promise about an answer goes.
 use Prim.Native.Nat.{ℕ}
-use mathlib.Core.List.{List, [], _∷_}
+use mathlib.Core.List.{List, [], _∷_, _++_}
 use Rattle.rules.specs.declared.Refusal.{Refusal}
 use Rattle.rules.specs.declared.Written.{Written}
 use Rattle.rules.specs.declared.Written.the-variants.{Length, Refused}
 use Rattle.rules.specs.declared.Counts.{Counts}
 use Rattle.rules.specs.declared.Counted.{Counted}
 use Rattle.rules.specs.declared.Counted.the-variants.{Steps, Refused as CountRefused}
+use Rattle.rules.specs.declared.Checked.{Checked}
+use Rattle.rules.specs.declared.Checked.the-variants.{Accepted, Refused as CheckRefused}
 use Rattle.rules.specs.declared.Verdict.{Verdict}
 use Rattle.rules.specs.declared.Verdict.the-variants.{Passed, Failed}
 use Rattle.rules.specs.Refusals.{refusalNumber, refusalPlace}
@@ -39,6 +41,14 @@ countValues c = c .doublings ∷ c .additions ∷ c .subtractions ∷ []
 abbrev pub countedOutcome : Counted → Outcome
 countedOutcome (Steps c) = answered (countValues c)
 countedOutcome (CountRefused r) = refusal r
+
+-- the three counts, and then how many bits the largest size has
+abbrev pub checkedValues : Counts → ℕ → List ℕ
+checkedValues c bits = countValues c ++ (bits ∷ [])
+
+abbrev pub checkedOutcome : Checked → Outcome
+checkedOutcome (Accepted c bits) = answered (checkedValues c bits)
+checkedOutcome (CheckRefused r) = refusal r
 
 -- ---- tests before an answer
 

@@ -149,6 +149,13 @@ pub enum Counted {
     Refused(Refusal),
 }
 
+// The answer of a call that checks a plan: its counts, and the bit length of the largest size among its
+// values.
+pub enum Checked {
+    Accepted { counts: Counts, largest_bits: usize },
+    Refused(Refusal),
+}
+
 // Whether a test lets a call go on, or why not.
 pub enum Verdict {
     Passed,

@@ -3,7 +3,7 @@ use rules::RECORD_BYTES;
 use rules::Refusal;
 use rules::Verdict;
 use step_reading::Step;
-use step_values::Checked;
+use step_values::CheckedStep;
 use step_values::difference_step;
 use step_values::sum_step;
 ghost use Prim.Native.Nat.{_+_, _*_, _≤_};
@@ -13,7 +13,7 @@ ghost use Rattle.step_reading.specs.Fields.{asStep};
 ghost use Rattle.step_values.specs.Verdicts.{StepChecked};
 
 // Tests the step after n others, and records its value if it passes.
-pub fn check_step(step: Step, space: &mut [u8], n: usize) -> Checked
+pub fn check_step(step: Step, space: &mut [u8], n: usize) -> CheckedStep
     requires { ⌜ recordBytes * n + 2 * recordBytes ≤ length (now space) ⌝ }
     ensures { λ r. ⌜ StepChecked (asStep step) n (now (space .entry)) (now (space .exit)) (r .verdict) (r .doubling) ⌝ }
 {
@@ -22,7 +22,7 @@ pub fn check_step(step: Step, space: &mut [u8], n: usize) -> Checked
     let k = step.second;
     let well_formed = (step.operation <= 1) & (j < i) & (k < i);
     if !well_formed {
-        return Checked {
+        return CheckedStep {
             verdict: Verdict::Failed(Refusal::MalformedStep(i)),
             doubling: false,
         };

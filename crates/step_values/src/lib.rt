@@ -17,7 +17,7 @@ ghost use Rattle.chains.specs.Steps.{Step};
 ghost use Rattle.step_values.specs.Verdicts.{StepChecked, Names, signsAt};
 
 // The verdict on a step, and whether it is a doubling if it passes.
-pub struct Checked {
+pub struct CheckedStep {
     pub verdict: Verdict,
     pub doubling: bool,
 }
@@ -25,13 +25,13 @@ pub struct Checked {
 // The step whose records stand at `a` and `b` and which fills record i, where what is added, the second
 // value or its opposite if the step subtracts, has the sign of the first value. It may be a doubling; its
 // value is not zero, since neither of the two is.
-pub fn sum_step(space: &mut [u8], a: usize, b: usize, i: usize) -> Checked
+pub fn sum_step(space: &mut [u8], a: usize, b: usize, i: usize) -> CheckedStep
     requires { ⌜ (a + recordBytes ≤ length (now space)) × (b + recordBytes ≤ length (now space)) × (recordBytes * i + recordBytes ≤ length (now space)) ⌝ }
     ensures { λ r. ⌜ ((s : Step) (n : ℕ) → Names s n a b i → signsAt (now (space .entry)) a b ≡ s .operation → StepChecked s n (now (space .entry)) (now (space .exit)) (r .verdict) (r .doubling)) ⌝ }
 {
     let words = sum(space, a + 1, b + 1);
     if !is_small(words) {
-        return Checked {
+        return CheckedStep {
             verdict: Verdict::Failed(Refusal::ValueTooLarge(i)),
             doubling: false,
         };
@@ -39,7 +39,7 @@ pub fn sum_step(space: &mut [u8], a: usize, b: usize, i: usize) -> Checked
     let sign = space[a];
     store(space, RECORD_BYTES * i, sign, words);
     // After the store: then the compiler loads whole words again (docs/DECISIONS.md, 49).
-    Checked {
+    CheckedStep {
         verdict: Verdict::Passed,
         doubling: same_size(space, a + 1, b + 1),
     }
@@ -47,21 +47,21 @@ pub fn sum_step(space: &mut [u8], a: usize, b: usize, i: usize) -> Checked
 
 // The same where what is added has the other sign: no doubling, and its value is below the bound, since
 // both sizes are.
-pub fn difference_step(space: &mut [u8], a: usize, b: usize, i: usize) -> Checked
+pub fn difference_step(space: &mut [u8], a: usize, b: usize, i: usize) -> CheckedStep
     requires { ⌜ (a + recordBytes ≤ length (now space)) × (b + recordBytes ≤ length (now space)) × (recordBytes * i + recordBytes ≤ length (now space)) ⌝ }
     ensures { λ r. ⌜ ((s : Step) (n : ℕ) → Names s n a b i → signsAt (now (space .entry)) a b ≢ s .operation → StepChecked s n (now (space .entry)) (now (space .exit)) (r .verdict) (r .doubling)) ⌝ }
 {
     let apart = distance_between(space, a + 1, b + 1);
     let words = apart.words;
     if is_zero(words) {
-        return Checked {
+        return CheckedStep {
             verdict: Verdict::Failed(Refusal::ValueIsZero(i)),
             doubling: false,
         };
     }
     let sign = space[a] ^ apart.below as u8;
     store(space, RECORD_BYTES * i, sign, words);
-    Checked {
+    CheckedStep {
         verdict: Verdict::Passed,
         doubling: false,
     }

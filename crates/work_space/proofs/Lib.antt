@@ -1,2 +1,3 @@
 pub mod End
+pub mod Bits
 mod SameWords

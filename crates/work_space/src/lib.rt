@@ -1,4 +1,5 @@
-// A work space before the first step and after the last: record 0, and the last value beside the number.
+// What check asks of a work space besides its steps: record 0 before the first, a bit of the size recorded
+// last, and the last value beside the number.
 use chain_values::Value;
 use chain_values::one;
 use integers::words_of;
@@ -6,6 +7,7 @@ use records::load;
 use records::store;
 use rules::NUMBER_WORDS;
 use rules::RECORD_BYTES;
+use rules::VALUE_BYTES;
 ghost use mathlib.Core.Path.{_≡_};
 ghost use Prim.Native.Nat.{_+_, _*_, _≤_};
 ghost use lib.IntN.{pos};
@@ -17,6 +19,7 @@ ghost use Rattle.numbers.specs.Admission.{Positive};
 ghost use Rattle.chain_values.specs.Value.{integerOf};
 ghost use Rattle.chains.specs.Values.{start};
 ghost use Rattle.records.specs.Recording.{Recording};
+ghost use Rattle.work_space.specs.Bits.{IsBit};
 ghost use Rattle.work_space.specs.End.{EndsAt};
 
 // Position 0 holds 1.
@@ -25,6 +28,19 @@ pub fn begin(space: &mut [u8])
     ensures { λ _. ⌜ Recording (now (space .entry)) (now (space .exit)) start ⌝ }
 {
     store(space, 0, 0, one());
+}
+
+// The bit at a place of the size at position i, where no more are recorded: 0 above its bytes.
+pub fn size_bit(space: &[u8], i: usize, place: usize) -> usize
+    requires { ⌜ recordBytes * i + recordBytes ≤ length (now space) ⌝ }
+    ensures { λ r. ⌜ IsBit i place (now (space .entry)) r ⌝ }
+{
+    let k = place / 8;
+    if k < VALUE_BYTES {
+        ((space[RECORD_BYTES * i + 1 + k] >> (place % 8)) % 2) as usize
+    } else {
+        0
+    }
 }
 
 // Whether a value is the number, which is not zero.

@@ -2,33 +2,37 @@
 use mathlib.Core.Path.{_≡_, refl, sym, ap, _∙_}
 use mathlib.Core.Bool.{cond}
 use mathlib.Core.List.{List}
-use Prim.Native.Nat.{ℕ, _+_, _≤_, _-_, _/_}
+use Prim.Native.Nat.{ℕ, _+_, _-_, _/_, _<_, _≤_}
 use native.Mathlib.Omega.{arith}
 use lib.Bits.{bitOr}
 use lib.ListN.{length}
 use mir.Val.{boolByte}
 use Rattle.rules.specs.Limits.{stepBytes, planSteps}
 use Rattle.rules.specs.declared.Refusal.the-variants.{WrongEnd}
-use Rattle.rules.specs.declared.Counted.the-variants.{Steps}
+use Rattle.rules.specs.declared.Checked.the-variants.{Accepted}
 use Rattle.rules.specs.declared.Verdict.the-variants.{Passed, Failed}
+use Rattle.chains.specs.Steps.{stepsOf}
 use Rattle.chains.specs.Values.{start}
+use Rattle.chains.proofs.Largest.{bitsAfter, bits-start, bits-few}
+use Rattle.chains.proofs.Bytes.{length-steps}
 use Rattle.step_reading.specs.Fields.{asStep}
 use Rattle.records.specs.Recording.{Recording}
+use Rattle.work_space.specs.Bits.{IsBit}
 use Rattle.checking.specs.Check.{roomFor, admission}
 use Rattle.checking.proofs.Admission.{Checkable, checkable-is}
-use Rattle.checking.proofs.Underway.{Underway, Done, done-answer, done-space, underway-none, underway-next, underway-stop, underway-counted, underway-end}
+use Rattle.checking.proofs.Underway.{Underway, Done, done-answer, done-space, underway-none, underway-next, underway-stop, underway-counted, underway-end, underway-bits, underway-widest}
 use Rattle.checking.proofs.Tally.{Holding, countsTo, holding-none, holding-few, holding-more, holding-all}
 use borrow.Author.Needs.{needs}
 use Rattle.checking.proofs.check.Statement.{statement}
 use Rattle.checking.proofs.check.Tie as tie
 
 abbrev Inv-loop : tie.InvT-loop
-Inv-loop number plan space₀ steps doublings₀ not-additions₀ n₀ space doublings not-additions n =
+Inv-loop number plan space₀ steps doublings₀ not-additions₀ largest-bits₀ n₀ space doublings not-additions largest-bits n =
     (n ≤ length plan / stepBytes) × (length space ≡ length space₀) × Holding (countsTo plan n) doublings not-additions
-    × ((lent : List ℕ) → Recording lent space₀ start → Underway plan lent space n)
+    × (largest-bits ≡ bitsAfter (stepsOf plan) n) × ((lent : List ℕ) → Recording lent space₀ start → Underway plan lent space n)
 
 abbrev μ-loop : tie.MeasureT-loop
-μ-loop number plan space₀ steps doublings₀ not-additions₀ n₀ space doublings not-additions n = length plan / stepBytes - n
+μ-loop number plan space₀ steps doublings₀ not-additions₀ largest-bits₀ n₀ space doublings not-additions largest-bits n = length plan / stepBytes - n
 
 admit-requires : tie.Need-admit-requires Inv-loop μ-loop
 admit-requires c κs = search needs
@@ -57,7 +61,7 @@ begin-requires : tie.Need-begin-requires Inv-loop μ-loop
 begin-requires c κs = omega (arith, admitted (c .before) .fits)
 
 loop-holds : tie.Need-loop-holds Inv-loop μ-loop
-loop-holds c = (search needs, refl, holding-none _, λ lent w. underway-none _ lent _ w)
+loop-holds c = (search needs, refl, holding-none _, sym (bits-start _), λ lent w. underway-none _ lent _ w)
 
 -- at each turn: what was lent keeps its length, which is enough, and checking is underway in it
 kept : (c : tie.At-loop Inv-loop μ-loop) → length (c .loop .space) ≡ length (c .before .before .before .before .before .before .before .before .before .before .before .args .space .now)
@@ -67,7 +71,7 @@ room : (c : tie.At-loop Inv-loop μ-loop) → roomFor (length (c .before .before
 room c = rw (kept c) (admitted (c .before .before .before .before .before) .fits)
 
 underway : (c : tie.At-loop Inv-loop μ-loop) → let args = c .before .before .before .before .before .before .before .before .before .before .before .args in Underway (args .plan .now) (args .space .now) (c .loop .space) (c .loop .n)
-underway c = c .loop .inv .3 _ (c .before .before .before .begin .ensures)
+underway c = c .loop .inv .4 _ (c .before .before .before .begin .ensures)
 
 read-step-requires : tie.Need-read-step-requires Inv-loop μ-loop
 read-step-requires c κs = search needs
@@ -96,6 +100,18 @@ returns-2 c =
 
 enum-told-2 : tie.Need-enum-told-2 Inv-loop μ-loop
 enum-told-2 c = search needs
+
+-- a step that passes is behind
+behind : (c : tie.After-check-step Inv-loop μ-loop) → c .check-step .result .verdict ≡ Passed
+    → let at = c .before .before .before .before in
+    let plan = at .before .before .before .before .before .before .before .before .before .before .before .args .plan .now in
+    (lent : List ℕ) → Underway plan lent (at .loop .space) (at .loop .n) → Underway plan lent (c .check-step .last .1 .0) (at .loop .n + 1)
+behind c e lent u =
+    let read = c .before .before in
+    let at = read .before .before in
+    let args = at .before .before .before .before .before .before .before .before .before .before .before .args in
+    let check = c .check-step in
+    underway-next (args .number .now) (args .plan .now) lent (at .loop .space) (at .loop .n) u (search needs) (asStep (read .read-step .result)) (read .read-step .ensures) (check .result .verdict) (check .result .doubling) (check .last .1 .0) (check .ensures) e
 
 cast-doublings : tie.Need-cast-doublings Inv-loop μ-loop
 cast-doublings c = search needs
@@ -149,6 +165,31 @@ add-not-additions c =
 add-n : tie.Need-add-n Inv-loop μ-loop
 add-n c = search needs
 
+size-bit-requires : tie.Need-size-bit-requires Inv-loop μ-loop
+size-bit-requires c κs =
+    let at : tie.At-loop Inv-loop μ-loop = search in
+    let checked : tie.After-check-step Inv-loop μ-loop = search in
+    omega (arith, room at, checked .check-step .kept .1 .0)
+
+-- its size is seen
+grown : (c : tie.After-check-step Inv-loop μ-loop) → c .check-step .result .verdict ≡ Passed
+    → let at = c .before .before .before .before in
+    (b : ℕ) → IsBit (at .loop .n + 1) (at .loop .largest-bits) (c .check-step .last .1 .0) b
+    → at .loop .largest-bits + b ≡ bitsAfter (stepsOf (at .before .before .before .before .before .before .before .before .before .before .before .args .plan .now)) (at .loop .n + 1)
+grown c e b is = let at = c .before .before .before .before in underway-bits _ _ _ (at .loop .n) (at .loop .largest-bits) b (behind c e _ (underway at)) (search needs) (at .loop .inv .3) is
+
+add-largest-bits : tie.Need-add-largest-bits Inv-loop μ-loop
+add-largest-bits c =
+    let at : tie.At-loop Inv-loop μ-loop = search in
+    let checked : tie.After-check-step Inv-loop μ-loop = search in
+    let told : tie.After-enum-told2 Inv-loop μ-loop = search in
+    let plan = at .before .before .before .before .before .before .before .before .before .before .before .args .plan .now in
+    let bits = grown checked (told .enum-told2 .given .1) _ (c .size-bit .ensures) in
+    let within : at .loop .n < length plan / stepBytes = search needs in
+    let few = bits-few (stepsOf plan) (at .loop .n + 1) (omega (arith, length-steps plan)) in
+    let most = admitted (at .before .before .before .before .before) .few in
+    omega arith
+
 loop-less : tie.Need-loop-less Inv-loop μ-loop
 loop-less c = search needs
 
@@ -163,9 +204,8 @@ loop-again c =
       search needs,
       check .kept .1 .0 ∙ at .loop .inv .1,
       held checked (told .enum-told2 .given .1),
-      λ lent w.
-          underway-next (args .number .now) (args .plan .now) lent (at .loop .space) (at .loop .n) (at .loop .inv .3 lent w) (search needs) (asStep (read .read-step .result)) (read .read-step .ensures) (check .result .verdict) (check .result .doubling) (check .last .1 .0) (check .ensures)
-          (told .enum-told2 .given .1),
+      grown checked (told .enum-told2 .given .1) _ (c .size-bit .ensures),
+      λ lent w. behind checked (told .enum-told2 .given .1) lent (at .loop .inv .4 lent w),
     )
 
 ends-at-requires : tie.Need-ends-at-requires Inv-loop μ-loop
@@ -205,7 +245,8 @@ returns-3 c =
     let e : at .loop .n ≡ length plan / stepBytes = omega arith in
     let all = rw e at (holding-all plan (at .loop .n) (at .loop .doublings) (at .loop .not-additions) (at .loop .inv .2) e) in
     let admission = passed (at .before .before .before .before .before) in
-    (ap Steps all ∙ done-answer admission done, done-space admission done)
+    let bits = underway-widest plan (at .loop .n) (at .loop .largest-bits) e (at .loop .inv .3) in
+    ((λ i. Accepted (all i) (bits i)) ∙ done-answer admission done, done-space admission done)
 
 same-length-3 : tie.Need-same-length-3 Inv-loop μ-loop
 same-length-3 c = let at : tie.At-loop Inv-loop μ-loop = search in kept at
@@ -242,6 +283,8 @@ check-spec =
     cast-not-additions-2
     add-not-additions
     add-n
+    size-bit-requires
+    add-largest-bits
     loop-less
     loop-again
     ends-at-requires

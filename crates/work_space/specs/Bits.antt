@@ -1,0 +1,13 @@
+-- The bits of the size that was recorded last.
+use Prim.Native.Nat.{ℕ, _+_}
+use mathlib.Core.List.{List}
+use mathlib.Core.Path.{_≡_}
+use lib.IntN.{ℤ, natAbs}
+use lib.ListN.{length}
+use Rattle.integers.specs.Bits.{bit}
+use Rattle.chains.specs.Values.{at}
+use Rattle.records.specs.Recording.{Recording}
+
+-- the bit of the size at position i, whatever values are recorded by then
+abbrev pub IsBit : ℕ → ℕ → List ℕ → ℕ → Type 0
+IsBit i place here b = (lent : List ℕ) (values : List ℤ) → length values ≡ i + 1 → Recording lent here values → b ≡ bit (natAbs (at values i)) place

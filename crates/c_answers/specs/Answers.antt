@@ -6,6 +6,8 @@ use Rattle.rules.specs.declared.Written.{Written}
 use Rattle.rules.specs.declared.Written.the-variants.{Length as Fitted, Refused as NotWritten}
 use Rattle.rules.specs.declared.Counted.{Counted}
 use Rattle.rules.specs.declared.Counted.the-variants.{Steps as Made, Refused as NotCounted}
+use Rattle.rules.specs.declared.Checked.{Checked}
+use Rattle.rules.specs.declared.Checked.the-variants.{Accepted as Passes, Refused as NotAccepted}
 use Rattle.reading.specs.declared.ReadBack.{ReadBack}
 use Rattle.reading.specs.declared.ReadBack.the-variants.{Value as Reads, Refused as NotRead}
 use Rattle.taking.specs.declared.Start.{Start}
@@ -20,6 +22,7 @@ use Rattle.c_answers.specs.declared.Started.{Started}
 use Rattle.c_answers.specs.declared.Length.{Length}
 use Rattle.c_answers.specs.declared.Value.{Value}
 use Rattle.c_answers.specs.declared.Counts.{Counts}
+use Rattle.c_answers.specs.declared.Accepted.{Accepted}
 use Rattle.c_answers.specs.declared.Parsed.{Parsed}
 
 -- a refusal
@@ -41,6 +44,10 @@ readFields (NotRead r) = record { refusal = refusalNumber r; place = refusalPlac
 abbrev pub countedFields : Counted → Counts
 countedFields (Made c) = record { refusal = 0; place = 0; doublings = c .doublings; additions = c .additions; subtractions = c .subtractions }
 countedFields (NotCounted r) = record { refusal = refusalNumber r; place = refusalPlace r; doublings = 0; additions = 0; subtractions = 0 }
+
+abbrev pub checkedFields : Checked → Accepted
+checkedFields (Passes c bits) = record { refusal = 0; place = 0; doublings = c .doublings; additions = c .additions; subtractions = c .subtractions; «largest_bits» = bits }
+checkedFields (NotAccepted r) = record { refusal = refusalNumber r; place = refusalPlace r; doublings = 0; additions = 0; subtractions = 0; «largest_bits» = 0 }
 
 -- a text that is a number, by how many bytes it has; if it is none, a decimal one tells its place
 abbrev pub hexadecimalFields : Hexadecimal → Parsed

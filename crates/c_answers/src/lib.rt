@@ -1,12 +1,13 @@
 // The answers as C takes them: structs of numbers. A refusal is its number and place, and all else
 // is 0; if a call is not refused, both are 0.
 use reading::ReadBack;
+use rules::Checked;
 use rules::Counted;
 use rules::Refusal;
 use rules::Written;
 use taking::Start;
 ghost use mathlib.Core.Path.{_≡_};
-ghost use Rattle.c_answers.specs.Answers.{refusedFields, startedFields, writtenFields, readFields, countedFields, limitFields, hexadecimalFields, decimalFields};
+ghost use Rattle.c_answers.specs.Answers.{refusedFields, startedFields, writtenFields, readFields, countedFields, checkedFields, limitFields, hexadecimalFields, decimalFields};
 
 // What the start of taking answers.
 #[repr(C)]
@@ -40,6 +41,17 @@ pub struct Counts {
     pub doublings: usize,
     pub additions: usize,
     pub subtractions: usize,
+}
+
+// What an accepted plan has: how many steps of each kind, and how many bits its largest size has.
+#[repr(C)]
+pub struct Accepted {
+    pub refusal: usize,
+    pub place: usize,
+    pub doublings: usize,
+    pub additions: usize,
+    pub subtractions: usize,
+    pub largest_bits: usize,
 }
 
 // Whether a text is a number, 1 if it is: then how many bytes it has; if not, how many digits come
@@ -158,6 +170,35 @@ pub fn of_counted(answer: Counted) -> Counts
                 doublings: 0,
                 additions: 0,
                 subtractions: 0,
+            }
+        }
+    }
+}
+
+pub fn of_checked(answer: Checked) -> Accepted
+    ensures { λ r. ⌜ r ≡ checkedFields answer ⌝ }
+{
+    match answer {
+        Checked::Accepted {
+            counts,
+            largest_bits,
+        } => Accepted {
+            refusal: 0,
+            place: 0,
+            doublings: counts.doublings,
+            additions: counts.additions,
+            subtractions: counts.subtractions,
+            largest_bits,
+        },
+        Checked::Refused(refusal) => {
+            let given = refused(refusal);
+            Accepted {
+                refusal: given.refusal,
+                place: given.place,
+                doublings: 0,
+                additions: 0,
+                subtractions: 0,
+                largest_bits: 0,
             }
         }
     }

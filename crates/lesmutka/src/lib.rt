@@ -1,6 +1,7 @@
 // Every call (docs/RULES.md, 4.1) for C and Rust: byte slices and numbers in, structs of numbers out. A
 // slice is passed as a pointer and a length. include/lesmutka.h says what each call takes and
 // leaves.
+use c_answers::Accepted;
 use c_answers::Counts;
 use c_answers::Length;
 use c_answers::Limits;
@@ -24,7 +25,7 @@ ghost use Rattle.decimal.specs.Decimal as decimal_text;
 ghost use Rattle.refusal_words.specs.Words.{wordsAnswer, wordsBuffer};
 ghost use Rattle.digit_text.specs.Digits.{digitsAnswer, digitsBuffer};
 ghost use Rattle.step_text.specs.Steps.{stepsAnswer, stepsBuffer};
-ghost use Rattle.c_answers.specs.Answers.{startedFields, writtenFields, readFields, countedFields, limitFields, hexadecimalFields, decimalFields};
+ghost use Rattle.c_answers.specs.Answers.{startedFields, writtenFields, readFields, countedFields, checkedFields, limitFields, hexadecimalFields, decimalFields};
 ghost use Rattle.c_recoder.specs.Kept.{keptNumber, IsKeptTake};
 
 // Writes the canonical string of a number.
@@ -93,11 +94,11 @@ pub extern "C" fn lesmutka_forecast(number: &[u8], method: u32, width: u32) -> C
 
 // Checks a plan for a number, in a lent work space.
 #[no_mangle]
-pub extern "C" fn lesmutka_check(number: &[u8], plan: &[u8], space: &mut [u8]) -> Counts
-    ensures answer { λ r. ⌜ r ≡ countedFields (checkAnswer (now (number .entry)) (now (plan .entry)) (length (now (space .entry)))) ⌝ }
+pub extern "C" fn lesmutka_check(number: &[u8], plan: &[u8], space: &mut [u8]) -> Accepted
+    ensures answer { λ r. ⌜ r ≡ checkedFields (checkAnswer (now (number .entry)) (now (plan .entry)) (length (now (space .entry)))) ⌝ }
     ensures space { λ r. ⌜ now (space .exit) ≡ checkSpace (now (number .entry)) (now (plan .entry)) (now (space .entry)) ⌝ }
 {
-    c_answers::of_counted(checking::check(number, plan, space))
+    c_answers::of_checked(checking::check(number, plan, space))
 }
 
 // The limits that the library keeps.

@@ -1,4 +1,4 @@
--- Method 1: its steps are sound and end at the number, how many there are, and their counts. Assumes nothing.
+-- Method 1: its steps are sound and end at the number, how many there are, their counts, and the bits of the largest size. Assumes nothing.
 use mathlib.Core.Path.{_≡_, refl, _∙_}
 use Prim.Native.Nat.{ℕ, zero, suc, _+_, _*_, _-_, _/_, _%_, _^_, _<_, _≤_}
 use native.Mathlib.Decide.{decLt}
@@ -12,13 +12,14 @@ use lib.Pow.{shr-shr}
 use Rattle.rules.specs.Limits.{planSteps}
 use Rattle.chains.specs.Steps.{add}
 use Rattle.chains.specs.Counts.{counts, sumCounts, countsOf, NoHiddenDoubling}
+use Rattle.chains.specs.Largest.{largestBits}
 use Rattle.chains.proofs.Counts.{positionCounts, unhidden-counts}
 use Rattle.methods.specs.PartialPlan.{PartialPlan, none, double, downFrom}
 use Rattle.integers.specs.Bits.{bit, bitLength}
 use Rattle.methods.specs.Binary.{atBit, binarySteps}
 use Rattle.integers.proofs.Bits.{top-bit, above-top, place-down, bit-small, quotient-le, quotient-none}
 use Rattle.methods.proofs.Counted.{countsIn, counts-double, counts-add, not-before}
-use Rattle.methods.proofs.Laws.{Holds, Made, Fit, Plannable, plannable-below, none-holds, one-stands, double-holds, double-add, latest-followed, length-followed, down-from, made}
+use Rattle.methods.proofs.Laws.{Holds, Made, Fit, Plannable, plannable-below, none-holds, one-stands, double-holds, double-add, latest-followed, length-followed, down-from, made, own-bits}
 
 ones-place : (e i : ℕ) → e / 2 ^ i % 2 + ones (e / 2 ^ i / 2) ≡ bit e i + ones (e / 2 ^ suc i)
 unfolding bit
@@ -103,6 +104,10 @@ module _ (e : ℕ) (some : 0 < e) {limit : ℕ} (small : e < limit) where
 module _ (e : ℕ) (some : 0 < e) where
   pub binary-unhidden : NoHiddenDoubling (binarySteps e)
   binary-unhidden = binary-made e some (lt-suc-self e) .unhidden
+
+  -- no value is wider than the number
+  pub binary-largest : largestBits (binarySteps e) ≡ bitLength e
+  binary-largest = own-bits some (binary-made e some)
 
   -- at most two steps for each bit below the top
   pub binary-short : length (binarySteps e) ≤ 2 * (bitLength e - 1)

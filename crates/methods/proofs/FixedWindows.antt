@@ -1,9 +1,9 @@
--- Method 2: its steps are sound and end at the number, how many there are, and their counts. Assumes nothing.
+-- Method 2: its steps are sound and end at the number, how many there are, their counts, and the bits of the largest size. Assumes nothing.
 use mathlib.Core.Path.{_≡_, refl, sym, ap, subst, _∙_}
 use mathlib.Core.Bool.{cond}
 use Prim.Native.Nat.{ℕ, zero, suc, _+_, _*_, _-_, _/_, _^_, _<_, _≤_}
 use borrow.Author.Tests.{ltb-true, ltb-false, lt-ltb, le-ltb}
-use native.Mathlib.Nat.{lt-of-not-le, not-le-of-lt, add-zero, add-mul, mul-zero, mul-suc, mul-le-mul-left, mul-le-mul-right, mod-lt, mul-div-le, lt-mul-div-succ, le-div-iff-mul-le, div-le-self, div-zero}
+use native.Mathlib.Nat.{lt-of-not-le, not-le-of-lt, add-zero, add-mul, mul-zero, mul-suc, mul-le-mul-left, mul-le-mul-right, mod-lt, mul-div-le, lt-mul-div-succ, le-div-iff-mul-le, div-le-self, div-zero, lt-suc-self}
 use native.Mathlib.Omega.{arith}
 use lib.Dec.{ltb, eqb, eqb·suc-zero}
 use lib.ListN.{length}
@@ -12,6 +12,7 @@ use Rattle.signed_digits.proofs.Parts.{cond-cases}
 use Rattle.rules.specs.Limits.{planSteps}
 use Rattle.chains.specs.Steps.{Step, add}
 use Rattle.chains.specs.Counts.{counts, countsOf, total, NoHiddenDoubling}
+use Rattle.chains.specs.Largest.{largestBits}
 use Rattle.chains.proofs.Counts.{positionCounts, positions-counted, unhidden-counts}
 use Rattle.methods.specs.PartialPlan.{PartialPlan, doubled, downFrom}
 use Rattle.integers.specs.Bits.{bitLength}
@@ -21,7 +22,7 @@ use Rattle.methods.specs.Tables.{tableCounts}
 use Rattle.methods.specs.Forecast.{nonzeroWindows, fixedWindowCounts}
 use Rattle.integers.proofs.Bits.{bit-length-iff, above-top, quotient-le, quotient-none}
 use Rattle.methods.proofs.Counted.{countsIn, counts-add, counts-doubled, counts-cond, not-before-doubled}
-use Rattle.methods.proofs.Laws.{power-small, Holds, Stands, Made, Fit, Plannable, plannable-below, stands-followed, stands-doubled, latest-followed, length-followed, length-doubled, latest-doubled, add-holds, doubled-holds, down-from, made}
+use Rattle.methods.proofs.Laws.{Holds, Stands, Made, Fit, Plannable, plannable-below, stands-followed, stands-doubled, latest-followed, length-followed, length-doubled, latest-doubled, add-holds, doubled-holds, down-from, made, own-bits}
 use Rattle.methods.proofs.Tables.{tabled, length-table, table-holds, table-counts, table-total, no-subtractions}
 
 -- ---- the multiples
@@ -107,7 +108,7 @@ record Above (limit e d i : ℕ) (b : PartialPlan) : Type 0 where
   table : (p : ℕ) → p + 2 ≤ 2 ^ d → Stands b p (suc p)
   latest : i < topWindow e d → b .latest ≡ length (b .steps)
 
-module _ (e d : ℕ) (some : 0 < e) (wide : 1 ≤ d) {limit : ℕ} (small : e < limit) (small-table : 2 ^ d < limit) where
+module _ (e d : ℕ) (some : 0 < e) (wide : 1 ≤ d) {limit : ℕ} (small : e < limit) (more : 2 ^ d ≤ e) where
   at-window : (i v : ℕ) (b : PartialPlan) → i < topWindow e d → window e d i ≡ v → Above limit e d (suc i) b → Above limit e d i (atFixedWindow d v b)
   at-window i v b l y a = go v y
     where
@@ -211,15 +212,22 @@ module _ (e d : ℕ) where
       (λ t. omega (arith, table-total (2 ^ d - 2), add-mul d 1 (topWindow e d), nonzero-windows-le e d (topWindow e d))))
 
 module _ (e d : ℕ) (some : 0 < e) (wide : 1 ≤ d) where
-  pub fixed-made : {limit : ℕ} → e < limit → 2 ^ d < limit → Made limit (fixedWindowSteps e d) e
+  -- a table is made only for numbers above its values, so it needs no limit of its own
+  pub fixed-made : {limit : ℕ} → e < limit → Made limit (fixedWindowSteps e d) e
   unfolding fixedWindowSteps windowSteps
-  fixed-made {limit} small small-table =
+  fixed-made {limit} small =
       let last : ℕ = e - 1 in
       let v : suc last ≡ e = omega arith in
-      let a = all e d some wide small small-table in
       cond-cases (ltb e (2 ^ d)) (multiples last) (windowSteps e d) (λ steps. Made limit steps e)
       (λ t. made (multiplied last last) e (subst (Holds limit (multiplied last last)) v (multiples-holds last (rw v small) last (omega arith))) (sym (length-multiples last)))
-      (λ t. rw (mul-zero d, quotient-none e) at (made _ (e / 2 ^ (d * 0)) (a .holds) (a .latest (lower-window e d some wide (ltb-false e (2 ^ d) t)))))
+      (λ t.
+      let more : 2 ^ d ≤ e = ltb-false e (2 ^ d) t in
+      let a = all e d some wide small more in
+      rw (mul-zero d, quotient-none e) at (made _ (e / 2 ^ (d * 0)) (a .holds) (a .latest (lower-window e d some wide more))))
+
+  -- so no value is wider than the number
+  pub fixed-largest : largestBits (fixedWindowSteps e d) ≡ bitLength e
+  fixed-largest = own-bits some fixed-made
 
   -- the table, and at most two steps for each bit below the top
   pub fixed-short : length (fixedWindowSteps e d) ≤ 2 ^ d + 2 * (bitLength e - 1)
@@ -236,7 +244,7 @@ narrow-empty e = let z : topWindow e 0 ≡ 0 = div-zero (bitLength e - 1) in ome
 pub fixed-unhidden : (e d : ℕ) → NoHiddenDoubling (fixedWindowSteps e d)
 fixed-unhidden zero d n h = absurd (omega (arith, zero-empty d))
 fixed-unhidden (suc e) zero n h = absurd (omega (arith, narrow-empty (suc e)))
-fixed-unhidden (suc e) (suc d) n h = fixed-made (suc e) (suc d) (omega arith) (omega arith) {limit = suc (suc e + 2 ^ suc d)} (omega arith) (omega arith) .unhidden n h
+fixed-unhidden (suc e) (suc d) n h = fixed-made (suc e) (suc d) (omega arith) (omega arith) (lt-suc-self (suc e)) .unhidden n h
 
 -- multiples alone; or the table, d doublings for each lower window, and an addition for each that is not zero
 pub fixed-counts : (e d : ℕ) → countsOf (fixedWindowSteps e d) ≡ fixedWindowCounts e d
@@ -247,4 +255,4 @@ module _ (e d : ℕ) (plannable : Plannable e) (wide : 1 ≤ d) (narrow : d ≤ 
   fixed-few = omega (arith, fixed-short e d (plannable .some) wide, plannable .bits, pow-mono {i = d} {j = fixedWindowBits} narrow)
 
   pub fixed-fit : Fit (fixedWindowSteps e d) e
-  fixed-fit = record { made = fixed-made e d (plannable .some) wide (plannable-below plannable) (power-small d (omega arith)); few = fixed-few }
+  fixed-fit = record { made = fixed-made e d (plannable .some) wide (plannable-below plannable); few = fixed-few }

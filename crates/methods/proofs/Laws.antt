@@ -5,7 +5,7 @@ use mathlib.Core.Logic.{_≢_}
 use mathlib.Core.List.{List, [], _∷_, _++_}
 use Prim.Native.Nat.{ℕ, zero, suc, _+_, _*_, _-_, _^_, _<_, _≤_}
 use native.Mathlib.Decide.{decLt}
-use native.Mathlib.Nat.{le-add-right, pow-succ', mul-assoc, mul-comm, mul-le-mul-left, mul-pos, lt-of-le-of-lt, lt-of-lt-of-le}
+use native.Mathlib.Nat.{le-add-right, pow-succ', mul-assoc, mul-comm, mul-le-mul-left, mul-pos, lt-of-le-of-lt, lt-of-lt-of-le, lt-of-not-le}
 use native.Mathlib.Numerals.{add-one}
 use native.Mathlib.Omega.{arith}
 use lib.IntN.{ℤ, pos, negℤ}
@@ -15,14 +15,16 @@ use lib.Seq.{getD-at}
 use Rattle.rules.specs.Limits.{numberBytes, planSteps, valueBytes, valueBound}
 use Rattle.integers.specs.Bits.{bitLength}
 use Rattle.integers.specs.Positional.{bytesValue}
-use Rattle.integers.proofs.Bits.{bit-length-iff, bytes-length}
+use Rattle.integers.proofs.Bits.{bit-length-iff, some-bits, bytes-length}
 use Rattle.integers.proofs.Positional.{Below}
 use Rattle.numbers.specs.Admission.{Positive}
 use Rattle.chains.specs.Steps.{Step, add, subtract}
 use Rattle.chains.specs.Values.{at, stepValue, extend, valuesOf, endOf}
+use Rattle.chains.specs.Largest.{largestBits}
 use Rattle.chains.specs.Sound.{stepAt, WellFormed, RepresentableBelow, SoundBelow}
 use Rattle.chains.specs.Counts.{HidesNone, NoHiddenDoubling}
 use Rattle.chains.proofs.Values.{extend-append, length-values, value-first}
+use Rattle.chains.proofs.Largest.{bits-least, bits-end, bits-below}
 use Rattle.signed_digits.proofs.Steps.{minus-smaller}
 use Rattle.methods.specs.PartialPlan.{PartialPlan, none, followed, double, addAt, subtractAt, doubled, downFrom}
 
@@ -240,6 +242,23 @@ pub record Made (limit : ℕ) (steps : List Step) (e : ℕ) : Type 0 where
 
 pub made : {limit : ℕ} (b : PartialPlan) (e : ℕ) → Holds limit b e → b .latest ≡ length (b .steps) → Made limit (b .steps) e
 made b e h l = record { sound = h .sound; unhidden = h .unhidden; end = rw (← l) (h .value) }
+
+-- ---- the bits of the largest size
+
+-- no fewer than those of the number, and no more than hold the limit
+pub made-bits : {k : ℕ} {steps : List Step} {e : ℕ} → 0 < k → Made (2 ^ k) steps e → (bitLength e ≤ largestBits steps) × (largestBits steps ≤ k)
+made-bits {steps = steps} some m = (rw (m .end) at (bits-end steps), bits-below steps some (m .sound))
+
+-- so the number's own, where its bits are limit enough
+pub own-bits : {steps : List Step} {e : ℕ} → 0 < e → (e < 2 ^ bitLength e → Made (2 ^ bitLength e) steps e) → largestBits steps ≡ bitLength e
+own-bits {e = e} some m = omega (arith, made-bits (some-bits e some) (m (bit-length-iff e (bitLength e) .0 (omega arith))))
+
+-- what stands is held
+pub stands-bits : {k : ℕ} (b : PartialPlan) (p w : ℕ) → Stands b p w → 2 ^ k ≤ w → k < largestBits (b .steps)
+stands-bits {k} b p w t h =
+    lt-of-not-le (λ few. let small : w < 2 ^ k = rw (t .value) at (bits-least (b .steps) k .0 few p (t .filled)) in omega arith)
+
+-- ---- within the limits of the rules
 
 -- with the limit of the rules, and no more of them than a plan may have
 pub record Fit (steps : List Step) (e : ℕ) : Type 0 where

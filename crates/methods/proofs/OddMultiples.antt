@@ -77,19 +77,27 @@ pub record Entry (d v : ℕ) : Type 0 where
   pub narrow : v < 2 ^ d
 
 module _ (d : ℕ) (wide : 1 ≤ d) where
+  pub halved : 2 ^ d ≡ 2 * 2 ^ (d - 1)
+  halved = let s : d ≡ suc (d - 1) = omega arith in ap (λ (n : ℕ). 2 ^ n) s ∙ pow-succ' 2 (d - 1)
+
   -- no step for d = 1, and otherwise half of 2 ^ d
   size-cases : (P : ℕ → Type 0) → (d ≡ 1 → P 0) → ((h : ℕ) → 2 ≤ h → 2 ^ d ≡ 2 * h → P h) → P (tableLength d)
   size-cases P one more =
       elim (decLt d 2) [
         | yes l ↦ rw (lt-ltb d 2 l) (one (omega arith))
-        | no l ↦
-            let s : d ≡ suc (d - 1) = omega arith in
-            rw (le-ltb d 2 (omega arith)) (more (2 ^ (d - 1)) (pow-mono {i = 1} (omega arith)) (ap (λ (n : ℕ). 2 ^ n) s ∙ pow-succ' 2 (d - 1)))
+        | no l ↦ rw (le-ltb d 2 (omega arith)) (more (2 ^ (d - 1)) (pow-mono {i = 1} (omega arith)) halved)
       ]
 
-  pub table-narrow : tableValue (tableLength d) ≤ 2 ^ d
+  -- it ends at d ones
+  pub table-last : tableValue (tableLength d) ≡ 2 ^ d - 1
   unfolding tableValue
-  table-narrow = size-cases (λ s. tableValue s ≤ 2 ^ d) (λ one. pow-pos d) (λ h two twice. omega (arith, odd-value h two))
+  table-last = size-cases (λ s. tableValue s ≡ 2 ^ d - 1) (λ one. rw one) (λ h two twice. omega (arith, odd-value h two))
+
+  pub table-narrow : tableValue (tableLength d) ≤ 2 ^ d
+  table-narrow = omega (arith, table-last)
+
+  pub last-entry : Entry d (2 ^ d - 1)
+  last-entry = record { odd = omega (arith, halved, pow-pos (d - 1)); narrow = omega (arith, pow-pos d) }
 
   pub entry-in-table : (v : ℕ) → Entry d v → InTable (tableLength d) v
   entry-in-table v t = record { odd = t .odd; within = within }

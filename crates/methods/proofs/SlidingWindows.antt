@@ -1,11 +1,11 @@
--- Method 3: its steps are sound and end at the number, how many there are, and their counts. Assumes nothing.
+-- Method 3: its steps are sound and end at the number, how many there are, their counts, and the bits of the largest size. Assumes nothing.
 use mathlib.Core.Path.{_≡_, refl, sym, ap, _∙_, subst}
 use mathlib.Core.Logic.{_≢_}
 use mathlib.Core.List.{List}
 use Prim.Native.Nat.{ℕ, zero, suc, _+_, _*_, _-_, _/_, _%_, _^_, _<_, _≤_}
 use borrow.Author.Tests.{eq-eqb, ne-eqb, le-leb, lt-leb, lt-ltb, le-ltb}
 use native.Mathlib.Decide.{decLe, decLt, ℕ-discrete}
-use native.Mathlib.Nat.{add-zero, sub-zero, mul-le-mul-right, mod-lt, lt-of-lt-of-le}
+use native.Mathlib.Nat.{add-zero, sub-zero, mul-le-mul-right, mod-lt, lt-of-lt-of-le, le-of-lt}
 use native.Mathlib.Numerals.{add-one}
 use native.Mathlib.Omega.{arith}
 use lib.ListN.{length}
@@ -14,6 +14,7 @@ use Rattle.rules.specs.declared.Counts.{Counts}
 use Rattle.rules.specs.Limits.{planSteps}
 use Rattle.chains.specs.Steps.{Step, add}
 use Rattle.chains.specs.Counts.{counts, countsOf, NoHiddenDoubling}
+use Rattle.chains.specs.Largest.{largestBits}
 use Rattle.chains.proofs.Counts.{positionCounts, unhidden-counts}
 use Rattle.methods.specs.PartialPlan.{PartialPlan, double, addAt, doubled}
 use Rattle.integers.specs.Bits.{bit, bitLength}
@@ -22,11 +23,12 @@ use Rattle.methods.specs.OddMultiples.{oddSecond, oddTable, oddPosition,
 use Rattle.methods.specs.Widths.{slidingWindowBits}
 use Rattle.methods.specs.SlidingWindows.{longest, windowValue, slide, scanFrom, slidingWindowSteps}
 use Rattle.methods.specs.Forecast.{laterWindows, scanCounts, slidingWindowCounts}
+use Rattle.methods.specs.Largest.{slidingLargestBits}
 use Rattle.integers.proofs.Bits.{bit-length-iff, some-bits, top-bit, place-down, places-down, bit-small, quotient-le, quotient-none}
 use Rattle.methods.proofs.Counted.{countsIn, counts-double, counts-add, counts-doubled}
-use Rattle.methods.proofs.Laws.{power-small, Holds, Stands, Made, Fit, Plannable, plannable-below, double-holds, doubled-add, stands-followed, stands-doubled, latest-followed, latest-doubled, length-followed, length-doubled, made}
+use Rattle.methods.proofs.Laws.{power-small, Holds, Stands, Made, Fit, Plannable, plannable-below, double-holds, doubled-add, stands-followed, stands-doubled, latest-followed, latest-doubled, length-followed, length-doubled, made, made-bits, own-bits, stands-bits}
 use Rattle.methods.proofs.Tables.{tabled, no-subtractions}
-use Rattle.methods.proofs.OddMultiples.{odd-length, tableValue, position-less, position-value, odd-counts, entry-holds, Entry, table-narrow, entry-in-table}
+use Rattle.methods.proofs.OddMultiples.{odd-length, tableValue, position-less, position-value, odd-counts, entry-holds, Entry, halved, table-last, table-narrow, last-entry, entry-in-table}
 
 -- ---- windows
 
@@ -248,7 +250,7 @@ module _ (e d : ℕ) (some : 0 < e) (wide : 1 ≤ d) where
       let n : bitLength e ≤ d = bit-length-iff e d .1 (t .narrow) in
       omega (arith, reaches e (top e) d (omega (arith, some-bits e some)) (omega (arith, t .odd)))
 
-  first-reached : {limit : ℕ} → (Entry d e → ⊥) → 2 ^ d < limit → Reached limit e d (belowWindow e d (top e)) (atFirst e d)
+  first-reached : {limit : ℕ} → (Entry d e → ⊥) → 2 ^ d ≤ limit → Reached limit e d (belowWindow e d (top e)) (atFirst e d)
   first-reached {limit} more small-table = record {
     holds = subst (λ (v : ℕ). Holds limit (atFirst e d) v) (sym first-value) (holds _ (window-entry first-window));
     positive = omega (arith, first-value, window-entry first-window .odd);
@@ -257,7 +259,7 @@ module _ (e d : ℕ) (some : 0 < e) (wide : 1 ≤ d) where
   }
     where
       holds : (v : ℕ) → Entry d v → Holds limit (tabled oddSecond (tableLength d) (oddPosition v)) v
-      holds v t = entry-holds (tableLength d) v (omega (arith, table-narrow d wide)) (entry-in-table d wide v t)
+      holds v t = entry-holds (tableLength d) v (omega (arith, table-last d wide, pow-pos d)) (entry-in-table d wide v t)
 
   scan-all : Scan e d (belowWindow e d (top e)) (atFirst e d) (laterWindows e d (top e) (belowWindow e d (top e))) (slide e d (top e) (belowWindow e d (top e)) (atFirst e d))
   scan-all = scan e d wide (top e) (belowWindow e d (top e)) (atFirst e d) (omega (arith, first-window .some))
@@ -276,7 +278,12 @@ module _ (e d : ℕ) (some : 0 < e) (wide : 1 ≤ d) where
         | no m ↦ rw (le-ltb e (2 ^ d) (omega arith)) (more (λ t. m (t .narrow)))
       ]
 
-  pub sliding-made : {limit : ℕ} → e < limit → 2 ^ d < limit → Made limit (slidingWindowSteps e d) e
+  -- the whole scan
+  scanned : {limit : ℕ} → e < limit → (Entry d e → ⊥) → 2 ^ d ≤ limit → Reached limit e d 0 (slide e d (top e) (belowWindow e d (top e)) (atFirst e d))
+  scanned small more small-table = scan-reached e d wide small scan-all (first-reached more small-table)
+
+  -- only a plan that scans has the whole table, which needs a limit of its own
+  pub sliding-made : {limit : ℕ} → e < limit → ((Entry d e → ⊥) → 2 ^ d ≤ limit) → Made limit (slidingWindowSteps e d) e
   sliding-made {limit} small small-table = entry-or-scan (λ s c. Made limit s e) from-table from-scan
     where
       from-table : Entry d e → Made limit (oddTable (oddPosition e)) e
@@ -287,7 +294,7 @@ module _ (e d : ℕ) (some : 0 < e) (wide : 1 ≤ d) where
 
       from-scan : (Entry d e → ⊥) → Made limit (scanFrom e d (top e)) e
       from-scan more =
-          let r = scan-reached e d wide small scan-all (first-reached more small-table) in
+          let r = scanned small more (small-table more) in
           made _ e (rw (quotient-none e) at (r .holds)) (r .last refl)
 
   -- at most 2 ^ d steps for the table, and two for each bit below the top
@@ -304,15 +311,47 @@ module _ (e d : ℕ) (some : 0 < e) (wide : 1 ≤ d) where
       (λ more. scan-counted e d wide scan-all (omega (arith, odd-length (tableLength d))) _ _ (odd-counts (tableLength d) ∙ no-subtractions (tableLength d)))
 
   pub sliding-unhidden : NoHiddenDoubling (slidingWindowSteps e d)
-  sliding-unhidden = sliding-made {limit = suc (e + 2 ^ d)} (omega arith) (omega arith) .unhidden
+  sliding-unhidden = sliding-made {limit = suc (e + 2 ^ d)} (omega arith) (λ more. omega arith) .unhidden
 
   -- each bit below the first window takes a doubling, each later window an addition
   pub sliding-counts : countsOf (slidingWindowSteps e d) ≡ slidingWindowCounts e d
   sliding-counts = unhidden-counts (slidingWindowSteps e d) sliding-unhidden ∙ sliding-positions
+
+  -- ---- the bits of the largest size
+
+  -- the number's own, but for an even number shorter than a window
+  own-largest : (bitLength e < d → e % 2 ≡ 1) → largestBits (slidingWindowSteps e d) ≡ bitLength e
+  own-largest odd =
+      own-bits some (λ small. sliding-made small (λ more.
+      let long : bitLength e < d → ⊥ = λ l. more (record { odd = odd l; narrow = bit-length-iff e d .0 (omega arith) }) in
+      pow-mono {i = d} {j = bitLength e} (omega arith)))
+
+  -- in whose plan the table's last value stands
+  table-largest : e % 2 ≡ 0 → bitLength e < d → largestBits (slidingWindowSteps e d) ≡ d
+  table-largest even l = omega (arith, wider, made-bits wide (sliding-made small (λ more. omega arith)))
+    where
+      small : e < 2 ^ d
+      small = bit-length-iff e d .0 (omega arith)
+
+      last-stands : (more : Entry d e → ⊥) → d - 1 < largestBits (scanFrom e d (top e))
+      last-stands more = stands-bits _ _ (2 ^ d - 1) (scanned small more (omega arith) .stands (2 ^ d - 1) (last-entry d wide)) (omega (arith, halved d wide, pow-pos (d - 1)))
+
+      wider : d - 1 < largestBits (slidingWindowSteps e d)
+      wider = entry-or-scan (λ s c. d - 1 < largestBits s) (λ t. absurd (omega (arith, t .odd))) last-stands
+
+  pub sliding-largest : largestBits (slidingWindowSteps e d) ≡ slidingLargestBits e d
+  sliding-largest =
+      elim (ℕ-discrete (e % 2) 0) [
+        | yes z ↦ rw (eq-eqb (e % 2) 0 z) (elim (decLt (bitLength e) d) [
+          | yes l ↦ rw (lt-ltb (bitLength e) d l) (table-largest z l)
+          | no m ↦ rw (le-ltb (bitLength e) d (omega arith)) (own-largest (λ l. absurd (m l)))
+        ])
+        | no o ↦ rw (ne-eqb (e % 2) 0 o) (own-largest (λ l. omega arith))
+      ]
 
 module _ (e d : ℕ) (plannable : Plannable e) (wide : 1 ≤ d) (narrow : d ≤ slidingWindowBits) where
   pub sliding-few : length (slidingWindowSteps e d) ≤ planSteps
   sliding-few = omega (arith, sliding-short e d (plannable .some) wide, plannable .bits, pow-mono {i = d} {j = slidingWindowBits} narrow)
 
   pub sliding-fit : Fit (slidingWindowSteps e d) e
-  sliding-fit = record { made = sliding-made e d (plannable .some) wide (plannable-below plannable) (power-small d (omega arith)); few = sliding-few }
+  sliding-fit = record { made = sliding-made e d (plannable .some) wide (plannable-below plannable) (λ more. le-of-lt (power-small d (omega arith))); few = sliding-few }

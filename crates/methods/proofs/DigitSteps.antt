@@ -1,9 +1,9 @@
--- The steps of a signed digit string over a table of odd multiples: sound, with the string's value at the end, how many there are, and their counts.
--- Assumes nothing.
+-- The steps of a signed digit string over a table of odd multiples: sound, with the string's value at the end, how many there are, their counts,
+-- and a size that the largest one is not below. Assumes nothing.
 use mathlib.Core.Path.{_≡_, refl, sym, ap, _∙_}
 use mathlib.Core.Logic.{_≢_}
 use mathlib.Core.List.{List, [], _∷_}
-use Prim.Native.Nat.{ℕ, zero, suc, _+_, _*_, _-_, _<_, _≤_}
+use Prim.Native.Nat.{ℕ, zero, suc, _+_, _*_, _-_, _^_, _<_, _≤_}
 use native.Mathlib.Nat.{add-assoc, add-zero, zero-add, sub-self, sub-zero}
 use native.Mathlib.Omega.{arith}
 use lib.IntN.{ℤ, pos, negsuc, natAbs, _+ℤ_, _*ℤ_, +ℤ-idr}
@@ -13,13 +13,14 @@ use Rattle.signed_digits.specs.Strings.{value, digitAt}
 use Rattle.signed_digits.proofs.Parts.{positivePart, negativePart, sum-parts}
 use Rattle.chains.specs.Steps.{Step, add, subtract}
 use Rattle.chains.specs.Counts.{counts, countsOf, total}
+use Rattle.chains.specs.Largest.{largestBits}
 use Rattle.chains.proofs.Counts.{length-counted, positionCounts, unhidden-counts}
 use Rattle.methods.specs.PartialPlan.{PartialPlan, double, downFrom}
 use Rattle.methods.specs.Tables.{tableCounts}
 use Rattle.methods.specs.OddMultiples.{oddSecond, oddPosition}
 use Rattle.methods.specs.DigitSteps.{atDigit, atTop, digitSteps}
 use Rattle.methods.specs.Forecast.{isPlus, isMinus, plusDigits, minusDigits}
-use Rattle.methods.proofs.Laws.{Holds, Stands, Made, double-holds, double-add, double-subtract, stands-followed, latest-followed, length-followed, down-from, made}
+use Rattle.methods.proofs.Laws.{Holds, Stands, Made, double-holds, double-add, double-subtract, stands-followed, latest-followed, length-followed, down-from, made, stands-bits}
 use Rattle.methods.proofs.Counted.{countsIn, counts-double, counts-add, counts-subtract, not-before}
 use Rattle.methods.proofs.Tables.{tabled, table-total, no-subtractions}
 use Rattle.methods.proofs.OddMultiples.{odd-length, tableValue, odd-counts, InTable, entry-holds}
@@ -83,10 +84,11 @@ module _ {limit : ℕ} (n : ℕ) (ds : List ℤ) (suited : Suited limit n ds) wh
   top-above-zero = let some = suited .some in sym (ap value top-alone ∙ +ℤ-idr (digitAt ds top)) ∙ is-from top (omega arith)
 
   -- Above place i: the latest holds the value of the digits from i on, and the table stands. Each digit below the top took a doubling, and one step
-  -- more where it is not 0.
+  -- more where it is not 0. What a digit below zero was subtracted from stands.
   record Above (i : ℕ) (b : PartialPlan) : Type 0 where
     holds : Holds limit b (valueFrom ds i)
     stands : (v : ℕ) → InTable n v → Stands b (oddPosition v) v
+    before : 0 < negativePart (digitAt ds i) → (p : ℕ) × Stands b p (valueFrom ds i + negativePart (digitAt ds i))
     latest : (i ≡ top → top ≡ 0) → b .latest ≡ length (b .steps)
     some : 1 ≤ plusDigits (drop i ds)
     counted : countsIn b ≡ counts (tableCounts n .doublings + (top - i)) (tableCounts n .additions + (plusDigits (drop i ds) - 1)) (minusDigits (drop i ds))
@@ -119,6 +121,7 @@ module _ {limit : ℕ} (n : ℕ) (ds : List ℤ) (suited : Suited limit n ds) wh
           record {
             holds = rw r (double-holds b v (a .holds) positive (small (2 * v) (omega arith)));
             stands = λ w t. stands-followed b twice (oddPosition w) w (a .stands w t);
+            before = λ s. absurd (omega (arith, ap negativePart y));
             latest = λ h. latest-followed b twice;
             some = rw c (simp zero-add (a .some));
             counted = rw (more, c) (simp zero-add (counts-double b _ _ _ (a .counted)));
@@ -131,6 +134,7 @@ module _ {limit : ℕ} (n : ℕ) (ds : List ℤ) (suited : Suited limit n ds) wh
           record {
             holds = rw r (double-add b p v (suc k) (a .holds) (a .stands (suc k) t) (omega (arith, t .odd)) positive (small (2 * v + suc k) (omega arith)));
             stands = λ w t. stands-followed (double b) (add (double b .latest) p) (oddPosition w) w (stands-followed b twice (oddPosition w) w (a .stands w t));
+            before = λ s. absurd (omega (arith, ap negativePart y));
             latest = λ h. latest-followed (double b) (add (double b .latest) p);
             some = rw c (omega arith);
             counted =
@@ -142,9 +146,12 @@ module _ {limit : ℕ} (n : ℕ) (ds : List ℤ) (suited : Suited limit n ds) wh
           let t : InTable n (suc k) = entry (suc k) (ap natAbs y) (omega arith) in
           let p : ℕ = oddPosition (suc k) in
           let one : 1 + minusDigits (drop (suc i) ds) ≡ minusDigits (drop (suc i) ds) + 1 = omega arith in
+          let sum : valueFrom ds i + negativePart (digitAt ds i) ≡ 2 * v = omega (arith, ap negativePart y) in
+          let held : Holds limit (double b) (2 * v) = double-holds b v (a .holds) positive (small (2 * v) (omega arith)) in
           record {
             holds = rw r (double-subtract b p v (suc k) (a .holds) (a .stands (suc k) t) (omega (arith, suited .positive i (omega arith))) (small (2 * v) (omega (arith, ap negativePart y))));
             stands = λ w t. stands-followed (double b) (subtract (double b .latest) p) (oddPosition w) w (stands-followed b twice (oddPosition w) w (a .stands w t));
+            before = λ s. rw sum (double b .latest, stands-followed (double b) (subtract (double b .latest) p) _ _ (record { filled = held .within; value = held .value }));
             latest = λ h. latest-followed (double b) (subtract (double b .latest) p);
             some = rw c (simp zero-add (a .some));
             counted = rw (more, c, one) (simp zero-add (counts-subtract (double b) _ _ _ (counts-double b _ _ _ (a .counted)) p));
@@ -167,6 +174,7 @@ module _ {limit : ℕ} (n : ℕ) (ds : List ℤ) (suited : Suited limit n ds) wh
       record {
         holds = rw (← d) (holds (natAbs (digitAt ds top)) (suited .entry top (omega arith) (λ z. omega (arith, ap natAbs z))));
         stands = λ v t. record { filled = holds v t .within; value = holds v t .value };
+        before = λ s. absurd (omega (arith, ap negativePart top-above-zero));
         latest = λ h. let z : top ≡ 0 = h refl in rw (z, odd-length n) (suited .single (omega arith));
         some = rw (top-signs .0) (omega arith);
         counted = rw (top-signs .0, top-signs .1, sub-self top) (odd-counts n ∙ no-subtractions n ∙ simp add-zero);
@@ -178,6 +186,11 @@ module _ {limit : ℕ} (n : ℕ) (ds : List ℤ) (suited : Suited limit n ds) wh
   pub digits-made : Made limit (digitSteps n ds) (positivePart (value ds))
   unfolding digitSteps
   digits-made = made _ _ (all .holds) (all .latest (λ e. sym e))
+
+  -- what a lowest digit below zero is subtracted from is among the values
+  pub digits-before : {k : ℕ} → 0 < negativePart (digitAt ds 0) → 2 ^ k ≤ positivePart (value ds) + negativePart (digitAt ds 0) → k < largestBits (digitSteps n ds)
+  unfolding digitSteps
+  digits-before s h = let (p, t) = all .before s in stands-bits _ p _ t h
 
   digits-positions : positionCounts (digitSteps n ds) ≡ counts (tableCounts n .doublings + (length ds - 1)) (tableCounts n .additions + (plusDigits ds - 1)) (minusDigits ds)
   unfolding digitSteps

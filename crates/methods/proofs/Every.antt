@@ -1,5 +1,5 @@
--- Every method that is allowed: which they are, and that the steps are sound, end at the number, are no more than a plan may have, and hide no doubling.
--- Assumes nothing.
+-- Every method that is allowed: which they are, and that the steps are sound, end at the number, are no more than a plan may have, and hide no doubling,
+-- and how many bits the largest size has. Assumes nothing.
 use mathlib.Core.Path.{_≡_, refl, sym}
 use mathlib.Core.Logic.{_↔_, ⊎-elim}
 use mathlib.Core.List.{List, [], _∷_, map, List·Memᴰ, List·Memᴰ·head, List·Memᴰ·tail, List·Memᴰ·not-nil, List·Memᴰ·cases-cons, List·Memᴰ·append-cases, Memᴰ·cast, Memᴰ·append-left, Memᴰ·append-right, Memᴰ·map, Memᴰ·of-map}
@@ -14,16 +14,18 @@ use Rattle.rules.specs.declared.Refusal.{Refusal}
 use Rattle.rules.specs.declared.Refusal.the-variants.{MethodOrWidth}
 use Rattle.integers.specs.Bits.{bitLength}
 use Rattle.chains.specs.Counts.{NoHiddenDoubling}
+use Rattle.chains.specs.Largest.{largestBits}
 use Rattle.methods.specs.declared.Method.{Method}
 use Rattle.methods.specs.declared.Method.the-variants.{Binary, FixedWindows, SlidingWindows, Naf}
 use Rattle.methods.specs.declared.Chosen.{Chosen}
 use Rattle.methods.specs.Widths.{fixedWindowBits, slidingWindowBits}
 use Rattle.methods.specs.Method.{stepsBy, methodNumber, methodWidth, Entry, methods, within, numbered, methodOf, Allowed, countFrom, everyWidth, choices}
+use Rattle.methods.specs.Largest.{largestBitsBy}
 use Rattle.methods.proofs.Laws.{Plannable, Fit}
-use Rattle.methods.proofs.Binary.{binary-fit, binary-short, binary-unhidden}
-use Rattle.methods.proofs.FixedWindows.{fixed-fit, fixed-short, fixed-unhidden}
-use Rattle.methods.proofs.SlidingWindows.{sliding-fit, sliding-short, sliding-unhidden}
-use Rattle.methods.proofs.NonAdjacentForm.{naf-fit, naf-short, naf-bits, naf-unhidden}
+use Rattle.methods.proofs.Binary.{binary-fit, binary-short, binary-unhidden, binary-largest}
+use Rattle.methods.proofs.FixedWindows.{fixed-fit, fixed-short, fixed-unhidden, fixed-largest}
+use Rattle.methods.proofs.SlidingWindows.{sliding-fit, sliding-short, sliding-unhidden, sliding-largest}
+use Rattle.methods.proofs.NonAdjacentForm.{naf-fit, naf-short, naf-bits, naf-unhidden, naf-largest}
 
 -- ---- what two numbers ask for
 
@@ -165,3 +167,11 @@ every-unhidden Binary e a some = binary-unhidden e some
 every-unhidden (FixedWindows d) e a some = fixed-unhidden e d
 every-unhidden (SlidingWindows d) e a some = sliding-unhidden e d some (sliding-widths a .0)
 every-unhidden Naf e a some = naf-unhidden e some
+
+-- ---- the bits of the largest size, however large the number
+
+pub every-largest : (m : Method) (e : ℕ) → Allowed m → 0 < e → largestBits (stepsBy m e) ≡ largestBitsBy m e
+every-largest Binary e a some = binary-largest e some
+every-largest (FixedWindows d) e a some = fixed-largest e d some (fixed-widths a .0)
+every-largest (SlidingWindows d) e a some = sliding-largest e d some (sliding-widths a .0)
+every-largest Naf e a some = naf-largest e some

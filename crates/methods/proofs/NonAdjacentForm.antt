@@ -1,23 +1,27 @@
--- Method 4: its steps are sound and end at the number, how many there are, and their counts. Assumes nothing.
-use mathlib.Core.Path.{_≡_, refl, ap}
+-- Method 4: its steps are sound and end at the number, how many there are, their counts, and the bits of the largest size. Assumes nothing.
+use mathlib.Core.Path.{_≡_, refl, ap, _∙_}
 use mathlib.Core.Logic.{_≢_}
 use mathlib.Core.List.{List, []}
-use Prim.Native.Nat.{ℕ, suc, _+_, _*_, _-_, _^_, _<_, _≤_}
+use Prim.Native.Nat.{ℕ, zero, suc, _+_, _*_, _-_, _/_, _%_, _^_, _<_, _≤_}
+use borrow.Author.Tests.{lt-ltb, eq-eqb, ne-eqb}
+use native.Mathlib.Decide.{decLt, ℕ-discrete}
 use native.Mathlib.Nat.{zero-add, pow-suc, lt-suc-self}
 use native.Mathlib.Numerals.{add-one}
 use native.Mathlib.Omega.{arith}
 use lib.IntN.{ℤ, pos, natAbs}
 use lib.ListN.{length}
 use Rattle.signed_digits.specs.Strings.{digitAt}
-use Rattle.signed_digits.specs.Naf.{canonical}
-use Rattle.signed_digits.proofs.Parts.{negativePart}
-use Rattle.signed_digits.proofs.Steps.{Low, even, plus, minus, low-digit}
-use Rattle.signed_digits.proofs.Left.{rests, some-digits, rests-le, value-left, some-left, digit-left}
+use Rattle.signed_digits.specs.Naf.{residue, lowDigit, rest, digitsOf, naf, canonical}
+use Rattle.signed_digits.proofs.Parts.{positivePart, negativePart}
+use Rattle.signed_digits.proofs.Steps.{Low, even, plus, minus, low-digit, low-digit-2}
+use Rattle.signed_digits.proofs.Left.{rests, some-digits, rests-le, value-left, some-left, lowest, digit-left}
 use Rattle.signed_digits.proofs.Exists.{naf-value}
 use Rattle.signed_digits.proofs.Length.{length-at-most}
 use Rattle.rules.specs.Limits.{planSteps}
 use Rattle.chains.specs.Counts.{counts, countsOf, NoHiddenDoubling}
-use Rattle.integers.specs.Bits.{bitLength}
+use Rattle.chains.specs.Largest.{largestBits}
+use Rattle.chains.proofs.Largest.{bits-none}
+use Rattle.integers.specs.Bits.{lengthUpTo, bitLength}
 use Rattle.integers.proofs.Bits.{bit-length-iff}
 use Rattle.methods.specs.PartialPlan.{none, downFrom}
 use Rattle.methods.specs.Tables.{tableBy, tableCounts}
@@ -25,9 +29,10 @@ use Rattle.methods.specs.OddMultiples.{oddPosition}
 use Rattle.methods.specs.DigitSteps.{atDigit, digitSteps}
 use Rattle.methods.specs.NonAdjacentForm.{nafSteps}
 use Rattle.methods.specs.Forecast.{plusDigits, minusDigits}
-use Rattle.methods.proofs.Laws.{Made, Fit, Plannable, plannable-small}
+use Rattle.methods.specs.Largest.{nafLargestBits}
+use Rattle.methods.proofs.Laws.{Made, Fit, Plannable, plannable-small, made-bits, own-bits}
 use Rattle.methods.proofs.OddMultiples.{tableValue, InTable}
-use Rattle.methods.proofs.DigitSteps.{Suited, top-above-zero, digits-made, digits-counts, digits-short}
+use Rattle.methods.proofs.DigitSteps.{Suited, top-above-zero, digits-made, digits-before, digits-counts, digits-short}
 
 -- ---- the canonical digits
 
@@ -99,6 +104,43 @@ module _ (e : ℕ) (some : 0 < e) where
   pub naf-counts : countsOf (nafSteps e) ≡ counts (length (canonical (pos e)) - 1) (plusDigits (canonical (pos e)) - 1) (minusDigits (canonical (pos e)))
   unfolding nafSteps tableCounts
   naf-counts = simp zero-add at (digits-counts 0 ds suited-alone)
+
+-- ---- the bits of the largest size
+
+-- 1 takes no step
+one-largest : largestBits (nafSteps 1) ≡ nafLargestBits 1
+unfolding nafSteps digitSteps tableBy downFrom residue lowDigit rest digitsOf naf bitLength lengthUpTo
+one-largest = bits-none
+
+-- of L > 1 ones, the two lowest
+low-ones : (e l : ℕ) → 1 < e → e + 1 ≡ 2 ^ l → e % 4 ≡ 3
+low-ones e zero more ones = absurd (omega arith)
+low-ones e (suc zero) more ones = absurd (omega arith)
+low-ones e (suc (suc k)) more ones = omega (arith, pow-suc 2 (suc k), pow-suc 2 k)
+
+module _ (e : ℕ) (some : 0 < e) where
+  -- make the lowest digit -1, which is subtracted from 2 ^ L
+  ones-largest : 1 < e → e + 1 ≡ 2 ^ bitLength e → largestBits (nafSteps e) ≡ bitLength e + 1
+  unfolding nafSteps
+  ones-largest more ones =
+      let q : e ≡ 4 * (e / 4) + 3 = omega (arith, low-ones e (bitLength e) more ones) in
+      let minus = ap negativePart (lowest 2 (omega arith) e ∙ ap (lowDigit 2) q ∙ low-digit-2 (e / 4) .3) in
+      let value = ap positivePart (naf-value 2 (pos e) (omega arith)) in
+      let high = digits-before 0 (canonical (pos e)) (suited-alone e some) {k = bitLength e} (omega arith) (omega arith) in
+      omega (arith, made-bits {k = suc (bitLength e)} (omega arith) (naf-made e some (omega (arith, pow-suc 2 (bitLength e)))))
+
+  -- any other number is made from what has its own bits
+  pub naf-largest : largestBits (nafSteps e) ≡ nafLargestBits e
+  naf-largest =
+      elim (decLt 1 e) [
+        | yes more ↦ rw (lt-ltb 1 e more) (elim (ℕ-discrete (e + 1) (2 ^ bitLength e)) [
+          | yes ones ↦ rw (eq-eqb (e + 1) (2 ^ bitLength e) ones) (ones-largest more ones)
+          | no n ↦ rw (ne-eqb (e + 1) (2 ^ bitLength e) n) (own-bits some (λ l. naf-made e some (omega arith)))
+        ])
+        | no n ↦ let one : e ≡ 1 = omega arith in rw one one-largest
+      ]
+
+-- ---- within the limits of the rules
 
 -- a number of L bits has at most L + 1 digits
 pub naf-bits : (e : ℕ) → length (canonical (pos e)) ≤ bitLength e + 1

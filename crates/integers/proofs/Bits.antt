@@ -125,7 +125,7 @@ length-from v k (suc m) h l p =
 -- ---- elements of a power of two
 
 -- a bit stands in its element, at any base 2 ^ b
-bit-of-element : (b : ℕ) (l : List ℕ) (q r : ℕ) → r < b → Below (2 ^ b) l → getD l q 0 / 2 ^ r % 2 ≡ bit (positional (2 ^ b) l) (b * q + r)
+pub bit-of-element : (b : ℕ) (l : List ℕ) (q r : ℕ) → r < b → Below (2 ^ b) l → getD l q 0 / 2 ^ r % 2 ≡ bit (positional (2 ^ b) l) (b * q + r)
 unfolding bit
 bit-of-element b l q r h below =
     let v : ℕ = positional (2 ^ b) l in

@@ -6,11 +6,11 @@ use native.Mathlib.Decide.{decLt}
 use native.Mathlib.Nat.{add-zero, add-suc, mul-zero}
 use native.Mathlib.Numerals.{add-one}
 use native.Mathlib.Omega.{arith}
-use lib.ListN.{length, getD, set, take, drop, length-append, List·getD-append}
+use lib.ListN.{length, getD, set, take, drop, length-append, List·getD-append, List·getD-eq-default}
 use lib.Seq.{set-at, take-at, drop-at, getD-at, drop-cons, drop-drop, ext-getD}
 use Rattle.integers.specs.Positional.{positional}
 use Rattle.integers.specs.Tabulate.{tabulate}
-use Rattle.integers.proofs.Positional.{positional-append}
+use Rattle.integers.proofs.Positional.{Below, positional-append}
 use Rattle.integers.proofs.Blocks.{place-one}
 
 pub length-tabulate : (f : ℕ → ℕ) (n : ℕ) → length (tabulate f n) ≡ n
@@ -57,6 +57,14 @@ getD-tabulate f (suc n) i h = go (decLt i n) (λ l. getD-tabulate f n i l)
     go : Dec (i < n) → (i < n → getD (tabulate f n) i 0 ≡ f i) → getD (tabulate f n ++ (f n ∷ [])) i 0 ≡ f i
     go (yes l) below = List·getD-append (tabulate f n) (f n ∷ []) 0 i (rw length-tabulate l) ∙ below l
     go (no l) below = let e : i ≡ n = omega arith in rw e (getD-at (tabulate f n) (f n) [] 0 n (length-tabulate f n))
+
+-- below a base, where all that it holds is
+pub below-tabulate : (base : ℕ) (f : ℕ → ℕ) (n : ℕ) → ((i : ℕ) → f i < base) → Below base (tabulate f n)
+below-tabulate base f n h i =
+    elim (decLt i n) [
+      | yes l ↦ rw (getD-tabulate f n i l) (h i)
+      | no l ↦ rw (List·getD-eq-default (tabulate f n) 0 {n = i} (omega (arith, length-tabulate f n))) (omega (arith, h 0))
+    ]
 
 -- a list is the table of its elements
 pub tabulate-of : (f : ℕ → ℕ) (l : List ℕ) → ((i : ℕ) → i < length l → getD l i 0 ≡ f i) → l ≡ tabulate f (length l)

@@ -1,18 +1,20 @@
 -- Words of eight bytes: one, read from the top byte down; all of a number, and its low bytes. Assumes nothing.
 use mathlib.Core.Path.{_≡_, refl, sym, ap, _∙_}
 use mathlib.Core.List.{List, [], _∷_, _++_}
-use Prim.Native.Nat.{ℕ, zero, suc, _+_, _*_, _-_, _/_, _^_, _<_, _≤_}
+use Prim.Native.Nat.{ℕ, zero, suc, _+_, _*_, _-_, _/_, _%_, _^_, _<_, _≤_}
 use native.Mathlib.Nat.{zero-add, suc-add, mul-assoc}
 use native.Mathlib.Omega.{arith}
 use lib.ListN.{length, getD, take, drop, length-take, length-drop}
 use lib.Pow.{pow-add}
-use lib.Seq.{getD-drop, getD-take, drop-length, drop-drop, length-take-le, take-take, take-nil, drop-nil}
+use lib.Seq.{getD-drop, getD-take, drop-length, drop-drop, length-take-le, take-take, take-all, take-nil, drop-nil}
+use Rattle.integers.specs.Bits.{bit}
 use Rattle.integers.specs.Positional.{positional, bytesValue, wordsValue, lowBytes}
 use Rattle.integers.specs.Tabulate.{tabulate}
 use Rattle.integers.proofs.Powers.{power-of-power}
 use Rattle.integers.proofs.Positional.{Below, below-take, below-drop, positional-drop, positional-lt, positional-split, positional-div}
+use Rattle.integers.proofs.Bits.{bit-of-element}
 use Rattle.integers.proofs.LowBytes.{low-add, low-above}
-use Rattle.integers.proofs.Tabulate.{positional-tabulate}
+use Rattle.integers.proofs.Tabulate.{getD-tabulate, below-tabulate, positional-tabulate}
 
 -- the count bytes from `from` on
 abbrev pub part : ℕ → ℕ → List ℕ → List ℕ
@@ -88,3 +90,13 @@ words-low words k n h b =
     let q : wordsValue words / 256 ^ (8 * k) ≡ getD words k 0 + 256 ^ n * (256 ^ (8 - n) * above) =
     rw (← power-of-power 256 8 k, ← positional-div (2 ^ 64) words k b, positional-drop (2 ^ 64) words k, ← mul-assoc (256 ^ n) (256 ^ (8 - n)) above, ← e) in
     rw (low-add (8 * k) n (wordsValue words), q, low-above n (getD words k 0) (256 ^ (8 - n) * above))
+
+-- a bit stands in its word
+pub bit-of-word : (l : List ℕ) (place : ℕ) → Below 256 l → wordAt l (place / 64) / 2 ^ (place % 64) % 2 ≡ bit (bytesValue l) place
+bit-of-word l place b =
+    let k : ℕ = place / 64 in
+    let n : ℕ = length l + suc k in
+    let words : List ℕ = tabulate (wordAt l) n in
+    let whole : wordsValue words ≡ bytesValue l = words-value l n ∙ ap bytesValue (take-all (8 * n) l (omega arith)) in
+    let e : 64 * k + place % 64 ≡ place = omega arith in
+    rw (e, whole, getD-tabulate (wordAt l) n k (omega arith)) at (bit-of-element 64 words k (place % 64) (omega arith) (below-tabulate (2 ^ 64) (wordAt l) n (λ i. word-lt l i b)))

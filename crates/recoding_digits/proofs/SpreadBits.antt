@@ -13,22 +13,13 @@ use Rattle.integers.specs.Positional.{positional, bytesValue}
 use Rattle.integers.specs.Tabulate.{tabulate}
 use Rattle.integers.proofs.Bits.{bit-small, low-bits, power-of-bytes}
 use Rattle.integers.proofs.Positional.{Below, positional-at, positional-lt}
-use Rattle.integers.proofs.Tabulate.{length-tabulate, tabulate-same, getD-tabulate, positional-tabulate}
+use Rattle.integers.proofs.Tabulate.{length-tabulate, tabulate-same, getD-tabulate, below-tabulate, positional-tabulate}
 use Rattle.recoding_digits.specs.Internal.{difference}
 
 -- ---- the number whose bytes are f 0, f 1, .., f (n - 1)
 
-bytes-below : (f : ℕ → ℕ) (n : ℕ) → ((j : ℕ) → f j < 256) → Below 256 (tabulate f n)
-bytes-below f n h i = go (decLt i n)
-  where
-    go : Dec (i < n) → getD (tabulate f n) i 0 < 256
-    go (yes l) = rw (getD-tabulate f n i l) (h i)
-    go (no l) =
-        let long : length (tabulate f n) ≤ i = omega (arith, length-tabulate f n) in
-        rw (List·getD-eq-default (tabulate f n) 0 long) (omega arith)
-
 value-small : (f : ℕ → ℕ) (n : ℕ) → ((j : ℕ) → f j < 256) → bytesValue (tabulate f n) < 2 ^ (8 * n)
-value-small f n h = rw (← power-of-bytes n) (positional-lt 256 n (tabulate f n) (omega (arith, length-tabulate f n)) (bytes-below f n h))
+value-small f n h = rw (← power-of-bytes n) (positional-lt 256 n (tabulate f n) (omega (arith, length-tabulate f n)) (below-tabulate 256 f n h))
 
 value-none : (f : ℕ → ℕ) → bytesValue (tabulate f 0) ≡ 0
 unfolding tabulate positional
@@ -143,4 +134,4 @@ module _ (more less : ℕ) where
 
   -- what is stored at j
   pub difference-stored : (j : ℕ) → j < 8 → bytesValue (tabulate (difference more less) 8) / 2 ^ (8 * j) % 256 ≡ difference more less j
-  difference-stored j l = rw (← power-of-bytes j, ← positional-at 256 (tabulate (difference more less) 8) j (bytes-below (difference more less) 8 small)) (getD-tabulate (difference more less) 8 j l)
+  difference-stored j l = rw (← power-of-bytes j, ← positional-at 256 (tabulate (difference more less) 8) j (below-tabulate 256 (difference more less) 8 small)) (getD-tabulate (difference more less) 8 j l)

@@ -8,7 +8,10 @@ use Rattle.rules.specs.Limits.{valueBytes, valueWords, valueBound}
 pub top-byte : valueBytes ≡ 8 * (valueWords - 1) + 1
 top-byte = refl
 
--- the words hold the sum of two sizes below the bound
+-- the words hold a size below the bound, and the sum of two
+pub bound-once : valueBound ≤ (2 ^ 64) ^ valueWords
+bound-once = lit≤ tt
+
 pub bound-twice : valueBound + valueBound ≤ (2 ^ 64) ^ valueWords
 bound-twice = lit≤ tt
 

@@ -9,18 +9,20 @@ use native.Mathlib.Nat.{mul-comm}
 use native.Mathlib.Numerals.{add-one}
 use native.Mathlib.Omega.{arith}
 use lib.Arith.{digits-div, digits-mod}
+use lib.Bits.{bitOr, bitXor, or-add-and, xor-add-and, xor-self, xor-zero-r, and-le-l, and-le-r, and-mask}
 use lib.Dec.{ltb, eqb}
 use lib.ListN.{length, getD, set, take, drop, length-take, length-drop, List·getD-eq-default}
-use lib.Seq.{length-take-le, take-all, drop-cons}
+use lib.Seq.{length-take-le, take-all, take-nil, drop-cons}
 use mir.Val.{boolByte}
 use Rattle.rules.specs.Limits.{valueBytes, valueWords}
 use Rattle.integers.specs.Positional.{positional, bytesValue, wordsValue, lowBytes}
 use Rattle.integers.specs.Tabulate.{tabulate}
 use Rattle.integers.proofs.Positional.{Below, below-take, below-drop, positional-take, positional-lt}
-use Rattle.integers.proofs.Tabulate.{length-tabulate, getD-tabulate}
+use Rattle.integers.proofs.Tabulate.{length-tabulate, getD-tabulate, below-tabulate}
 use Rattle.integers.proofs.Words.{part, wordAt, words-value, word-lt, part-part, words-low}
 use Rattle.integers.proofs.Blocks.{placed, place-more, place-one}
 use Rattle.integers.proofs.LowBytes.{length-low}
+use Rattle.words.proofs.Carry.{Carried, carried-none, difference-stored}
 use Rattle.records.specs.Recording.{distanceOf}
 
 module _ (space : List ℕ) (at : ℕ) where
@@ -62,16 +64,49 @@ pub no-carry : (x y u P b : ℕ) (c : Bool) → x < b → y < b → b + b ≤ P 
 no-carry x y u P b true hx hy h e = absurd (omega arith)
 no-carry x y u P b false hx hy h e = omega arith
 
--- the distance of two sizes, where nothing is borrowed past the words, and where something is
-pub first-larger : (x y u P : ℕ) (c : Bool) → c ≡ false → u + y ≡ x + P * boolByte c → (u ≡ distanceOf x y) × (false ≡ ltb x y)
-first-larger x y u P true h e = absurd (false≢true (sym h))
-first-larger x y u P false h e = (omega arith, sym (le-ltb x y (omega arith)))
+-- ---- how far apart two sizes are
 
-pub second-larger : (x y u v P : ℕ) (c d : Bool) → c ≡ true → u < P → v < P → u + y ≡ x + P * boolByte c → v + x ≡ y + P * boolByte d
-    → (v ≡ distanceOf x y) × (true ≡ ltb x y)
-second-larger x y u v P false d h hu hv e f = absurd (false≢true h)
-second-larger x y u v P true true h hu hv e f = absurd (omega arith)
-second-larger x y u v P true false h hu hv e f = (omega arith, sym (lt-ltb x y (omega arith)))
+-- all bits of a word, or none
+abbrev pub maskOf : Bool → ℕ
+maskOf below = boolByte below * (2 ^ 64 - 1)
+
+-- a word with all its bits turned
+all-turned : (x : ℕ) → x < 2 ^ 64 → bitXor x (2 ^ 64 - 1) + x ≡ 2 ^ 64 - 1
+all-turned x h = omega (arith, xor-add-and x (2 ^ 64 - 1), and-mask x 64)
+
+-- the k low words, once those given are taken from zero, where they are below it, or are left as they are
+abbrev pub Unsigned : Bool → ℕ → List ℕ → List ℕ → Bool → Type 0
+Unsigned true k given words c = Carried k words given [] c
+Unsigned false k given words c = Carried k words [] given c × (c ≡ false)
+
+pub unsigned-none : (below : Bool) (given words : List ℕ) → Unsigned below 0 given words false
+unsigned-none true given words = carried-none words given []
+unsigned-none false given words = (carried-none words [] given, refl)
+
+module _ (k : ℕ) (given words : List ℕ) (x : ℕ) (c d : Bool) (h : k < length words) (small : getD given k 0 < 2 ^ 64) (next : x < 2 ^ 64) where
+  pub unsigned-more : (below : Bool) → x + maskOf below + boolByte c ≡ bitXor (getD given k 0) (maskOf below) + 2 ^ 64 * boolByte d → Unsigned below k given words c
+      → Unsigned below (k + 1) given (set words k x) d
+  unsigned-more true e w = difference-stored k [] given words x c d h w (omega (arith, all-turned (getD given k 0) small))
+  unsigned-more false e w =
+      let f : x + 0 + boolByte c ≡ getD given k 0 + 2 ^ 64 * boolByte d = rw xor-zero-r at e in
+      (difference-stored k given [] words x c d h (w .0) f, none d (rw (w .1) at f))
+    where
+      none : (d : Bool) → x + 0 + 0 ≡ getD given k 0 + 2 ^ 64 * boolByte d → d ≡ false
+      none true f = absurd (omega arith)
+      none false f = refl
+
+-- all n of them: how far apart two numbers are, where one less the other was given
+module _ (n x y : ℕ) (given words : List ℕ) (c : Bool) (hg : length given ≡ n) (hw : length words ≡ n) (lg : wordsValue given < (2 ^ 64) ^ n) (ly : y < (2 ^ 64) ^ n) where
+  pub unsigned-all : (below : Bool) → wordsValue given + y ≡ x + (2 ^ 64) ^ n * boolByte below → Unsigned below n given words c → (wordsValue words ≡ distanceOf x y) × (below ≡ ltb x y)
+  unfolding positional
+  unsigned-all true e u = from-zero (wordsValue given) (wordsValue words) ((2 ^ 64) ^ n) c lg ly e (rw (take-all n words (omega arith), take-all n given (omega arith), take-nil n) at u)
+    where
+      from-zero : (g v P : ℕ) (c : Bool) → g < P → y < P → g + y ≡ x + P * 1 → v + g ≡ 0 + P * boolByte c → (v ≡ distanceOf x y) × (true ≡ ltb x y)
+      from-zero g v P true lg ly e f = (omega arith, sym (lt-ltb x y (omega arith)))
+      from-zero g v P false lg ly e f = absurd (omega arith)
+  unsigned-all false e u =
+      let v : wordsValue words + 0 ≡ wordsValue given + (2 ^ 64) ^ n * 0 = rw (take-all n words (omega arith), take-all n given (omega arith), take-nil n, u .1) at (u .0) in
+      (omega arith, sym (le-ltb x y (omega arith)))
 
 -- ---- two sizes the same, word by word
 
@@ -88,6 +123,21 @@ split-eqb P u v x y hu hv = go (eqb u v) refl (eqb x y) refl
     go true s false t = sym (ne-eqb (u + P * x) (v + P * y) (λ e. eqb-false x y t (split-same P u v x y hu hv e .1)))
     go false s b t = sym (ne-eqb (u + P * x) (v + P * y) (λ e. eqb-false u v s (split-same P u v x y hu hv e .0)))
 
+-- what differs so far, and another two words: none of it is left exactly where nothing differed, and these two are the same
+pub none-differ : (d x y : ℕ) → eqb (bitOr d (bitXor x y)) 0 ≡ (eqb d 0 && eqb x y)
+none-differ d x y = go (eqb d 0) refl (eqb x y) refl
+  where
+    either : bitOr d (bitXor x y) ≡ 0 → (d ≡ 0) × (bitXor x y ≡ 0)
+    either e = let sum = or-add-and d (bitXor x y) in (omega (arith, and-le-r d (bitXor x y)), omega (arith, and-le-l d (bitXor x y)))
+
+    same : bitXor x y ≡ 0 → x ≡ y
+    same e = omega (arith, xor-add-and x y, and-le-l x y, and-le-r x y)
+
+    go : (s : Bool) → eqb d 0 ≡ s → (t : Bool) → eqb x y ≡ t → eqb (bitOr d (bitXor x y)) 0 ≡ (s && t)
+    go true s true t = rw (eqb-true d 0 s, eqb-true x y t, xor-self y)
+    go true s false t = ne-eqb _ 0 (λ e. eqb-false x y t (same (either e .1)))
+    go false s b t = ne-eqb _ 0 (λ e. eqb-false d 0 s (either e .0))
+
 -- the sizes at a and b, as far as their k low words
 module _ (space : List ℕ) (a b : ℕ) where
   abbrev pub sameTo : ℕ → Bool
@@ -95,11 +145,10 @@ module _ (space : List ℕ) (a b : ℕ) where
 
   module _ (bytes : Below 256 space) where
     word-small : (at k : ℕ) → getD (sizeWords space at) k 0 < 2 ^ 64
-    word-small at k =
-        elim (decLt k valueWords) [
-          | yes h ↦ rw (word-at space at k h) (word-lt (part at valueBytes space) k (below-take 256 valueBytes (drop at space) (omega arith) (below-drop 256 at space (omega arith) bytes)))
-          | no h ↦ rw (List·getD-eq-default (sizeWords space at) 0 {n = k} (omega (arith, length-words space at))) (omega arith)
-        ]
+    unfolding sizeWords
+    word-small at =
+        let below : Below 256 (part at valueBytes space) = below-take 256 valueBytes (drop at space) (omega arith) (below-drop 256 at space (omega arith) bytes) in
+        below-tabulate (2 ^ 64) (wordAt (part at valueBytes space)) valueWords (λ k. word-lt (part at valueBytes space) k below)
 
     low-small : (at k : ℕ) → wordsValue (take k (sizeWords space at)) < (2 ^ 64) ^ k
     low-small at k =

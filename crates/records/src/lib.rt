@@ -18,7 +18,7 @@ ghost use Rattle.chain_values.specs.Value.{integerOf};
 ghost use Rattle.records.specs.Recording.{HasRecord, sizeBytes, distanceOf};
 
 // A word of the size whose bytes stand at `at`: eight of them, or the single one of the top word.
-fn size_word(space: &[u8], at: usize, k: usize) -> u64
+pub fn size_word(space: &[u8], at: usize, k: usize) -> u64
     requires { ⌜ k < valueWords ⌝ }
     requires { ⌜ at + valueBytes ≤ length (now space) ⌝ }
     ensures { λ r. ⌜ r ≡ bytesValue (take 8 (drop (8 * k) (sizeBytes (now (space .entry)) at))) ⌝ }
@@ -101,6 +101,9 @@ fn subtracted(space: &[u8], a: usize, b: usize) -> SizeDifference
     }
 }
 
+// All bits of a word.
+const ALL_BITS: u64 = 18446744073709551615;
+
 // How far apart two sizes are, and whether the first is the smaller.
 pub struct Distance {
     pub words: [u64; VALUE_WORDS],
@@ -114,16 +117,20 @@ pub fn distance_between(space: &[u8], a: usize, b: usize) -> Distance
     ensures { λ r. ⌜ (wordsValue (r .words) ≡ distanceOf (bytesValue (sizeBytes (now (space .entry)) a)) (bytesValue (sizeBytes (now (space .entry)) b))) × (r .below ≡ ltb (bytesValue (sizeBytes (now (space .entry)) a)) (bytesValue (sizeBytes (now (space .entry)) b))) ⌝ }
 {
     let first = subtracted(space, a, b);
-    if first.below {
-        let second = subtracted(space, b, a);
-        let words = second.words;
-        return Distance { words, below: true };
+    let below = first.below;
+    let given = first.words;
+    // Below zero it is taken from zero. Without a branch: which size is the larger cannot be predicted.
+    let mask = (below as u64) * ALL_BITS;
+    let mut words = [0u64; VALUE_WORDS];
+    let mut borrow = false;
+    let mut k = 0;
+    while k < VALUE_WORDS {
+        let turned = subtract_with_borrow(given[k] ^ mask, mask, borrow);
+        words[k] = turned.word;
+        borrow = turned.borrow;
+        k += 1;
     }
-    let words = first.words;
-    Distance {
-        words,
-        below: false,
-    }
+    Distance { words, below }
 }
 
 // Whether the sizes whose bytes stand at `a` and `b` are the same. Without leaving early: which steps
@@ -133,13 +140,13 @@ pub fn same_size(space: &[u8], a: usize, b: usize) -> bool
     requires { ⌜ b + valueBytes ≤ length (now space) ⌝ }
     ensures { λ r. ⌜ r ≡ eqb (bytesValue (sizeBytes (now (space .entry)) a)) (bytesValue (sizeBytes (now (space .entry)) b)) ⌝ }
 {
-    let mut same = true;
+    let mut differing = 0;
     let mut k = 0;
     while k < VALUE_WORDS {
-        same = same & (size_word(space, a, k) == size_word(space, b, k));
+        differing = differing | (size_word(space, a, k) ^ size_word(space, b, k));
         k += 1;
     }
-    same
+    differing == 0
 }
 
 // Writes the bytes of a size at `at`.

@@ -6,16 +6,16 @@ use lib.Dec.{eqb}
 use Rattle.rules.specs.Limits.{valueWords}
 use Rattle.integers.specs.Positional.{positional}
 use Rattle.integers.proofs.Positional.{Below}
-use Rattle.records.proofs.Sizes.{sameTo, same-more, same-all}
+use Rattle.records.proofs.Sizes.{none-differ, sameTo, same-more, same-all}
 use borrow.Author.Needs.{needs}
 use Rattle.records.proofs.same_size.Statement.{statement}
 use Rattle.records.proofs.same_size.Tie as tie
 
 abbrev Inv-loop : tie.InvT-loop
-Inv-loop space a b same₀ k₀ same k = (k ≤ valueWords) × (same ≡ sameTo space a b k)
+Inv-loop space a b differing₀ k₀ differing k = (k ≤ valueWords) × (eqb differing 0 ≡ sameTo space a b k)
 
 abbrev μ-loop : tie.MeasureT-loop
-μ-loop space a b same₀ k₀ same k = valueWords - k
+μ-loop space a b differing₀ k₀ differing k = valueWords - k
 
 loop-holds : tie.Need-loop-holds Inv-loop μ-loop
 unfolding positional
@@ -40,8 +40,9 @@ loop-again c =
     let args = known .before .args in
     let bytes : Below 256 (args .space .now) = λ i. known .shared-slice-known .given i .fits in
     let more = same-more (args .space .now) (args .a) (args .b) bytes (at .loop .k) (search needs) in
-    let one : Bool = eqb (c .before .size-word .result) (c .size-word2 .result) in
-    (search needs, ap (λ (t : Bool). t && one) (at .loop .inv .1) ∙ rw (c .before .size-word .ensures, c .size-word2 .ensures) more)
+    let x = c .before .size-word .result in
+    let y = c .size-word2 .result in
+    (search needs, none-differ (at .loop .differing) x y ∙ ap (λ (t : Bool). t && eqb x y) (at .loop .inv .1) ∙ rw (c .before .size-word .ensures, c .size-word2 .ensures) more)
 
 returns : tie.Need-returns Inv-loop μ-loop
 returns c =

@@ -2,29 +2,31 @@
 use mathlib.Core.Path.{_≡_, sym, _∙_}
 use mathlib.Core.Bool.{Bool, cond}
 use mathlib.Core.List.{List}
-use Prim.Native.Nat.{ℕ, _+_, _*_, _/_, _<_, _≤_}
+use Prim.Native.Nat.{ℕ, suc, _+_, _*_, _/_, _<_, _≤_}
 use native.Mathlib.Numerals.{add-one}
 use native.Mathlib.Omega.{arith}
-use lib.ListN.{length, drop}
-use Rattle.rules.specs.Limits.{stepBytes}
+use lib.IntN.{ℤ}
+use lib.ListN.{length, drop, length-take}
+use Rattle.rules.specs.Limits.{stepBytes, valueBytes}
 use Rattle.rules.specs.Outcome.{unlessFailed}
 use Rattle.rules.specs.declared.Refusal.{Refusal}
 use Rattle.rules.specs.declared.Refusal.the-variants.{WrongEnd}
 use Rattle.rules.specs.declared.Checked.the-variants.{Accepted, Refused}
 use Rattle.rules.specs.declared.Verdict.{Verdict}
 use Rattle.rules.specs.declared.Verdict.the-variants.{Passed, Failed}
+use Rattle.integers.proofs.Bits.{bit-length-iff}
 use Rattle.chains.specs.Steps.{Step, subtracting, readStep, stepsOf}
 use Rattle.chains.specs.Values.{start, stepValue, valuesOf}
 use Rattle.chains.specs.Sound.{stepAt}
 use Rattle.chains.specs.Counts.{isDoubling, countsOf}
-use Rattle.chains.specs.Largest.{largestBits}
+use Rattle.chains.specs.Largest.{largest, largestBits}
 use Rattle.chains.proofs.Counts.{doubling-after}
-use Rattle.chains.proofs.Largest.{bitsAfter, bits-next, bits-all}
+use Rattle.chains.proofs.Largest.{largest-one, bitsAfter, bits-next, bits-all}
 use Rattle.chains.proofs.Values.{valuesAfter, length-values, length-after, after-none, after-all, after-more}
 use Rattle.chains.proofs.Bytes.{length-steps, step-at}
 use Rattle.step_values.specs.Verdicts.{stepVerdict, grown, StepChecked}
 use Rattle.records.specs.Recording.{Recording}
-use Rattle.work_space.specs.Bits.{IsBit}
+use Rattle.work_space.specs.Bits.{IsGrown}
 use Rattle.work_space.specs.End.{EndsAt}
 use Rattle.checking.specs.Check.{admission, judge, judged, stepsVerdict, checkAnswer, checkSpace}
 use Rattle.checking.proofs.Judge.{step-formed, judge-next, judge-stop, judge-end}
@@ -96,10 +98,17 @@ module _ (number plan lent here : List ℕ) (n : ℕ) (u : Underway plan lent he
         recording = rw none all;
       }
 
+-- no size has more bits than a value may
+pub underway-few : (plan lent here : List ℕ) (n : ℕ) → Underway plan lent here n → bitsAfter (stepsOf plan) n ≤ 8 * valueBytes
+underway-few plan lent here n u =
+    let values : List ℤ = valuesAfter (stepsOf plan) n in
+    let (i, h, e) = largest-one values (omega (arith, length-take (suc n) (valuesOf (stepsOf plan)), length-values (stepsOf plan))) in
+    bit-length-iff (largest values) (8 * valueBytes) .1 (rw e at (u .recording .representable i h .small))
+
 -- the size recorded last adds its bit just above the largest before it
-pub underway-bits : (plan lent here : List ℕ) (n bits b : ℕ) → Underway plan lent here (n + 1) → n < length plan / stepBytes → bits ≡ bitsAfter (stepsOf plan) n → IsBit (n + 1) bits here b
-    → bits + b ≡ bitsAfter (stepsOf plan) (n + 1)
-underway-bits plan lent here n bits b u h e is =
+pub underway-bits : (plan lent here : List ℕ) (n bits more : ℕ) → Underway plan lent here (n + 1) → n < length plan / stepBytes → bits ≡ bitsAfter (stepsOf plan) n
+    → IsGrown (n + 1) bits here more → more ≡ bitsAfter (stepsOf plan) (n + 1)
+underway-bits plan lent here n bits more u h e is =
     let within : n < length (stepsOf plan) = rw (length-steps plan) h in
     let long : length (valuesAfter (stepsOf plan) (n + 1)) ≡ n + 1 + 1 = omega (arith, length-after (stepsOf plan) (n + 1) (omega arith)) in
     let known = is lent (valuesAfter (stepsOf plan) (n + 1)) long (u .recording) in

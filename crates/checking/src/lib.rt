@@ -11,7 +11,7 @@ use step_checking::check_step;
 use step_reading::read_step;
 use work_space::begin;
 use work_space::ends_at;
-use work_space::size_bit;
+use work_space::grown_bits;
 ghost use mathlib.Core.Path.{_≡_};
 ghost use lib.ListN.{length};
 ghost use Rattle.checking.specs.Check.{admission, checkAnswer, checkSpace};
@@ -61,7 +61,7 @@ pub fn check(number: &[u8], plan: &[u8], space: &mut [u8]) -> Checked
         doublings += checked.doubling as usize;
         not_additions += checked.doubling as usize | step.operation as usize;
         n += 1;
-        largest_bits += size_bit(space, n, largest_bits);
+        largest_bits = grown_bits(space, n, largest_bits);
     }
     if ends_at(number, space, steps) {
         let additions = steps - not_additions;

@@ -8,6 +8,6 @@ use Rattle.integers.specs.Bits.{bit}
 use Rattle.chains.specs.Values.{at}
 use Rattle.records.specs.Recording.{Recording}
 
--- the bit of the size at position i, whatever values are recorded by then
-abbrev pub IsBit : ℕ → ℕ → List ℕ → ℕ → Type 0
-IsBit i place here b = (lent : List ℕ) (values : List ℤ) → length values ≡ i + 1 → Recording lent here values → b ≡ bit (natAbs (at values i)) place
+-- so many bits, and the one above them of the size at position i, whatever values are recorded by then
+abbrev pub IsGrown : ℕ → ℕ → List ℕ → ℕ → Type 0
+IsGrown i bits here r = (lent : List ℕ) (values : List ℤ) → length values ≡ i + 1 → Recording lent here values → r ≡ bits + bit (natAbs (at values i)) bits

@@ -1,25 +1,25 @@
-// What check asks of a work space besides its steps: record 0 before the first, a bit of the size recorded
-// last, and the last value beside the number.
+// A work space before the first step, after each, and after the last: record 0, the size recorded last,
+// and the last value beside the number.
 use chain_values::Value;
 use chain_values::one;
 use integers::words_of;
 use records::load;
+use records::size_word;
 use records::store;
 use rules::NUMBER_WORDS;
 use rules::RECORD_BYTES;
-use rules::VALUE_BYTES;
 ghost use mathlib.Core.Path.{_≡_};
-ghost use Prim.Native.Nat.{_+_, _*_, _≤_};
+ghost use Prim.Native.Nat.{_+_, _*_, _<_, _≤_};
 ghost use lib.IntN.{pos};
 ghost use lib.ListN.{length};
-ghost use Rattle.rules.specs.Limits.{recordBytes};
+ghost use Rattle.rules.specs.Limits.{valueWords, recordBytes};
 ghost use Rattle.integers.specs.Positional.{bytesValue};
 ghost use Rattle.integers.specs.Signed.{isSame};
 ghost use Rattle.numbers.specs.Admission.{Positive};
 ghost use Rattle.chain_values.specs.Value.{integerOf};
 ghost use Rattle.chains.specs.Values.{start};
 ghost use Rattle.records.specs.Recording.{Recording};
-ghost use Rattle.work_space.specs.Bits.{IsBit};
+ghost use Rattle.work_space.specs.Bits.{IsGrown};
 ghost use Rattle.work_space.specs.End.{EndsAt};
 
 // Position 0 holds 1.
@@ -30,17 +30,15 @@ pub fn begin(space: &mut [u8])
     store(space, 0, 0, one());
 }
 
-// The bit at a place of the size at position i, where no more are recorded: 0 above its bytes.
-pub fn size_bit(space: &[u8], i: usize, place: usize) -> usize
+// So many bits, and one more if the size at position i, where no more are recorded, has the bit above
+// them.
+pub fn grown_bits(space: &[u8], i: usize, bits: usize) -> usize
     requires { ⌜ recordBytes * i + recordBytes ≤ length (now space) ⌝ }
-    ensures { λ r. ⌜ IsBit i place (now (space .entry)) r ⌝ }
+    requires { ⌜ bits < 64 * valueWords ⌝ }
+    ensures { λ r. ⌜ IsGrown i bits (now (space .entry)) r ⌝ }
 {
-    let k = place / 8;
-    if k < VALUE_BYTES {
-        ((space[RECORD_BYTES * i + 1 + k] >> (place % 8)) % 2) as usize
-    } else {
-        0
-    }
+    let word = size_word(space, RECORD_BYTES * i + 1, bits / 64);
+    bits + ((word >> (bits % 64)) % 2) as usize
 }
 
 // Whether a value is the number, which is not zero.

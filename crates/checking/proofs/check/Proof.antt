@@ -2,7 +2,7 @@
 use mathlib.Core.Path.{_≡_, refl, sym, ap, _∙_}
 use mathlib.Core.Bool.{cond}
 use mathlib.Core.List.{List}
-use Prim.Native.Nat.{ℕ, _+_, _-_, _/_, _<_, _≤_}
+use Prim.Native.Nat.{ℕ, _+_, _-_, _/_, _≤_}
 use native.Mathlib.Omega.{arith}
 use lib.Bits.{bitOr}
 use lib.ListN.{length}
@@ -13,14 +13,12 @@ use Rattle.rules.specs.declared.Checked.the-variants.{Accepted}
 use Rattle.rules.specs.declared.Verdict.the-variants.{Passed, Failed}
 use Rattle.chains.specs.Steps.{stepsOf}
 use Rattle.chains.specs.Values.{start}
-use Rattle.chains.proofs.Largest.{bitsAfter, bits-start, bits-few}
-use Rattle.chains.proofs.Bytes.{length-steps}
+use Rattle.chains.proofs.Largest.{bitsAfter, bits-start}
 use Rattle.step_reading.specs.Fields.{asStep}
 use Rattle.records.specs.Recording.{Recording}
-use Rattle.work_space.specs.Bits.{IsBit}
 use Rattle.checking.specs.Check.{roomFor, admission}
 use Rattle.checking.proofs.Admission.{Checkable, checkable-is}
-use Rattle.checking.proofs.Underway.{Underway, Done, done-answer, done-space, underway-none, underway-next, underway-stop, underway-counted, underway-end, underway-bits, underway-widest}
+use Rattle.checking.proofs.Underway.{Underway, Done, done-answer, done-space, underway-none, underway-next, underway-stop, underway-counted, underway-end, underway-few, underway-bits, underway-widest}
 use Rattle.checking.proofs.Tally.{Holding, countsTo, holding-none, holding-few, holding-more, holding-all}
 use borrow.Author.Needs.{needs}
 use Rattle.checking.proofs.check.Statement.{statement}
@@ -165,30 +163,11 @@ add-not-additions c =
 add-n : tie.Need-add-n Inv-loop μ-loop
 add-n c = search needs
 
-size-bit-requires : tie.Need-size-bit-requires Inv-loop μ-loop
-size-bit-requires c κs =
+grown-bits-requires : tie.Need-grown-bits-requires Inv-loop μ-loop
+grown-bits-requires c κs =
     let at : tie.At-loop Inv-loop μ-loop = search in
     let checked : tie.After-check-step Inv-loop μ-loop = search in
-    omega (arith, room at, checked .check-step .kept .1 .0)
-
--- its size is seen
-grown : (c : tie.After-check-step Inv-loop μ-loop) → c .check-step .result .verdict ≡ Passed
-    → let at = c .before .before .before .before in
-    (b : ℕ) → IsBit (at .loop .n + 1) (at .loop .largest-bits) (c .check-step .last .1 .0) b
-    → at .loop .largest-bits + b ≡ bitsAfter (stepsOf (at .before .before .before .before .before .before .before .before .before .before .before .args .plan .now)) (at .loop .n + 1)
-grown c e b is = let at = c .before .before .before .before in underway-bits _ _ _ (at .loop .n) (at .loop .largest-bits) b (behind c e _ (underway at)) (search needs) (at .loop .inv .3) is
-
-add-largest-bits : tie.Need-add-largest-bits Inv-loop μ-loop
-add-largest-bits c =
-    let at : tie.At-loop Inv-loop μ-loop = search in
-    let checked : tie.After-check-step Inv-loop μ-loop = search in
-    let told : tie.After-enum-told2 Inv-loop μ-loop = search in
-    let plan = at .before .before .before .before .before .before .before .before .before .before .before .args .plan .now in
-    let bits = grown checked (told .enum-told2 .given .1) _ (c .size-bit .ensures) in
-    let within : at .loop .n < length plan / stepBytes = search needs in
-    let few = bits-few (stepsOf plan) (at .loop .n + 1) (omega (arith, length-steps plan)) in
-    let most = admitted (at .before .before .before .before .before) .few in
-    omega arith
+    (omega (arith, room at, checked .check-step .kept .1 .0), omega (arith, at .loop .inv .3, underway-few _ _ _ (at .loop .n) (underway at)))
 
 loop-less : tie.Need-loop-less Inv-loop μ-loop
 loop-less c = search needs
@@ -204,7 +183,7 @@ loop-again c =
       search needs,
       check .kept .1 .0 ∙ at .loop .inv .1,
       held checked (told .enum-told2 .given .1),
-      grown checked (told .enum-told2 .given .1) _ (c .size-bit .ensures),
+      underway-bits _ _ _ (at .loop .n) (at .loop .largest-bits) _ (behind checked (told .enum-told2 .given .1) _ (underway at)) (search needs) (at .loop .inv .3) (c .grown-bits .ensures),
       λ lent w. behind checked (told .enum-told2 .given .1) lent (at .loop .inv .4 lent w),
     )
 
@@ -283,8 +262,7 @@ check-spec =
     cast-not-additions-2
     add-not-additions
     add-n
-    size-bit-requires
-    add-largest-bits
+    grown-bits-requires
     loop-less
     loop-again
     ends-at-requires

@@ -1,5 +1,6 @@
 -- The answers as C takes them. If a call is not refused, the refusal and its place are 0; if it is, they are its number and place (docs/RULES.md, 4.13), and
 -- every other field is 0: a refusal answers its number and place and nothing else.
+use Prim.Native.Nat.{ℕ}
 use Rattle.rules.specs.Refusals.{refusalNumber, refusalPlace}
 use Rattle.rules.specs.declared.Refusal.{Refusal}
 use Rattle.rules.specs.declared.Written.{Written}
@@ -45,9 +46,20 @@ abbrev pub countedFields : Counted → Counts
 countedFields (Made c) = record { refusal = 0; place = 0; doublings = c .doublings; additions = c .additions; subtractions = c .subtractions }
 countedFields (NotCounted r) = record { refusal = refusalNumber r; place = refusalPlace r; doublings = 0; additions = 0; subtractions = 0 }
 
+-- the counts and what goes with them; a refusal has no bits
+abbrev pub acceptedFields : Counts → ℕ → Accepted
+acceptedFields c bits = record {
+  refusal = c .refusal;
+  place = c .place;
+  doublings = c .doublings;
+  additions = c .additions;
+  subtractions = c .subtractions;
+  «largest_bits» = bits;
+}
+
 abbrev pub checkedFields : Checked → Accepted
-checkedFields (Passes c bits) = record { refusal = 0; place = 0; doublings = c .doublings; additions = c .additions; subtractions = c .subtractions; «largest_bits» = bits }
-checkedFields (NotAccepted r) = record { refusal = refusalNumber r; place = refusalPlace r; doublings = 0; additions = 0; subtractions = 0; «largest_bits» = 0 }
+checkedFields (Passes c bits) = acceptedFields (countedFields (Made c)) bits
+checkedFields (NotAccepted r) = acceptedFields (countedFields (NotCounted r)) 0
 
 -- a text that is a number, by how many bytes it has; if it is none, a decimal one tells its place
 abbrev pub hexadecimalFields : Hexadecimal → Parsed

@@ -7,7 +7,7 @@ use rules::Refusal;
 use rules::Written;
 use taking::Start;
 ghost use mathlib.Core.Path.{_≡_};
-ghost use Rattle.c_answers.specs.Answers.{refusedFields, startedFields, writtenFields, readFields, countedFields, checkedFields, limitFields, hexadecimalFields, decimalFields};
+ghost use Rattle.c_answers.specs.Answers.{refusedFields, startedFields, writtenFields, readFields, countedFields, acceptedFields, checkedFields, limitFields, hexadecimalFields, decimalFields};
 
 // What the start of taking answers.
 #[repr(C)]
@@ -175,6 +175,20 @@ pub fn of_counted(answer: Counted) -> Counts
     }
 }
 
+// The bits beside the counts, and beside a refusal.
+fn with_bits(counted: Counts, largest_bits: usize) -> Accepted
+    ensures { λ r. ⌜ r ≡ acceptedFields counted «largest_bits» ⌝ }
+{
+    Accepted {
+        refusal: counted.refusal,
+        place: counted.place,
+        doublings: counted.doublings,
+        additions: counted.additions,
+        subtractions: counted.subtractions,
+        largest_bits,
+    }
+}
+
 pub fn of_checked(answer: Checked) -> Accepted
     ensures { λ r. ⌜ r ≡ checkedFields answer ⌝ }
 {
@@ -182,25 +196,8 @@ pub fn of_checked(answer: Checked) -> Accepted
         Checked::Accepted {
             counts,
             largest_bits,
-        } => Accepted {
-            refusal: 0,
-            place: 0,
-            doublings: counts.doublings,
-            additions: counts.additions,
-            subtractions: counts.subtractions,
-            largest_bits,
-        },
-        Checked::Refused(refusal) => {
-            let given = refused(refusal);
-            Accepted {
-                refusal: given.refusal,
-                place: given.place,
-                doublings: 0,
-                additions: 0,
-                subtractions: 0,
-                largest_bits: 0,
-            }
-        }
+        } => with_bits(of_counted(Counted::Steps(counts)), largest_bits),
+        Checked::Refused(refusal) => with_bits(of_counted(Counted::Refused(refusal)), 0),
     }
 }
 

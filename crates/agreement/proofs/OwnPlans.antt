@@ -1,23 +1,26 @@
--- Our own plans are all accepted, with the forecast's counts (docs/RULES.md, 4.12), and have no hidden doubling (3.8). Assumes nothing.
+-- Our own plans are all accepted, with the forecast's counts (docs/RULES.md, 4.12) and the bits that the method gives (5.11), and have no hidden doubling
+-- (3.8). Assumes nothing.
 use mathlib.Core.Path.{_≡_, refl, sym, ap}
 use mathlib.Core.List.{List}
 use Prim.Native.Nat.{ℕ, _≤_}
 use native.Mathlib.Omega.{arith}
 use lib.ListN.{length}
 use Rattle.rules.specs.Limits.{planSteps}
-use Rattle.rules.specs.Outcome.{answered, countValues, countedOutcome}
+use Rattle.rules.specs.Outcome.{answered, countValues, checkedValues, countedOutcome, checkedOutcome}
 use Rattle.integers.specs.Positional.{bytesValue}
 use Rattle.integers.proofs.Positional.{Below}
 use Rattle.numbers.specs.Admission.{Positive}
 use Rattle.chains.specs.Steps.{Step, stepsOf, planBytesOf}
 use Rattle.chains.specs.Counts.{countsOf, NoHiddenDoubling}
+use Rattle.chains.specs.Largest.{largestBits}
 use Rattle.chains.proofs.Counts.{positionCounts, unhidden-counts}
 use Rattle.chains.proofs.Bytes.{length-plan, steps-of-plan}
 use Rattle.methods.specs.declared.Method.{Method}
 use Rattle.methods.specs.declared.Chosen.{Chosen}
 use Rattle.methods.specs.Method.{methodOf, stepsBy}
+use Rattle.methods.specs.Largest.{largestBitsBy}
 use Rattle.methods.proofs.Laws.{Fit, plannable}
-use Rattle.methods.proofs.Every.{is-allowed, every-fit, every-unhidden}
+use Rattle.methods.proofs.Every.{is-allowed, every-fit, every-unhidden, every-largest}
 use Rattle.planning.specs.Plan.{forecastAnswer, planAnswer}
 use Rattle.planning.proofs.Promises.{forecast-answers, plan-answers}
 use Rattle.checking.specs.Check.{checkAnswer, roomFor}
@@ -49,12 +52,18 @@ module _ (number : List ℕ) (bytes : Below 256 number) (positive : Positive num
   read-steps : stepsOf plan ≡ steps
   read-steps = steps-of-plan steps (λ n h. let s = fit .made .sound .formed n h in record { first = omega (arith, s .first, few-steps); second = omega (arith, s .second, few-steps) })
 
-  -- given work space enough, check accepts it with the same counts
-  pub accepted : (room : ℕ) → roomFor (length plan) ≤ room → countedOutcome (checkAnswer number plan room) ≡ answered (countValues (countsOf steps))
+  -- given work space enough, check accepts it with the same counts, and with the bits that the method gives
+  pub accepted : (room : ℕ) → roomFor (length plan) ≤ room
+      → checkedOutcome (checkAnswer number plan room) ≡ answered (checkedValues (countsOf steps) (largestBitsBy m (bytesValue number)))
   accepted room h =
       let e = length-plan steps in
-      accepts number plan room (countValues (countsOf steps)) .1
-      (record { positive = positive; whole = omega arith; few = omega (arith, few-steps); fits = h }, rw read-steps (fit .made .sound), rw read-steps (fit .made .end), ap (λ (l : List Step). countValues (countsOf l)) (sym read-steps))
+      let bits : largestBits steps ≡ largestBitsBy m (bytesValue number) = every-largest m (bytesValue number) (is-allowed method width asked) (plannable number bytes positive .some) in
+      accepts number plan room (checkedValues (countsOf steps) (largestBitsBy m (bytesValue number))) .1 (
+        record { positive = positive; whole = omega arith; few = omega (arith, few-steps); fits = h },
+        rw read-steps (fit .made .sound),
+        rw read-steps (fit .made .end),
+        rw (read-steps, bits),
+      )
 
   unhidden : NoHiddenDoubling steps
   unhidden = every-unhidden m (bytesValue number) (is-allowed method width asked) (plannable number bytes positive .some)

@@ -1,26 +1,28 @@
 -- What the rules promise of check, as theorems about the definitions that its statement cites. Assumes nothing.
 use mathlib.Core.Path.{_≡_, refl, _∙_}
 use mathlib.Core.Logic.{_↔_, _≢_, _⊎_, inl, inr}
-use mathlib.Core.List.{List}
-use Prim.Native.Nat.{ℕ, suc, _*_, _%_, _<_, _≤_}
+use mathlib.Core.List.{List, [], _∷_}
+use Prim.Native.Nat.{ℕ, suc, _*_, _%_, _^_, _<_, _≤_}
 use native.Mathlib.Omega.{arith}
 use lib.IntN.{ℤ, pos, natAbs, ℤ-discrete}
 use lib.ListN.{length, take}
-use Rattle.rules.specs.Limits.{numberBytes, stepBytes, planSteps, valueBound}
+use Rattle.rules.specs.Limits.{numberBytes, stepBytes, planSteps, valueBytes, valueBound}
 use Rattle.rules.specs.Outcome.{Outcome, refused, answered, refusal, checkedValues, checkedOutcome, andThen, unlessFailed}
 use Rattle.rules.specs.declared.Refusal.{Refusal}
 use Rattle.rules.specs.declared.Checked.the-variants.{Accepted, Refused}
 use Rattle.rules.specs.declared.Verdict.{Verdict}
 use Rattle.rules.specs.declared.Verdict.the-variants.{Failed}
+use Rattle.integers.specs.Bits.{bitLength}
 use Rattle.integers.specs.Positional.{bytesValue}
 use Rattle.integers.proofs.Signed.{same-true, same-false}
 use Rattle.numbers.specs.Admission.{Padded, Admitted, Positive}
 use Rattle.numbers.proofs.Tests.{too-long, padded, refused as not-admitted, is-zero}
-use Rattle.chains.specs.Steps.{Step, stepsOf}
+use Rattle.chains.specs.Steps.{Step, readSteps, stepsOf}
 use Rattle.chains.specs.Values.{at, start, valuesOf, endOf}
 use Rattle.chains.specs.Sound.{stepAt, WellFormed, Sound}
-use Rattle.chains.specs.Counts.{countsOf}
+use Rattle.chains.specs.Counts.{sumCounts, countsOf}
 use Rattle.chains.specs.Largest.{largestBits}
+use Rattle.chains.proofs.Largest.{bits-none, bits-all, bits-few, bits-least, bits-end, bits-below}
 use Rattle.records.specs.Recording.{recorded}
 use Rattle.step_values.proofs.Tested.{Tested, malformed, value-is-zero, value-too-large}
 use Rattle.checking.specs.Check.{roomFor, admission, Judged, judge, judged, stepsVerdict, checkAnswer, checkSpace, endVerdict}
@@ -160,6 +162,31 @@ module _ (number plan : List ℕ) (room : ℕ) where
   pub accepts : (vs : List ℕ)
       → outcome ≡ answered vs ↔ Checkable number (length plan) room × Sound (stepsOf plan) × (endOf (stepsOf plan) ≡ pos (bytesValue number)) × (vs ≡ checkedValues (countsOf (stepsOf plan)) (largestBits (stepsOf plan)))
   accepts vs = (λ e. elim (given e) [ accepted a s x v ↦ (a, s, x, v) ], λ h. given-only (accepted (h .0) (h .1) (h .2) (h .3)))
+
+  -- ---- the bits of the largest size
+
+  bits-are : {d a s b : ℕ} → outcome ≡ answered (d ∷ a ∷ s ∷ b ∷ []) → b ≡ largestBits (stepsOf plan)
+  bits-are e = let same = accepts _ .0 e .3 in cc
+
+  module _ {d a s b : ℕ} (e : outcome ≡ answered (d ∷ a ∷ s ∷ b ∷ [])) where
+    -- the least number of bits that holds every size
+    pub least-bits : (k : ℕ) → b ≤ k ↔ ((i : ℕ) → i ≤ length (stepsOf plan) → natAbs (at (valuesOf (stepsOf plan)) i) < 2 ^ k)
+    least-bits k = rw (bits-are e) (bits-least (stepsOf plan) k)
+
+    -- no fewer than the number has, no more than a value may have, and at most one for each step beside that of position 0
+    pub number-bits : bitLength (bytesValue number) ≤ b
+    number-bits = let end = accepts _ .0 e .2 in rw (bits-are e) (rw end at (bits-end (stepsOf plan)))
+
+    pub value-bits : b ≤ 8 * valueBytes
+    value-bits = rw (bits-are e) (bits-below (stepsOf plan) (omega arith) (accepts _ .0 e .1))
+
+    pub step-bits : b ≤ suc (length (stepsOf plan))
+    step-bits = rw (bits-are e, ← bits-all (stepsOf plan)) (bits-few (stepsOf plan) (length (stepsOf plan)) (omega arith))
+
+  -- the empty plan: no steps, and 1 bit
+  pub empty-bits : {vs : List ℕ} → plan ≡ [] → outcome ≡ answered vs → vs ≡ 0 ∷ 0 ∷ 0 ∷ 1 ∷ []
+  unfolding stepsOf readSteps countsOf sumCounts
+  empty-bits {vs} z e = accepts vs .0 e .3 ∙ rw (z, bits-none)
 
 -- ---- memory
 

@@ -157,6 +157,7 @@ fn call(name: u64, input: &[u8], plan: &[u8], method: u32, width: u32, out: &mut
         CHECK => {
             let a = lesmutka_check(input, plan, out);
             put_steps(a.refusal, a.place, a.doublings, a.additions, a.subtractions);
+            put_number(a.largest_bits);
             put_buffer(out);
         }
         HEX => {

@@ -32,17 +32,19 @@
  *         }
  *         lesmutka_counts counts =
  *             lesmutka_plan(number, parsed.length, LESMUTKA_NAF, 0, plan, sizeof plan);
- *         if (counts.refusal == 0) {
- *             size_t steps = counts.doublings + counts.additions + counts.subtractions;
- *             counts = lesmutka_check(number, parsed.length, plan, LESMUTKA_STEP_BYTES * steps,
- *                                     space, sizeof space);
- *         }
  *         if (counts.refusal != 0) {
  *             printf("refused: %s (place %zu)\n", lesmutka_words(counts.refusal), counts.place);
  *             return 1;
  *         }
- *         printf("checked: %zu doublings, %zu additions, %zu subtractions\n", counts.doublings,
- *                counts.additions, counts.subtractions);
+ *         size_t steps = counts.doublings + counts.additions + counts.subtractions;
+ *         lesmutka_accepted checked = lesmutka_check(
+ *             number, parsed.length, plan, LESMUTKA_STEP_BYTES * steps, space, sizeof space);
+ *         if (checked.refusal != 0) {
+ *             printf("refused: %s (place %zu)\n", lesmutka_words(checked.refusal), checked.place);
+ *             return 1;
+ *         }
+ *         printf("checked: %zu doublings, %zu additions, %zu subtractions; at most %zu bits\n",
+ *                checked.doublings, checked.additions, checked.subtractions, checked.largest_bits);
  *         return 0;
  *     }
  *
@@ -245,6 +247,19 @@ typedef struct {
     size_t subtractions;
 } lesmutka_counts;
 
+/* An accepted plan: its counts, as in lesmutka_counts, and largest_bits, the bit length of the
+ * largest size among the values of its chain, position 0 included and values below zero by their
+ * size. So registers of that many bits hold every size. It is 1 for the empty plan, at least the
+ * bit length of the number, and at most 8 * LESMUTKA_VALUE_BYTES. */
+typedef struct {
+    size_t refusal;
+    size_t place;
+    size_t doublings;
+    size_t additions;
+    size_t subtractions;
+    size_t largest_bits;
+} lesmutka_accepted;
+
 /* Whether a text was a number (1 or 0), where a decimal text ceases to be one, and how many bytes
  * the number has. */
 typedef struct {
@@ -354,7 +369,7 @@ lesmutka_counts lesmutka_forecast(const uint8_t *number, size_t number_length, u
 
 /** Check a plan for a number: each step sound, and the last value the number.
  *
- *  Returns: the counts of the plan's steps.
+ *  Returns: the counts of the plan's steps, and the bits of the largest size among its values.
  *           Refused: 1, then 13, then 2, then 7, then 8: nothing is written. Then the steps from
  *           the first, each tested for 9, then 10 or 11: the work space then holds records 0 to
  *           i - 1. Then 12: it holds records 0 to r, as after success. Bytes past these records
@@ -365,8 +380,8 @@ lesmutka_counts lesmutka_forecast(const uint8_t *number, size_t number_length, u
  *                  i is LESMUTKA_RECORD_BYTES bytes: the sign of a(i) (0, or 1 below zero), then
  *                  its size.
  */
-lesmutka_counts lesmutka_check(const uint8_t *number, size_t number_length, const uint8_t *plan,
-                               size_t plan_length, uint8_t *space, size_t space_length);
+lesmutka_accepted lesmutka_check(const uint8_t *number, size_t number_length, const uint8_t *plan,
+                                 size_t plan_length, uint8_t *space, size_t space_length);
 
 /** Read a number from hexadecimal text, most significant digit first, in either case, with 0x or 0X
  *  in front or without. Its bytes are those that the text writes: two digits a byte, and leading

@@ -33,12 +33,12 @@ int main(void) {
     }
 
     size_t length = LESMUTKA_STEP_BYTES * steps;
-    lesmutka_counts checked =
+    lesmutka_accepted checked =
         lesmutka_check(number, sizeof number, plan, length, space, sizeof space);
     if (checked.refusal != 0)
         return refused(checked.refusal, checked.place);
-    printf("accepted: %zu doublings, %zu additions, %zu subtractions\n", checked.doublings,
-           checked.additions, checked.subtractions);
+    printf("accepted: %zu doublings, %zu additions, %zu subtractions; at most %zu bits\n",
+           checked.doublings, checked.additions, checked.subtractions, checked.largest_bits);
 
     lesmutka_recoder recoder;
     lesmutka_started started = lesmutka_start(number, sizeof number, &recoder);
@@ -51,7 +51,7 @@ int main(void) {
 
     /* The last step turned into an addition: the plan ends elsewhere. */
     plan[length - LESMUTKA_STEP_BYTES] = 0;
-    lesmutka_counts damaged =
+    lesmutka_accepted damaged =
         lesmutka_check(number, sizeof number, plan, length, space, sizeof space);
     refused(damaged.refusal, damaged.place);
     return 0;

@@ -1,5 +1,5 @@
 /* The boundary between C and the library: every constant of the header, layout of the answers, empty buffers,
- * recoders, the counts of a check, the reading of text, versions and words. */
+ * recoders, what a check answers, the reading of text, versions and words. */
 #include <stdio.h>
 #include <stdlib.h>
 #include <string.h>
@@ -53,12 +53,14 @@ static void empty_buffers(void) {
     EXPECT(planned.refusal == 0 && planned.doublings + planned.additions + planned.subtractions == 0);
     lesmutka_counts forecast = lesmutka_forecast(NULL, 0, LESMUTKA_BINARY, 0);
     EXPECT(forecast.refusal == LESMUTKA_NUMBER_IS_ZERO && forecast.place == 0);
-    lesmutka_counts checked = lesmutka_check(NULL, 0, NULL, 0, NULL, 0);
+    lesmutka_accepted checked = lesmutka_check(NULL, 0, NULL, 0, NULL, 0);
     EXPECT(checked.refusal == LESMUTKA_NUMBER_IS_ZERO && checked.place == 0);
     checked = lesmutka_check(one, 1, NULL, 0, NULL, 0);
     EXPECT(checked.refusal == LESMUTKA_WORK_SPACE_TOO_SHORT && checked.place == 0);
+    EXPECT(checked.largest_bits == 0);
     checked = lesmutka_check(one, 1, NULL, 0, space, sizeof space);
-    EXPECT(checked.refusal == 0);
+    EXPECT(checked.refusal == 0 && checked.place == 0 && checked.largest_bits == 1);
+    EXPECT(checked.doublings == 0 && checked.additions == 0 && checked.subtractions == 0);
 }
 
 /* A recoder stands for its words, plus one where the last is not 0. */
@@ -90,15 +92,22 @@ static void recoders(void) {
     EXPECT(memcmp(&recoder, &before, sizeof recoder) == 0);
 }
 
+/* Writes a step of a plan. */
+static size_t step(uint8_t *plan, size_t operation, size_t j, size_t k) {
+    plan[0] = (uint8_t)operation;
+    plan[1] = (uint8_t)(j % 256);
+    plan[2] = (uint8_t)(j / 256);
+    plan[3] = (uint8_t)(k % 256);
+    plan[4] = (uint8_t)(k / 256);
+    return LESMUTKA_STEP_BYTES;
+}
+
 /* A plan of this many doublings. */
 static size_t doublings(uint8_t *plan, size_t steps) {
-    for (size_t i = 0; i < steps; i++) {
-        uint8_t *step = plan + LESMUTKA_STEP_BYTES * i;
-        step[0] = 0;
-        step[1] = step[3] = (uint8_t)(i % 256);
-        step[2] = step[4] = (uint8_t)(i / 256);
-    }
-    return LESMUTKA_STEP_BYTES * steps;
+    size_t length = 0;
+    for (size_t i = 0; i < steps; i++)
+        length += step(plan + length, 0, i, i);
+    return length;
 }
 
 /* Each room of the header is what the longest answer takes, and no less. */
@@ -147,24 +156,24 @@ static void refusals(void) {
     EXPECT(length.refusal == LESMUTKA_STRING_TOO_LONG && length.place == 0);
     length = lesmutka_recode(one, 1, out, 0);
     EXPECT(length.refusal == LESMUTKA_ROOM_TOO_SMALL && length.place == 1);
-    steps = lesmutka_check(one, 1, plan, LESMUTKA_STEP_BYTES - 1, space, sizeof space);
-    EXPECT(steps.refusal == LESMUTKA_PLAN_LENGTH && steps.place == 0);
-    steps = lesmutka_check(one, 1, plan, sizeof plan, space, sizeof space);
-    EXPECT(steps.refusal == LESMUTKA_PLAN_LENGTH && steps.place == 0);
-    steps = lesmutka_check(one, 1, plan, LESMUTKA_STEP_BYTES, space, LESMUTKA_WORK_SPACE(1) - 1);
-    EXPECT(steps.refusal == LESMUTKA_WORK_SPACE_TOO_SHORT && steps.place == 0);
+    lesmutka_accepted checked = lesmutka_check(one, 1, plan, LESMUTKA_STEP_BYTES - 1, space, sizeof space);
+    EXPECT(checked.refusal == LESMUTKA_PLAN_LENGTH && checked.place == 0);
+    checked = lesmutka_check(one, 1, plan, sizeof plan, space, sizeof space);
+    EXPECT(checked.refusal == LESMUTKA_PLAN_LENGTH && checked.place == 0);
+    checked = lesmutka_check(one, 1, plan, LESMUTKA_STEP_BYTES, space, LESMUTKA_WORK_SPACE(1) - 1);
+    EXPECT(checked.refusal == LESMUTKA_WORK_SPACE_TOO_SHORT && checked.place == 0);
     plan[0] = 2;
-    steps = lesmutka_check(one, 1, plan, LESMUTKA_STEP_BYTES, space, LESMUTKA_WORK_SPACE(1));
-    EXPECT(steps.refusal == LESMUTKA_MALFORMED_STEP && steps.place == 1);
+    checked = lesmutka_check(one, 1, plan, LESMUTKA_STEP_BYTES, space, LESMUTKA_WORK_SPACE(1));
+    EXPECT(checked.refusal == LESMUTKA_MALFORMED_STEP && checked.place == 1);
     plan[0] = 1;
-    steps = lesmutka_check(one, 1, plan, LESMUTKA_STEP_BYTES, space, LESMUTKA_WORK_SPACE(1));
-    EXPECT(steps.refusal == LESMUTKA_VALUE_IS_ZERO && steps.place == 1);
+    checked = lesmutka_check(one, 1, plan, LESMUTKA_STEP_BYTES, space, LESMUTKA_WORK_SPACE(1));
+    EXPECT(checked.refusal == LESMUTKA_VALUE_IS_ZERO && checked.place == 1);
     size_t bits = 8 * LESMUTKA_VALUE_BYTES;
-    steps = lesmutka_check(one, 1, plan, doublings(plan, bits), space, sizeof space);
-    EXPECT(steps.refusal == LESMUTKA_VALUE_TOO_LARGE && steps.place == bits);
-    steps = lesmutka_check(one, 1, plan, doublings(plan, bits - 1), space, sizeof space);
-    EXPECT(steps.refusal == LESMUTKA_WRONG_END && steps.place == bits - 1);
-    EXPECT(steps.doublings == 0 && steps.additions == 0 && steps.subtractions == 0);
+    checked = lesmutka_check(one, 1, plan, doublings(plan, bits), space, sizeof space);
+    EXPECT(checked.refusal == LESMUTKA_VALUE_TOO_LARGE && checked.place == bits);
+    checked = lesmutka_check(one, 1, plan, doublings(plan, bits - 1), space, sizeof space);
+    EXPECT(checked.refusal == LESMUTKA_WRONG_END && checked.place == bits - 1);
+    EXPECT(checked.doublings == 0 && checked.additions == 0 && checked.subtractions == 0 && checked.largest_bits == 0);
 }
 
 /* A buffer with guard bytes on both sides. Its first byte lies at an odd place, since no alignment is asked for. */
@@ -185,17 +194,20 @@ static int changed_only(size_t first) {
     return 1;
 }
 
-/* The check of three steps as text: this refusal at this place, or these counts; records with these values, and no
- * other byte of the lent buffer. */
+/* The check of steps as text, at most as many as there is room for: this refusal at this place, or these counts and as
+ * many bits of the largest size; records with these values, and no other byte of the lent buffer. */
+#define STEPS (ROOM / LESMUTKA_RECORD_BYTES - 1)
 static void checked(const char *text, uint8_t number, size_t refusal, size_t place, const size_t counts[3],
-                    const int *values, size_t records) {
-    uint8_t plan[3 * LESMUTKA_STEP_BYTES];
+                    size_t largest_bits, const int *values, size_t records) {
+    uint8_t plan[LESMUTKA_STEP_BYTES * STEPS];
     lesmutka_length read = lesmutka_read_steps((const uint8_t *)text, strlen(text), plan, sizeof plan);
-    EXPECT(read.refusal == 0 && read.length == sizeof plan);
+    EXPECT(read.refusal == 0);
     lend();
-    lesmutka_counts answer = lesmutka_check(&number, 1, plan, sizeof plan, lent, LESMUTKA_WORK_SPACE(3));
+    size_t room = LESMUTKA_WORK_SPACE(read.length / LESMUTKA_STEP_BYTES);
+    lesmutka_accepted answer = lesmutka_check(&number, 1, plan, read.length, lent, room);
     EXPECT(answer.refusal == refusal && answer.place == place);
     EXPECT(answer.doublings == counts[0] && answer.additions == counts[1] && answer.subtractions == counts[2]);
+    EXPECT(answer.largest_bits == largest_bits);
     for (size_t i = 0; i < records; i++) {
         const uint8_t *record = lent + LESMUTKA_RECORD_BYTES * i;
         EXPECT(record[0] == (values[i] < 0) && record[1] == abs(values[i]));
@@ -209,16 +221,48 @@ static void checked(const char *text, uint8_t number, size_t refusal, size_t pla
 static void hidden_doublings(void) {
     const size_t none[] = {0, 0, 0}, three[] = {3, 0, 0}, two[] = {2, 0, 1};
     const int equal[] = {1, 2, 2, 4}, opposite[] = {1, 2, -1, 2};
-    checked("add(0,0) add(0,0) add(1,2)", 4, 0, 0, three, equal, 4);
-    checked("add(0,0) add(0,0) add(1,2)", 5, LESMUTKA_WRONG_END, 3, none, equal, 4);
-    checked("add(0,0) add(0,0) subtract(1,2)", 4, LESMUTKA_VALUE_IS_ZERO, 3, none, equal, 3);
-    checked("add(0,0) subtract(0,1) subtract(0,2)", 2, 0, 0, two, opposite, 4);
-    checked("add(0,0) subtract(0,1) subtract(0,2)", 1, LESMUTKA_WRONG_END, 3, none, opposite, 4);
-    checked("add(0,0) subtract(0,1) add(0,2)", 2, LESMUTKA_VALUE_IS_ZERO, 3, none, opposite, 3);
+    checked("add(0,0) add(0,0) add(1,2)", 4, 0, 0, three, 3, equal, 4);
+    checked("add(0,0) add(0,0) add(1,2)", 5, LESMUTKA_WRONG_END, 3, none, 0, equal, 4);
+    checked("add(0,0) add(0,0) subtract(1,2)", 4, LESMUTKA_VALUE_IS_ZERO, 3, none, 0, equal, 3);
+    checked("add(0,0) subtract(0,1) subtract(0,2)", 2, 0, 0, two, 2, opposite, 4);
+    checked("add(0,0) subtract(0,1) subtract(0,2)", 1, LESMUTKA_WRONG_END, 3, none, 0, opposite, 4);
+    checked("add(0,0) subtract(0,1) add(0,2)", 2, LESMUTKA_VALUE_IS_ZERO, 3, none, 0, opposite, 3);
     /* Neither equal nor opposite: 2 + 1, then 3 - 2. */
     const size_t each[] = {1, 1, 1};
     const int others[] = {1, 2, 3, 1};
-    checked("add(0,0) add(1,0) subtract(2,1)", 1, 0, 0, each, others, 4);
+    checked("add(0,0) add(1,0) subtract(2,1)", 1, 0, 0, each, 2, others, 4);
+}
+
+/* The bits of the largest size among all values, wherever it stands: at the end, on the way, below zero; not of the
+ * number, nor of the last value. Refusals have none. */
+static void largest_sizes(void) {
+    const size_t none[] = {0, 0, 0}, three[] = {3, 0, 0}, naf[] = {3, 0, 1}, below[] = {2, 1, 2}, back[] = {4, 0, 0};
+    const int last[] = {1, 2, 4, 8}, seven[] = {1, 2, 4, 8, 7}, minus_six[] = {1, 2, -1, -3, -6, 1};
+    const int middle[] = {1, 2, 4, 8, 2};
+    checked("add(0,0) add(1,1) add(2,2)", 8, 0, 0, three, 4, last, 4);
+    checked("add(0,0) add(1,1) add(2,2) subtract(3,0)", 7, 0, 0, naf, 4, seven, 5);
+    checked("add(0,0) add(1,1) add(2,2) add(0,0)", 2, 0, 0, back, 4, middle, 5);
+    checked("add(0,0) subtract(0,1) subtract(2,1) add(3,3) add(1,2)", 1, 0, 0, below, 3, minus_six, 6);
+    checked("add(0,0) subtract(0,1) subtract(2,1) add(3,3) add(1,2)", 2, LESMUTKA_WRONG_END, 5, none, 0, minus_six, 6);
+    checked("add(0,0) add(1,1) add(2,2) add(4,0)", 2, LESMUTKA_MALFORMED_STEP, 4, none, 0, last, 4);
+
+    /* As many bits as a size may have, then 2: a power of two; all ones, above zero and below. */
+    static uint8_t plan[LESMUTKA_PLAN_ROOM], space[LESMUTKA_WORK_SPACE(LESMUTKA_PLAN_STEPS)];
+    const uint8_t two[] = {2};
+    const size_t bits = 8 * LESMUTKA_VALUE_BYTES, top = bits - 1;
+    for (int i = 0; i < 3; i++) {
+        size_t length = doublings(plan, top);
+        if (i == 1) {
+            length += step(plan + length, 1, top, 0);
+            length += step(plan + length, 0, top, bits);
+        } else if (i == 2) {
+            length += step(plan + length, 1, 0, top);
+            length += step(plan + length, 1, bits, top);
+        }
+        length += step(plan + length, 0, 0, 0);
+        lesmutka_accepted answer = lesmutka_check(two, 1, plan, length, space, sizeof space);
+        EXPECT(answer.refusal == 0 && answer.place == 0 && answer.largest_bits == bits);
+    }
 }
 
 /* Every call that takes a number refuses these bytes so, beside faults that are tested later too: no room, no method,
@@ -239,9 +283,10 @@ static void refused_number(const uint8_t *number, size_t length, size_t refusal)
             EXPECT(counts.doublings == 0 && counts.additions == 0 && counts.subtractions == 0);
         }
         for (size_t bytes = 0; bytes <= sizeof steps; bytes++) {
-            lesmutka_counts counts = lesmutka_check(number, length, steps, bytes, lent, rooms[i]);
-            EXPECT(counts.refusal == refusal && counts.place == 0);
-            EXPECT(counts.doublings == 0 && counts.additions == 0 && counts.subtractions == 0);
+            lesmutka_accepted answer = lesmutka_check(number, length, steps, bytes, lent, rooms[i]);
+            EXPECT(answer.refusal == refusal && answer.place == 0);
+            EXPECT(answer.doublings == 0 && answer.additions == 0 && answer.subtractions == 0);
+            EXPECT(answer.largest_bits == 0);
         }
     }
     EXPECT(changed_only(0));
@@ -534,6 +579,7 @@ int main(void) {
     methods();
     refusals();
     hidden_doublings();
+    largest_sizes();
     spellings();
     hexadecimal();
     decimal();

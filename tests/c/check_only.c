@@ -7,9 +7,10 @@ int main(void) {
     static const uint8_t number[] = {3}, plan[] = {0, 0, 0, 0, 0, 0, 1, 0, 0, 0};
     static uint8_t space[LESMUTKA_WORK_SPACE(LESMUTKA_PLAN_STEPS)];
 #ifdef WITHOUT_CALL
-    lesmutka_counts counts = {plan[0], number[0] - 3u, 1, 1, space[0]};
+    lesmutka_accepted checked = {plan[0], number[0] - 3u, 1, 1, space[0], 2};
 #else
-    lesmutka_counts counts = lesmutka_check(number, sizeof number, plan, sizeof plan, space, sizeof space);
+    lesmutka_accepted checked = lesmutka_check(number, sizeof number, plan, sizeof plan, space, sizeof space);
 #endif
-    return counts.refusal != 0 || counts.doublings != 1 || counts.additions != 1 || counts.subtractions != 0;
+    return checked.refusal != 0 || checked.doublings != 1 || checked.additions != 1 || checked.subtractions != 0 ||
+           checked.largest_bits != 2;
 }

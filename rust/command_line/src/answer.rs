@@ -118,7 +118,7 @@ impl Desk {
             }
             Request::Check { file, .. } => plans::read(file).map(|plan| match plan {
                 Ok(plan) => match lesmutka::check(number, &plan.bytes, &mut self.space) {
-                    Ok(counts) => Answer::Accepted(counts),
+                    Ok(accepted) => Answer::Accepted(accepted.counts),
                     Err(refusal) => Answer::Refused(Refused {
                         refusal,
                         word: plan.word(refusal),

@@ -94,7 +94,7 @@ impl<'a> Chain<'a> {
         Chain {
             bytes: plan.bytes[..STEP_BYTES * steps].to_vec(),
             counts: match refusal {
-                None => check(&end, &plan.bytes, space).ok(),
+                None => check(&end, &plan.bytes, space).ok().map(|accepted| accepted.counts),
                 Some(_) => None,
             },
             values: records(space, steps).collect(),

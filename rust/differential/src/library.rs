@@ -54,7 +54,19 @@ pub fn forecast(number: &[u8], method: u32, width: u32) -> Result<Counts, Refusa
 }
 
 pub fn check(number: &[u8], plan: &[u8], space: &mut [u8]) -> Result<Counts, Refusal> {
-    counts(sys::check(number, plan, space))
+    let answer = sys::check(number, plan, space);
+    let rest = [
+        answer.doublings,
+        answer.additions,
+        answer.subtractions,
+        answer.largest_bits,
+    ];
+    refused(answer.refusal, answer.place, &rest)?;
+    Ok(Counts {
+        doublings: answer.doublings,
+        additions: answer.additions,
+        subtractions: answer.subtractions,
+    })
 }
 
 /// A recoder in memory that is lent, at the alignment of a word.

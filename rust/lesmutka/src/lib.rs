@@ -16,7 +16,9 @@
 //! assert_eq!(plan.counts.total(), 9);
 //!
 //! let mut space = [0; work_space(9)];
-//! assert_eq!(check(&number, plan.bytes, &mut space), Ok(plan.counts));
+//! let accepted = check(&number, plan.bytes, &mut space)?;
+//! assert_eq!(accepted.counts, plan.counts);
+//! assert_eq!(accepted.largest_bits, 6);
 //! # Ok::<(), lesmutka::Refusal>(())
 //! ```
 //!
@@ -37,7 +39,7 @@ mod values;
 
 pub use digits::{digits, Digits};
 pub use method::{Method, ParseMethodError};
-pub use plans::{Counts, ParseStepError, Plan, Step, Steps};
+pub use plans::{Accepted, Counts, ParseStepError, Plan, Step, Steps};
 pub use refusal::Refusal;
 pub use values::{records, Records, Value};
 
@@ -202,15 +204,15 @@ pub fn forecast(number: &[u8], method: Method) -> Result<Counts, Refusal> {
 }
 
 /// Checks a plan for a number: each step is sound, and the last value is the number. Answers the
-/// counts of its steps. The work space then holds a record of [`RECORD_BYTES`] for each position,
-/// which [`records`] reads.
+/// counts of its steps and the bits of the largest size among its values. The work space then holds a
+/// record of [`RECORD_BYTES`] for each position, which [`records`] reads.
 ///
 /// # Errors
 ///
 /// Refusals 1, 13, 2, 7, 8, then 9, 10 or 11 at the first step that is not sound, then 12. At 9 to
 /// 11 the records below that step are filled, at 12 all.
-pub fn check(number: &[u8], plan: &[u8], space: &mut [u8]) -> Result<Counts, Refusal> {
-    Counts::try_from(sys::check(number, plan, space))
+pub fn check(number: &[u8], plan: &[u8], space: &mut [u8]) -> Result<Accepted, Refusal> {
+    Accepted::try_from(sys::check(number, plan, space))
 }
 
 /// Reads a hexadecimal number, with `0x` or `0X` in front or without: writes its bytes and hands

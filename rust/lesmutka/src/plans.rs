@@ -1,4 +1,4 @@
-//! A plan: its steps, and their counts.
+//! A plan: its steps, their counts, and what its check answers.
 use crate::{is_blank, sys, Refusal, Value, STEP_BYTES};
 use core::fmt;
 use core::iter::{FusedIterator, Sum};
@@ -87,6 +87,53 @@ impl fmt::Display for Counts {
     }
 }
 
+/// What an accepted plan has. Its largest size is that of all its values, position 0 included and values
+/// below zero by their size, so registers of [`largest_bits`](Accepted::largest_bits) bits hold every size.
+///
+/// ```
+/// use lesmutka::{check, plan, work_space, Method, PLAN_ROOM};
+///
+/// let mut room = [0; PLAN_ROOM];
+/// let plan = plan(&[7], Method::Naf, &mut room)?;
+/// // 1, 2, 4, 8, 7: 8 has a bit more than the number.
+/// let accepted = check(&[7], plan.bytes, &mut [0; work_space(4)])?;
+/// assert_eq!(accepted.counts, plan.counts);
+/// assert_eq!(accepted.largest_bits, 4);
+/// assert_eq!(accepted.to_string(), "3 doublings, 0 additions, 1 subtractions; at most 4 bits");
+/// # Ok::<(), lesmutka::Refusal>(())
+/// ```
+#[derive(Clone, Copy, Debug, PartialEq, Eq, Hash)]
+pub struct Accepted {
+    /// How many steps of each kind.
+    pub counts: Counts,
+    /// The bit length of the largest size: 1 for the empty plan, at least that of the number, and at most
+    /// 8 times [`VALUE_BYTES`](crate::VALUE_BYTES).
+    pub largest_bits: usize,
+}
+
+/// What an accepted plan has, unless the answer is a refusal.
+impl TryFrom<sys::Accepted> for Accepted {
+    type Error = Refusal;
+
+    fn try_from(answer: sys::Accepted) -> Result<Accepted, Refusal> {
+        Refusal::of(answer.refusal, answer.place)?;
+        Ok(Accepted {
+            counts: Counts {
+                doublings: answer.doublings,
+                additions: answer.additions,
+                subtractions: answer.subtractions,
+            },
+            largest_bits: answer.largest_bits,
+        })
+    }
+}
+
+impl fmt::Display for Accepted {
+    fn fmt(&self, f: &mut fmt::Formatter<'_>) -> fmt::Result {
+        write!(f, "{}; at most {} bits", self.counts, self.largest_bits)
+    }
+}
+
 /// A step of a plan: the two positions whose values it adds or subtracts.
 ///
 /// ```
@@ -137,7 +184,7 @@ impl Step {
     ///
     /// let (mut room, mut space) = ([0; PLAN_ROOM], [0; lesmutka::work_space(3)]);
     /// let plan = read_steps(b"add(0,0) add(0,0) add(1,2)", &mut room)?;
-    /// assert_eq!(check(&[4], plan, &mut space)?.doublings, 3);
+    /// assert_eq!(check(&[4], plan, &mut space)?.counts.doublings, 3);
     ///
     /// // 1, 2, 2, 4
     /// let values: Vec<_> = records(&space, 3).collect();

@@ -60,6 +60,24 @@ pub struct Counts {
     pub subtractions: usize,
 }
 
+/// How many steps of each kind an accepted plan has, and the bits of its largest size.
+#[repr(C)]
+#[derive(Clone, Copy, Debug, PartialEq, Eq)]
+pub struct Accepted {
+    /// The number of the refusal, or 0.
+    pub refusal: usize,
+    /// Its place, or 0.
+    pub place: usize,
+    /// Steps that add equal values or subtract opposite ones.
+    pub doublings: usize,
+    /// Other steps that add.
+    pub additions: usize,
+    /// Other steps that subtract.
+    pub subtractions: usize,
+    /// The bit length of the largest size among the values.
+    pub largest_bits: usize,
+}
+
 /// What a reader of a number answers.
 #[repr(C)]
 #[derive(Clone, Copy, Debug, PartialEq, Eq)]
@@ -132,7 +150,7 @@ extern "C" {
         plan_length: usize,
         space: *mut u8,
         space_length: usize,
-    ) -> Counts;
+    ) -> Accepted;
     /// Reads a hexadecimal number. Nothing is written where the text is none.
     pub fn lesmutka_hexadecimal(text: *const u8, text_length: usize, out: *mut u8, out_length: usize) -> Parsed;
     /// Reads a decimal number. Nothing is written where the text is none.
@@ -200,7 +218,7 @@ pub fn forecast(number: &[u8], method: u32, width: u32) -> Counts {
 
 /// [`lesmutka_check`] over slices.
 #[inline]
-pub fn check(number: &[u8], plan: &[u8], space: &mut [u8]) -> Counts {
+pub fn check(number: &[u8], plan: &[u8], space: &mut [u8]) -> Accepted {
     let (bytes, steps, room) = (number.len(), plan.len(), space.len());
     unsafe { lesmutka_check(number.as_ptr(), bytes, plan.as_ptr(), steps, space.as_mut_ptr(), room) }
 }

@@ -188,7 +188,11 @@ fn planning() {
         assert_eq!(plan.counts.total(), steps);
         assert_eq!(forecast(&[43], method), Ok(plan.counts));
         let mut space = [7; work_space(9)];
-        assert_eq!(check(&[43], plan.bytes, &mut space), Ok(plan.counts));
+        let accepted = Accepted {
+            counts: plan.counts,
+            largest_bits: 6,
+        };
+        assert_eq!(check(&[43], plan.bytes, &mut space), Ok(accepted));
     }
     let three = plan(&[3], Method::Binary, &mut room).unwrap();
     assert_eq!(three.bytes, [0, 0, 0, 0, 0, 0, 1, 0, 0, 0]);
@@ -232,7 +236,11 @@ fn doublings(steps: usize) -> Vec<u8> {
 fn checking() {
     let mut space = vec![7; work_space(PLAN_STEPS)];
     let (record, less) = (work_space(0), work_space(0) - 1);
-    assert_eq!(check(&[1], &[], &mut space[..record]).unwrap().total(), 0);
+    let empty = Accepted {
+        counts: Counts::default(),
+        largest_bits: 1,
+    };
+    assert_eq!(check(&[1], &[], &mut space[..record]), Ok(empty));
     assert_eq!(
         check(&[2], &[], &mut space[..record]),
         Err(Refusal::WrongEnd { steps: 0 })
@@ -262,8 +270,9 @@ fn checking() {
     );
     // 1, 2, -1, 3
     let through_minus_one = [0, 0, 0, 0, 0, 1, 0, 0, 1, 0, 1, 1, 0, 2, 0];
-    let counts = check(&[3], &through_minus_one, &mut space).unwrap();
+    let Accepted { counts, largest_bits } = check(&[3], &through_minus_one, &mut space).unwrap();
     assert_eq!((counts.doublings, counts.additions, counts.subtractions), (1, 0, 2));
+    assert_eq!(largest_bits, 2);
     // a plan that ends at -1 is no plan for 1
     let end = Err(Refusal::WrongEnd { steps: 2 });
     assert_eq!(check(&[1], &through_minus_one[..10], &mut space), end);
@@ -316,13 +325,18 @@ fn limits_by_number() {
     let above = check(&[1], &doublings(392), &mut space);
     assert_eq!(above, Err(Refusal::ValueTooLarge { step: 392 }));
 
+    // 2^391 on the way, and 2 at the end.
+    let reached = [doublings(391), vec![0; 5]].concat();
+    assert_eq!(check(&[2], &reached, &mut space).unwrap().largest_bits, 392);
+
     let steps = |bytes: usize| vec![0; bytes];
-    assert_eq!(check(&[2], &steps(4800), &mut space).unwrap().total(), 960);
+    assert_eq!(check(&[2], &steps(4800), &mut space).unwrap().counts.total(), 960);
     assert_eq!(check(&[2], &steps(4805), &mut space), Err(Refusal::PlanLength));
     for r in [0, 1, 2, 391, 960] {
         let number = if r == 0 { [1] } else { [2] };
         let exact = 50 * (r + 1);
-        assert_eq!(check(&number, &steps(5 * r), &mut space[..exact]).unwrap().total(), r);
+        let accepted = check(&number, &steps(5 * r), &mut space[..exact]).unwrap();
+        assert_eq!(accepted.counts.total(), r);
         let short = check(&number, &steps(5 * r), &mut space[..exact - 1]);
         assert_eq!(short, Err(Refusal::WorkSpaceTooShort));
     }
@@ -380,6 +394,14 @@ fn refused_by_every_call(number: &[u8], refusal: usize) {
         additions: 0,
         subtractions: 0,
     };
+    let accepted = sys::Accepted {
+        refusal,
+        place: 0,
+        doublings: 0,
+        additions: 0,
+        subtractions: 0,
+        largest_bits: 0,
+    };
     for room in [0, 5000] {
         let mut out = vec![7; room];
         let length = sys::Length {
@@ -394,7 +416,7 @@ fn refused_by_every_call(number: &[u8], refusal: usize) {
         }
         // A plan for 2, for 1, and for none: part of a step, an unknown operation.
         for steps in [&[0; 5][..], &[], &[0; 4], &[2, 0, 0, 0, 0]] {
-            assert_eq!(sys::check(number, steps, &mut out), counts, "{:x?}", number);
+            assert_eq!(sys::check(number, steps, &mut out), accepted, "{:x?}", number);
         }
         assert_eq!(plan(number, Method::Naf, &mut out), Err(safe));
         assert_eq!(check(number, &[0; 5], &mut out), Err(safe));
@@ -637,7 +659,8 @@ fn hidden_doublings() {
         let steps = bytes.len() / STEP_BYTES;
         let mut guarded = vec![7; 5 + work_space(steps) + 5];
         let space = &mut guarded[5..5 + work_space(steps)];
-        assert_eq!(check(&[number], bytes, space), expected, "{}", text);
+        let answer = check(&[number], bytes, space);
+        assert_eq!(answer.map(|accepted| accepted.counts), expected, "{}", text);
         let filled = values.split(' ').count();
         let left: Vec<String> = records(space, filled - 1).map(|value| value.to_string()).collect();
         assert_eq!(left.join(" "), values, "{}", text);
@@ -653,6 +676,90 @@ fn hidden_doublings() {
     }
 }
 
+/// The bit length of the largest size that the check of a plan of this many steps left.
+fn largest_bits(space: &[u8], steps: usize) -> usize {
+    let bits = |value: Value<'_>| match value.size.split_last() {
+        Some((top, below)) => 8 * below.len() + 8 - top.leading_zeros() as usize,
+        None => 0,
+    };
+    records(space, steps).map(bits).max().unwrap()
+}
+
+/// The bits of the largest size: at the end, on the way, below zero; a refusal has none.
+#[test]
+fn the_largest_size() {
+    let wrong_end = |steps| Err(Refusal::WrongEnd { steps });
+    for (text, number, values, expected) in [
+        ("", 1, "0x01", Ok(1)),
+        ("", 2, "0x01", wrong_end(0)),
+        ("add(0,0)", 2, "0x01 0x02", Ok(2)),
+        ("add(0,0) subtract(1,0)", 1, "0x01 0x02 0x01", Ok(2)),
+        ("add(0,0) add(1,1)", 4, "0x01 0x02 0x04", Ok(3)),
+        (
+            "add(0,0) add(1,1) add(2,2) subtract(3,0)",
+            7,
+            "0x01 0x02 0x04 0x08 0x07",
+            Ok(4),
+        ),
+        (
+            "add(0,0) add(1,1) add(2,2) subtract(3,0)",
+            8,
+            "0x01 0x02 0x04 0x08 0x07",
+            wrong_end(4),
+        ),
+        (
+            "add(0,0) add(1,1) add(2,2) add(0,0)",
+            2,
+            "0x01 0x02 0x04 0x08 0x02",
+            Ok(4),
+        ),
+        (
+            "add(0,0) subtract(0,1) subtract(2,1) add(3,3) add(1,2)",
+            1,
+            "0x01 0x02 -0x01 -0x03 -0x06 0x01",
+            Ok(3),
+        ),
+        (
+            "add(0,0) subtract(0,1) subtract(2,1) add(3,3) add(1,2)",
+            6,
+            "0x01 0x02 -0x01 -0x03 -0x06 0x01",
+            wrong_end(5),
+        ),
+    ] {
+        let mut room = [7; PLAN_ROOM];
+        let bytes = read_steps(text.as_bytes(), &mut room).unwrap();
+        let steps = bytes.len() / STEP_BYTES;
+        let mut space = vec![7; work_space(steps)];
+        let raw = sys::check(&[number], bytes, &mut space);
+        assert_eq!(raw.largest_bits, expected.unwrap_or(0), "{}", text);
+        let answer = check(&[number], bytes, &mut space);
+        assert_eq!(answer.map(|accepted| accepted.largest_bits), expected, "{}", text);
+        let left: Vec<String> = records(&space, steps).map(|value| value.to_string()).collect();
+        assert_eq!(left.join(" "), values, "{}", text);
+        if let Ok(bits) = expected {
+            assert_eq!(largest_bits(&space, steps), bits, "{}", text);
+        }
+    }
+}
+
+/// 2^k on the way for every k that a value may have, then one less, so of fewer bits, and 2 at the end.
+#[test]
+fn largest_sizes_of_every_length() {
+    let step = |operation, j: usize, k: usize| {
+        let [j, k] = [j, k].map(|position| (position as u16).to_le_bytes());
+        [operation, j[0], j[1], k[0], k[1]]
+    };
+    let mut space = vec![7; work_space(PLAN_STEPS)];
+    for k in 1..8 * VALUE_BYTES {
+        let mut plan = doublings(k);
+        plan.extend(step(1, k, 0));
+        plan.extend(step(0, 0, 0));
+        let accepted = check(&[2], &plan, &mut space).unwrap();
+        assert_eq!(accepted.largest_bits, k + 1);
+        assert_eq!(accepted.counts.total(), k + 2);
+    }
+}
+
 #[test]
 fn the_steps_of_a_plan() {
     let mut room = [7; PLAN_ROOM];
@@ -664,7 +771,9 @@ fn the_steps_of_a_plan() {
         let plan = plan(&[0xb7; NUMBER_BYTES], method, &mut room).unwrap();
         assert_eq!(plan.steps().len(), plan.counts.total());
         let mut space = vec![7; work_space(plan.counts.total())];
-        assert_eq!(check(&[0xb7; NUMBER_BYTES], plan.bytes, &mut space), Ok(plan.counts));
+        let accepted = check(&[0xb7; NUMBER_BYTES], plan.bytes, &mut space).unwrap();
+        assert_eq!(accepted.counts, plan.counts);
+        assert_eq!(accepted.largest_bits, largest_bits(&space, plan.counts.total()));
         assert_eq!(counted(plan.steps(), &space), plan.counts);
         let bytes: Vec<u8> = plan.steps().flat_map(Step::to_bytes).collect();
         assert_eq!(bytes, plan.bytes);
@@ -846,6 +955,17 @@ fn counts_add_up() {
 }
 
 #[test]
+fn an_accepted_plan_as_text() {
+    for (largest_bits, text) in [
+        (1, "0 doublings, 0 additions, 0 subtractions; at most 1 bits"),
+        (392, "0 doublings, 0 additions, 0 subtractions; at most 392 bits"),
+    ] {
+        let counts = Counts::default();
+        assert_eq!(Accepted { counts, largest_bits }.to_string(), text);
+    }
+}
+
+#[test]
 fn a_work_space_never_overflows() {
     assert_eq!(work_space(0), RECORD_BYTES);
     assert_eq!(work_space(PLAN_STEPS), RECORD_BYTES * (PLAN_STEPS + 1));
@@ -947,6 +1067,15 @@ fn other_refusals() {
     let refusal = Counts::try_from(answer).unwrap_err();
     assert_eq!(refusal, Refusal::Other { number: 77, place: 5 });
     assert_eq!(refusal.to_string(), "refused 77, place 5: no such refusal");
+    let answer = sys::Accepted {
+        refusal: 77,
+        place: 5,
+        doublings: 0,
+        additions: 0,
+        subtractions: 0,
+        largest_bits: 0,
+    };
+    assert_eq!(Accepted::try_from(answer), Err(refusal));
 }
 
 #[test]

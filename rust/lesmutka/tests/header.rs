@@ -1,5 +1,5 @@
-//! The C header, this crate and the linked library say the same: limits, methods, refusals, words, version; and the
-//! rules say the same limits.
+//! The C header, this crate and the linked library say the same: limits, methods, refusals, words, version, the fields
+//! of answers; and the rules say the same limits.
 use lesmutka::{forecast, limits, sys, Method, Refusal};
 
 const HEADER: &str = include_str!("../../../include/lesmutka.h");
@@ -133,6 +133,41 @@ fn methods_agree() {
     for method in Method::ALL {
         assert_eq!(enumerator(&header_name(&format!("{:?}", method))), method.number());
     }
+}
+
+/// The fields of a struct of the header, in their order; all are size_t.
+fn fields(name: &str) -> Vec<&'static str> {
+    let body = HEADER.split(&format!("}} {};", name)).next().unwrap();
+    let (_, body) = body.rsplit_once("typedef struct {").expect(name);
+    let field = |line: &'static str| line.strip_prefix("    size_t ")?.strip_suffix(';');
+    let lines = body.lines().filter(|line| !line.is_empty());
+    lines.map(|line| field(line).expect(line)).collect()
+}
+
+/// Each struct has the header's fields in the header's order, and no others.
+#[test]
+fn fields_agree() {
+    fn agree<T: std::fmt::Debug>(name: &str, answer: T) {
+        let named = format!("{:?}", answer);
+        let (_, list) = named.split_once(" { ").expect(name);
+        let own: Vec<&str> = list.split(", ").map(|field| field.split(':').next().unwrap()).collect();
+        assert_eq!(own, fields(name));
+        assert_eq!(std::mem::size_of::<T>(), own.len() * std::mem::size_of::<usize>());
+    }
+    let (number, space) = ([2], &mut [7; lesmutka::work_space(1)]);
+    let mut recoder = sys::Recoder {
+        words: [7; lesmutka::NUMBER_BYTES / 8 + 1],
+    };
+    agree("lesmutka_started", sys::start(&number, &mut recoder));
+    agree("lesmutka_length", sys::recode(&number, space));
+    agree("lesmutka_value", sys::read_back(&[1], space));
+    agree("lesmutka_counts", sys::forecast(&number, 1, 0));
+    agree(
+        "lesmutka_accepted",
+        sys::check(&number, &[0; lesmutka::STEP_BYTES], space),
+    );
+    agree("lesmutka_parsed", sys::decimal(b"2", space));
+    agree("lesmutka_limits_t", sys::limits());
 }
 
 #[test]

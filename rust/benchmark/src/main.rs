@@ -217,12 +217,7 @@ fn agree(inputs: &Inputs, i: usize) {
         assert_eq!(Ok(counts(forecast)), reference::forecast(number, method, width));
     }
     let checked = sys::check(number, plan, &mut a);
-    let counts = reference::Counts {
-        doublings: checked.doublings,
-        additions: checked.additions,
-        subtractions: checked.subtractions,
-    };
-    assert_eq!(Ok(counts), reference::check(number, plan, &mut b));
+    assert_eq!(Ok(accepted(checked)), reference::check(number, plan, &mut b));
     assert_eq!(a, b);
 }
 
@@ -231,6 +226,17 @@ fn counts(counts: sys::Counts) -> reference::Counts {
         doublings: counts.doublings,
         additions: counts.additions,
         subtractions: counts.subtractions,
+    }
+}
+
+fn accepted(accepted: sys::Accepted) -> reference::Accepted {
+    reference::Accepted {
+        counts: reference::Counts {
+            doublings: accepted.doublings,
+            additions: accepted.additions,
+            subtractions: accepted.subtractions,
+        },
+        largest_bits: accepted.largest_bits,
     }
 }
 

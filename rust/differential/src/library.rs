@@ -2,7 +2,7 @@
 //! wrapper stands between but the pointers and lengths of slices.
 use lesmutka::sys;
 use reference::refusal::NOT_A_DIGIT;
-use reference::{Counts, Refusal};
+use reference::{Accepted, Counts, Refusal};
 
 fn refused(refusal: usize, place: usize, rest: &[usize]) -> Result<(), Refusal> {
     if refusal == 0 {
@@ -53,19 +53,23 @@ pub fn forecast(number: &[u8], method: u32, width: u32) -> Result<Counts, Refusa
     counts(sys::forecast(number, method, width))
 }
 
-pub fn check(number: &[u8], plan: &[u8], space: &mut [u8]) -> Result<Counts, Refusal> {
+pub fn check(number: &[u8], plan: &[u8], space: &mut [u8]) -> Result<Accepted, Refusal> {
     let answer = sys::check(number, plan, space);
-    let rest = [
-        answer.doublings,
-        answer.additions,
-        answer.subtractions,
-        answer.largest_bits,
-    ];
-    refused(answer.refusal, answer.place, &rest)?;
-    Ok(Counts {
+    let counts = Counts {
         doublings: answer.doublings,
         additions: answer.additions,
         subtractions: answer.subtractions,
+    };
+    let rest = [
+        counts.doublings,
+        counts.additions,
+        counts.subtractions,
+        answer.largest_bits,
+    ];
+    refused(answer.refusal, answer.place, &rest)?;
+    Ok(Accepted {
+        counts,
+        largest_bits: answer.largest_bits,
     })
 }
 

@@ -213,7 +213,8 @@ fn plan_one(rng: &mut Rng, tally: &mut Tally, number: &[u8], method: u32, width:
         if length <= room {
             let mut space = vec![0; lesmutka::work_space(counts.total())];
             let plan = &written.part()[..length];
-            if library::check(number.part(), plan, &mut space) != Ok(counts) {
+            let checked = library::check(number.part(), plan, &mut space);
+            if checked.map(|accepted| accepted.counts) != Ok(counts) {
                 differ("own plans", "check and forecast", &(number.part(), plan));
             }
         }

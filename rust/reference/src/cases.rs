@@ -65,8 +65,8 @@ fn answer(request: &str) -> String {
         }
         ("forecast", [method, width]) => fields(forecast(&input, decimal(method), decimal(width)).map(numbers)),
         ("check", [plan]) => {
-            let counts = check(&input, &bytes(plan), &mut out);
-            fields(counts.map(numbers)) + &buffer(&out)
+            let accepted = check(&input, &bytes(plan), &mut out);
+            fields(accepted.map(|accepted| numbers(accepted.counts))) + &buffer(&out)
         }
         ("hex", []) => {
             let read = text::hexadecimal(&input, &mut out);

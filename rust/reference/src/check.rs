@@ -6,7 +6,7 @@ use crate::limits::{work_space, PLAN_ROOM, RECORD_BYTES, STEP_BYTES, VALUE_BITS,
 use crate::number::Number;
 use crate::plan::{ADD, SUBTRACT};
 use crate::refusal::*;
-use crate::{words, Counts};
+use crate::{words, Accepted, Counts};
 
 /// The value at a position of the chain.
 #[derive(Clone, Copy)]
@@ -63,18 +63,14 @@ impl Value {
         let differing = pairs.fold(0, |bits, (a, b)| bits | (a ^ b));
         (self.negative == other.negative) & (differing == 0)
     }
-
-    /// Whether the size has more bits than a value may.
-    fn is_too_large(&self) -> bool {
-        self.size[VALUE_BITS / 64] >> (VALUE_BITS % 64) != 0
-    }
 }
 
-/// Checks that a plan is sound and ends at the number; answers its counts.
-/// The value at each position goes into its record in `space`.
+/// Checks that a plan is sound and ends at the number; answers its counts and
+/// the bits of its largest size. The value at each position goes into its record
+/// in `space`.
 ///
 /// Refusals in order: 1, 13, 2, 7, 8, then for each step 9, and 10 or 11, then 12.
-pub fn check(number: &[u8], plan: &[u8], space: &mut [u8]) -> Result<Counts, Refusal> {
+pub fn check(number: &[u8], plan: &[u8], space: &mut [u8]) -> Result<Accepted, Refusal> {
     let number = Number::read_nonzero(number)?;
     if plan.len() % STEP_BYTES != 0 || plan.len() > PLAN_ROOM {
         return Err(Refusal::new(PLAN_LENGTH, 0));
@@ -85,6 +81,8 @@ pub fn check(number: &[u8], plan: &[u8], space: &mut [u8]) -> Result<Counts, Ref
     }
 
     let mut counts = Counts::NONE;
+    // Position 0 holds 1.
+    let mut largest_bits = 1;
     Value::one().store(space, 0);
     for (step, i) in plan.chunks_exact(STEP_BYTES).zip(1..) {
         let operation = step[0];
@@ -100,12 +98,14 @@ pub fn check(number: &[u8], plan: &[u8], space: &mut [u8]) -> Result<Counts, Ref
             right.negative = !right.negative;
         }
         let value = left.plus(&right);
-        if words::is_zero(&value.size) {
+        let bits = words::bit_length(&value.size);
+        if bits == 0 {
             return Err(Refusal::new(VALUE_IS_ZERO, i));
         }
-        if value.is_too_large() {
+        if bits > VALUE_BITS {
             return Err(Refusal::new(VALUE_TOO_LARGE, i));
         }
+        largest_bits = largest_bits.max(bits);
         // Record i is filled only once step i is known to be sound.
         value.store(space, i);
 
@@ -123,5 +123,5 @@ pub fn check(number: &[u8], plan: &[u8], space: &mut [u8]) -> Result<Counts, Ref
     if end.negative || end.size != number.widened() {
         return Err(Refusal::new(WRONG_END, steps));
     }
-    Ok(counts)
+    Ok(Accepted { counts, largest_bits })
 }

@@ -45,6 +45,14 @@ impl Counts {
     }
 }
 
+/// What an accepted plan has: its counts, and the bit length of the largest size
+/// among the values at positions 0 to r, those below zero included.
+#[derive(Clone, Copy, PartialEq, Eq, Debug)]
+pub struct Accepted {
+    pub counts: Counts,
+    pub largest_bits: usize,
+}
+
 /// Refusal 6 if `out` has fewer than `needed` bytes, otherwise the first
 /// `needed` bytes of it, the only ones a success may change.
 pub(crate) fn output(out: &mut [u8], needed: usize) -> Result<&mut [u8], Refusal> {

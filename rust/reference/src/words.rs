@@ -3,19 +3,17 @@
 use std::cmp::Ordering;
 
 /// The number of bits up to the top one; 0 for zero.
-pub(crate) fn bit_length(words: &[u64]) -> usize {
-    match words.iter().rposition(|&word| word != 0) {
-        Some(top) => 64 * top + 64 - words[top].leading_zeros() as usize,
-        None => 0,
+pub(crate) fn bit_length<const N: usize>(words: &[u64; N]) -> usize {
+    for i in (0..N).rev() {
+        if words[i] != 0 {
+            return 64 * i + 64 - words[i].leading_zeros() as usize;
+        }
     }
+    0
 }
 
 pub(crate) fn count_ones(words: &[u64]) -> usize {
     words.iter().map(|word| word.count_ones() as usize).sum()
-}
-
-pub(crate) fn is_zero(words: &[u64]) -> bool {
-    words.iter().all(|&word| word == 0)
 }
 
 pub(crate) fn compare<const N: usize>(a: &[u64; N], b: &[u64; N]) -> Ordering {

@@ -52,6 +52,10 @@ fn counts(doublings: usize, additions: usize, subtractions: usize) -> Counts {
     }
 }
 
+fn accepted(counts: Counts, largest_bits: usize) -> Result<Accepted, Refusal> {
+    Ok(Accepted { counts, largest_bits })
+}
+
 fn values(number: &[u8], steps: &[u8]) -> Vec<i64> {
     let mut space = vec![0; work_space(steps.len() / STEP_BYTES)];
     check(number, steps, &mut space).unwrap();
@@ -236,7 +240,7 @@ fn reading_back_zero() {
 fn empty_plan() {
     let mut space = [7; RECORD_BYTES + 1];
     assert_eq!(check(&[2], &[], &mut space), Err(refusal(WRONG_END, 0)));
-    assert_eq!(check(&[1], &[], &mut space), Ok(counts(0, 0, 0)));
+    assert_eq!(check(&[1], &[], &mut space), accepted(counts(0, 0, 0), 1));
     assert_eq!(space[..2], [0, 1]);
     assert!(space[2..RECORD_BYTES].iter().all(|&byte| byte == 0));
     assert_eq!(space[RECORD_BYTES], 7);
@@ -250,7 +254,8 @@ fn empty_plan() {
 fn values_below_zero() {
     let steps = [step(0, 0, 0), step(1, 0, 1), step(1, 1, 2)].concat();
     assert_eq!(values(&[3], &steps), [1, 2, -1, 3]);
-    assert_eq!(check(&[3], &steps, &mut [0; work_space(3)]), Ok(counts(1, 0, 2)));
+    let answer = check(&[3], &steps, &mut [0; work_space(3)]);
+    assert_eq!(answer, accepted(counts(1, 0, 2), 2));
 }
 
 /// Values decide, not positions: doublings at two positions, and steps near them that are none.
@@ -303,7 +308,8 @@ fn equal_and_opposite_values() {
         let steps = steps.concat();
         assert_eq!(values(&number, &steps), chain);
         let mut space = vec![7; work_space(chain.len() - 1) + 9];
-        assert_eq!(check(&number, &steps, &mut space), Ok(expected), "{:?}", chain);
+        let answer = check(&number, &steps, &mut space);
+        assert_eq!(answer.map(|accepted| accepted.counts), Ok(expected), "{:?}", chain);
         assert_eq!(space[work_space(chain.len() - 1)..], [7; 9]);
         assert_eq!(hidden_doublings(&steps, &space), hidden, "{:?}", chain);
     }
@@ -345,6 +351,100 @@ fn largest_values() {
     assert_eq!(check(&[2], sound, &mut space), Err(refusal(WRONG_END, VALUE_BITS - 1)));
 }
 
+/// The largest size counts, wherever it stands and whatever its sign is; not the number, nor the last value.
+#[test]
+fn largest_size() {
+    let (add, subtract) = (|j, k| step(0, j, k), |j, k| step(1, j, k));
+    for (steps, chain, bits) in [
+        (vec![], vec![1], 1),
+        (vec![add(0, 0)], vec![1, 2], 2),
+        (vec![add(0, 0), subtract(1, 0)], vec![1, 2, 1], 2),
+        // The last is the largest.
+        (
+            vec![add(0, 0), add(1, 1), add(2, 2), add(3, 2)],
+            vec![1, 2, 4, 8, 12],
+            4,
+        ),
+        // 7, of 3 bits, by NAF.
+        (
+            vec![add(0, 0), add(1, 1), add(2, 2), subtract(3, 0)],
+            vec![1, 2, 4, 8, 7],
+            4,
+        ),
+        // The largest in the middle, and a small end.
+        (
+            vec![add(0, 0), add(1, 1), add(2, 2), add(3, 3), subtract(4, 0), add(1, 0)],
+            vec![1, 2, 4, 8, 16, 15, 3],
+            5,
+        ),
+        // Largest below zero.
+        (
+            vec![add(0, 0), subtract(0, 1), subtract(2, 1), add(3, 3), add(1, 2)],
+            vec![1, 2, -1, -3, -6, 1],
+            3,
+        ),
+        // Then a value above zero of as many bits, and of more.
+        (
+            vec![
+                add(0, 0),
+                subtract(0, 1),
+                subtract(2, 1),
+                add(3, 3),
+                subtract(0, 4),
+                add(5, 0),
+            ],
+            vec![1, 2, -1, -3, -6, 7, 8],
+            4,
+        ),
+    ] {
+        let number = [*chain.last().unwrap() as u8];
+        let steps = steps.concat();
+        assert_eq!(values(&number, &steps), chain);
+        let mut space = vec![7; work_space(chain.len() - 1)];
+        let answer = check(&number, &steps, &mut space);
+        assert_eq!(answer.map(|accepted| accepted.largest_bits), Ok(bits), "{:?}", chain);
+    }
+    assert_eq!(
+        planned(&[7], 4, 0),
+        [add(0, 0), add(1, 1), add(2, 2), subtract(3, 0)].concat()
+    );
+}
+
+/// As many bits as a value may have, and back to a number.
+#[test]
+fn largest_size_at_the_limit() {
+    const TOP: u16 = VALUE_BITS as u16 - 1;
+    const HIGHEST: u16 = NUMBER_BITS as u16 - 1;
+    let doublings = |to: u16| (0..to).flat_map(|i| step(0, i, i)).collect::<Vec<u8>>();
+    let mut space = vec![7; work_space(PLAN_STEPS)];
+    let mut bits = |number: &[u8], steps: &[Vec<u8>]| {
+        let answer = check(number, &steps.concat(), &mut space);
+        answer.map(|accepted| accepted.largest_bits)
+    };
+    // 2^TOP, which is no number.
+    let wrong_end = Err(refusal(WRONG_END, VALUE_BITS - 1));
+    assert_eq!(bits(&[2], &[doublings(TOP)]), wrong_end);
+    // Less 2^(TOP - 1), less 2^(TOP - 2) and so on: the highest power of two that is one.
+    let mut down = vec![doublings(TOP)];
+    for (latest, place) in (TOP..).zip((HIGHEST..TOP).rev()) {
+        down.push(step(1, latest, place));
+    }
+    let mut number = [0; NUMBER_BYTES];
+    number[NUMBER_BYTES - 1] = 0x80;
+    assert_eq!(bits(&number, &down), Ok(VALUE_BITS));
+    assert_eq!(bits(&number, &[doublings(HIGHEST)]), Ok(NUMBER_BITS));
+    // All ones, above zero and below, then 2; the same with one bit less.
+    for (top, expected) in [(TOP, VALUE_BITS), (TOP - 1, VALUE_BITS - 1)] {
+        for ones in [
+            [step(1, top, 0), step(0, top, top + 1)],
+            [step(1, 0, top), step(1, top + 1, top)],
+        ] {
+            let steps = [doublings(top), ones.concat(), step(0, 0, 0)];
+            assert_eq!(bits(&[2], &steps), Ok(expected));
+        }
+    }
+}
+
 #[test]
 fn longest_plan() {
     let steps = step(0, 0, 0).repeat(PLAN_STEPS + 1);
@@ -352,7 +452,7 @@ fn longest_plan() {
     assert_eq!(check(&[2], &steps, &mut space), Err(refusal(PLAN_LENGTH, 0)));
     assert_eq!(
         check(&[2], &steps[..PLAN_ROOM], &mut space),
-        Ok(counts(PLAN_STEPS, 0, 0))
+        accepted(counts(PLAN_STEPS, 0, 0), 2)
     );
     assert_eq!(
         check(&[2], &steps[..PLAN_ROOM - 1], &mut []),

@@ -277,12 +277,16 @@ fn values_one_bit_apart() {
         // The largest cannot be doubled.
         let hidden = if place < VALUE_BITS - 1 { [2, 2] } else { [0, 0] };
         assert_eq!(hidden_doublings(&plan, &space), hidden, "{}", place);
-        let counts = Counts {
-            doublings: VALUE_BITS + hidden[0] + hidden[1],
-            additions: 5,
-            subtractions: 8,
+        let accepted = Accepted {
+            counts: Counts {
+                doublings: VALUE_BITS + hidden[0] + hidden[1],
+                additions: 5,
+                subtractions: 8,
+            },
+            // Of 2^TOP, or of what is added to it.
+            largest_bits: VALUE_BITS,
         };
-        assert_eq!(result, Ok(counts), "{}", place);
+        assert_eq!(result, Ok(accepted), "{}", place);
     }
 }
 

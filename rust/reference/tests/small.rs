@@ -128,8 +128,12 @@ fn plans_end_at_the_number() {
             assert_eq!(values.last(), Some(&number));
             assert_eq!(counted, [counts.doublings, counts.additions, counts.subtractions]);
 
+            let largest = values.iter().map(|value| value.unsigned_abs()).max().unwrap();
+            let largest_bits = 128 - largest.leading_zeros() as usize;
+
             let mut space = vec![0; work_space(values.len() - 1)];
-            assert_eq!(check(&bytes, steps, &mut space), Ok(counts));
+            let accepted = Accepted { counts, largest_bits };
+            assert_eq!(check(&bytes, steps, &mut space), Ok(accepted));
             for (record, value) in space.chunks(RECORD_BYTES).zip(&values) {
                 assert_eq!(record[0], u8::from(*value < 0));
                 assert_eq!(record[1..17], value.unsigned_abs().to_le_bytes());
@@ -158,7 +162,8 @@ fn own_plans_have_no_hidden_doublings() {
             };
             let steps = &out[..STEP_BYTES * counts.total()];
             let mut space = vec![0; work_space(counts.total())];
-            assert_eq!(check(&number, steps, &mut space), Ok(counts));
+            let accepted = check(&number, steps, &mut space);
+            assert_eq!(accepted.map(|accepted| accepted.counts), Ok(counts));
             let doubled = |step: &&[u8]| step[0] == 0 && step[1..3] == step[3..5];
             assert_eq!(steps.chunks(STEP_BYTES).filter(doubled).count(), counts.doublings);
             assert_eq!(
@@ -173,6 +178,48 @@ fn own_plans_have_no_hidden_doublings() {
         }
     }
     assert!(long > 500);
+}
+
+/// The largest size in the plan of a method has as many bits as the number, with two exceptions: by
+/// sliding windows, an even number of fewer bits than the width gets the whole table, which ends at
+/// 2^width - 1; by NAF, 2^L - 1 with L of 2 or more is 2^L less 1.
+#[test]
+fn largest_bits_of_own_plans() {
+    let mut generator = Generator::new(11);
+    let mut numbers: Vec<Vec<u8>> = (1..1 << 12).map(spelled).collect();
+    // 2^L - 1 for each L.
+    let ones = (1..=NUMBER_BITS).map(|bits| [vec![0xFF; (bits - 1) / 8], vec![0xFF >> ((8 - bits % 8) % 8)]].concat());
+    numbers.extend(ones);
+    numbers.extend((0..500).map(|_| generator.number()));
+    let mut seen = [0; 3];
+    for number in numbers {
+        for (method, width) in methods() {
+            let mut out = [0; PLAN_ROOM];
+            let counts = match plan(&number, method, width, &mut out) {
+                Ok(counts) => counts,
+                Err(_) => continue,
+            };
+            let top = number[number.len() - 1];
+            let bits = 8 * number.len() - top.leading_zeros() as usize;
+            let is_ones = number.iter().map(|byte| byte.count_ones() as usize).sum::<usize>() == bits;
+            let (kind, expected) = match (method, width as usize) {
+                (3, width) if number[0] % 2 == 0 && bits < width => (1, width),
+                (4, _) if is_ones && bits > 1 => (2, bits + 1),
+                _ => (0, bits),
+            };
+            let steps = &out[..STEP_BYTES * counts.total()];
+            let accepted = check(&number, steps, &mut vec![0; work_space(counts.total())]);
+            let largest_bits = accepted.map(|accepted| accepted.largest_bits);
+            assert_eq!(largest_bits, Ok(expected), "{:x?} by {} {}", number, method, width);
+            seen[kind] += 1;
+        }
+    }
+    // The even numbers of fewer bits than each width, and each L.
+    let even: usize = WINDOW_WIDTHS
+        .map(|width| (1 << width) / 4)
+        .map(|all: usize| all.saturating_sub(1))
+        .sum();
+    assert!(seen[1] >= even && seen[2] >= NUMBER_BITS - 1, "{:?}", seen);
 }
 
 /// Propositions 4, 5, 7 and 8 of Bosma, "Signed bits and fast exponentiation": the tables.

@@ -302,7 +302,7 @@ pub fn expected(words: &[&str], files: &mut HashMap<String, Vec<u8>>) -> String 
             let number = number(words[1]);
             let mut space = vec![0; work_space(PLAN_STEPS)];
             let answer = match check(&number, &files[words[2]], &mut space) {
-                Ok(counts) => format!("accepted: {}", counted(counts)),
+                Ok(accepted) => format!("accepted: {}", counted(accepted.counts)),
                 Err(refusal) => refused(refusal, &number, None),
             };
             format!("{}: {}", shown(&number), answer)

@@ -6,7 +6,7 @@
 
 use reference::limits::*;
 use reference::refusal::*;
-use reference::Counts;
+use reference::{Accepted, Counts};
 use std::cmp::Ordering;
 
 pub fn refusal(number: u8, place: usize) -> Refusal {
@@ -382,7 +382,13 @@ fn put_record(space: &mut [u8], position: usize, value: &Big) {
     record[1..1 + value.size.len()].copy_from_slice(&value.size);
 }
 
-pub fn check(number: &[u8], plan: &[u8], space: &mut [u8]) -> Result<Counts, Refusal> {
+/// The bits of the largest size, which is looked for first.
+fn largest_bits(values: &[Big]) -> usize {
+    let largest = values.iter().max_by(|a, b| a.compare_size(b)).unwrap();
+    largest.bits().len()
+}
+
+pub fn check(number: &[u8], plan: &[u8], space: &mut [u8]) -> Result<Accepted, Refusal> {
     let number = read_nonzero(number)?;
     if plan.len() % STEP_BYTES != 0 || plan.len() > PLAN_ROOM {
         return Err(refusal(PLAN_LENGTH, 0));
@@ -415,5 +421,8 @@ pub fn check(number: &[u8], plan: &[u8], space: &mut [u8]) -> Result<Counts, Ref
     if values[r] != number {
         return Err(refusal(WRONG_END, r));
     }
-    Ok(counts_of(&steps))
+    Ok(Accepted {
+        counts: counts_of(&steps),
+        largest_bits: largest_bits(&values),
+    })
 }

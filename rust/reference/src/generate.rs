@@ -495,7 +495,7 @@ impl Generator {
     fn number_and_plan(&mut self) -> (Vec<u8>, Vec<u8>) {
         let number = self.nonzero_number();
         let mut steps = self.own_plan(&number);
-        match self.rng.below(26) {
+        match self.rng.below(27) {
             0..=2 => {}
             3 => {
                 // One byte changed.
@@ -594,6 +594,7 @@ impl Generator {
             kind => {
                 let first = match kind {
                     21 | 22 => self.near_plan(),
+                    23 => self.largest_plan(),
                     _ => self.border_plan(),
                 };
                 if self.rng.one_in(2) {
@@ -766,6 +767,18 @@ impl Generator {
         steps
     }
 
+    /// A largest size of any number of bits, mostly around a border between two
+    /// bytes or words, on either side of zero.
+    fn largest_plan(&mut self) -> Vec<u8> {
+        let border = match self.rng.below(3) {
+            0 => 64 * self.rng.between(1, VALUE_BITS / 64),
+            1 => 8 * self.rng.between(1, VALUE_BITS / 8),
+            _ => self.rng.between(4, VALUE_BITS),
+        };
+        let bits = self.rng.between(border - 1, border + 1).min(VALUE_BITS);
+        largest_of(bits, self.rng.one_in(2), self.rng.one_in(2))
+    }
+
     /// Values around B, the limit of a size, below it or at it, on either side
     /// of zero.
     fn border_plan(&mut self) -> Vec<u8> {
@@ -921,6 +934,46 @@ pub fn one_bit_apart(place: usize) -> Vec<u8> {
     }
     push(&mut steps, 0, 0, 0);
     steps
+}
+
+/// A plan for 2 whose largest size has this many bits, from 3 up: a power of two
+/// or all ones. If it is below zero, no value above zero has as many bits.
+pub fn largest_of(bits: usize, is_ones: bool, is_below_zero: bool) -> Vec<u8> {
+    let mut steps = Vec::new();
+    // Position i holds 2^i.
+    for i in 0..bits - 2 {
+        push(&mut steps, 0, i, i);
+    }
+    let mut half = bits - 2;
+    if is_below_zero {
+        // 1 - 2^half, then -2^half.
+        push(&mut steps, 1, 0, half);
+        push(&mut steps, 1, half + 1, 0);
+        half += 2;
+    }
+    push(&mut steps, 0, half, half);
+    if is_ones {
+        // One nearer to zero, and both together.
+        push(&mut steps, u8::from(!is_below_zero), half + 1, 0);
+        push(&mut steps, 0, half + 1, half + 2);
+    }
+    push(&mut steps, 0, 0, 0);
+    steps
+}
+
+/// The bits of the largest size above zero and of the largest below zero, 0 if
+/// there is none, by the records that the check of a plan left.
+pub fn largest_bits(plan: &[u8], space: &[u8]) -> [usize; 2] {
+    let mut largest = [0; 2];
+    for record in space.chunks_exact(RECORD_BYTES).take(plan.len() / STEP_BYTES + 1) {
+        let size = trimmed(&record[1..]);
+        let bits = size
+            .last()
+            .map_or(0, |top| 8 * size.len() - top.leading_zeros() as usize);
+        let sign = usize::from(record[0]);
+        largest[sign] = largest[sign].max(bits);
+    }
+    largest
 }
 
 /// The number without its high zero bytes.

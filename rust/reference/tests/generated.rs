@@ -4,7 +4,7 @@
 
 mod common;
 
-use reference::generate::{hidden_doublings, methods, one_bit_apart, trimmed, Generator};
+use reference::generate::{hidden_doublings, largest_bits, largest_of, methods, one_bit_apart, trimmed, Generator};
 use reference::limits::*;
 use reference::refusal::{HIGHEST_BYTE_IS_ZERO, LAST, WRONG_END};
 use reference::*;
@@ -224,6 +224,8 @@ fn check_cases() {
     let (mut full, mut empty, mut below_zero, mut minus, mut large) = (0, 0, 0, 0, 0);
     // Accepted plans with hidden doublings, in both ways.
     let mut hidden = [0; 2];
+    // Accepted plans whose largest size has more bits than the number, and than any size above zero.
+    let mut largest = [0; 2];
     for _ in 0..CASES {
         let case = generator.check_case();
         let mut expected_space = generator.rng().bytes(case.room);
@@ -239,7 +241,13 @@ fn check_cases() {
         let steps = case.plan.len() / STEP_BYTES;
         let mut records = space.chunks(RECORD_BYTES).take(steps + 1);
         match result {
-            Ok(_) => {
+            Ok(accepted) => {
+                let [above, below] = largest_bits(&case.plan, &space);
+                assert_eq!(accepted.largest_bits, above.max(below), "{:?}", case);
+                let bits = common::Big::from_bytes(&case.number).bits().len();
+                assert!((bits..=VALUE_BITS).contains(&accepted.largest_bits), "{:?}", case);
+                largest[0] += usize::from(accepted.largest_bits > bits);
+                largest[1] += usize::from(below > above);
                 full += usize::from(steps == PLAN_STEPS);
                 empty += usize::from(steps == 0);
                 below_zero += usize::from(records.clone().any(|record| record[0] == 1));
@@ -259,9 +267,10 @@ fn check_cases() {
     }
     tally.assert_all(&[0, 1, 2, 7, 8, 9, 10, 11, 12, 13]);
     tally.assert_without(&[2, 7, 8, 9, 10, 11, 12]);
-    println!("{:?}", (full, empty, below_zero, minus, large, hidden));
+    println!("{:?}", (full, empty, below_zero, minus, large, hidden, largest));
     assert!(full > 100 && empty > 100 && below_zero > 100 && minus > 100 && large > 100);
     assert!(hidden[0] > 500 && hidden[1] > 500);
+    assert!(largest[0] > 500 && largest[1] > 300);
 }
 
 /// Values that differ in one bit are not equal, whichever bit it is.
@@ -287,6 +296,25 @@ fn values_one_bit_apart() {
             largest_bits: VALUE_BITS,
         };
         assert_eq!(result, Ok(accepted), "{}", place);
+    }
+}
+
+/// Every number of bits that a size may have, from the smallest such size to the largest, on either side of zero.
+#[test]
+fn largest_sizes() {
+    for bits in 3..=VALUE_BITS {
+        for (is_ones, is_below_zero) in [(false, false), (true, false), (false, true), (true, true)] {
+            let plan = largest_of(bits, is_ones, is_below_zero);
+            let mut space = vec![0; work_space(plan.len() / STEP_BYTES)];
+            let mut expected_space = space.clone();
+            let result = check(&[2], &plan, &mut space);
+            assert_eq!(result, common::check(&[2], &plan, &mut expected_space), "{}", bits);
+            assert!(space == expected_space, "{}", bits);
+            assert_eq!(result.map(|accepted| accepted.largest_bits), Ok(bits));
+            let [above, below] = largest_bits(&plan, &space);
+            let expected = if is_below_zero { [bits - 1, bits] } else { [bits, 0] };
+            assert_eq!([above, below], expected, "{}", bits);
+        }
     }
 }
 

@@ -6,7 +6,9 @@ mod memory;
 
 use lesmutka::sys;
 use memory::Lent;
-use reference::generate::{hidden_doublings, methods, one_bit_apart, trimmed, Generator, Rng};
+use reference::generate::{
+    hidden_doublings, largest_bits, largest_of, methods, one_bit_apart, trimmed, Generator, Rng,
+};
 use reference::refusal::{HIGHEST_BYTE_IS_ZERO, LAST, MALFORMED_STEP, WRONG_END};
 use reference::{limits, Refusal};
 use std::fmt::Debug;
@@ -25,6 +27,9 @@ struct Tally {
     /// Doublings at two positions in plans that were accepted: of equal values added, of opposite ones
     /// subtracted.
     hidden: [usize; 2],
+    /// Plans that were accepted whose largest size has more bits than the number, and than any size above
+    /// zero.
+    largest: [usize; 2],
 }
 
 impl Tally {
@@ -34,6 +39,7 @@ impl Tally {
             answered: 0,
             refused: [0; LAST + 1],
             hidden: [0; 2],
+            largest: [0; 2],
         }
     }
 
@@ -84,6 +90,16 @@ fn print_hidden(hidden: [usize; 2]) {
         hidden[0], hidden[1]
     );
     assert!(hidden.iter().all(|&steps| steps > 0), "no hidden doublings");
+}
+
+/// Prints how many largest sizes were neither the number's nor above zero. Without both kinds, the bits that
+/// a check answers were not tested.
+fn print_largest(largest: [usize; 2]) {
+    println!(
+        "largest sizes in accepted plans: {} of more bits than the number, {} below zero",
+        largest[0], largest[1]
+    );
+    assert!(largest.iter().all(|&plans| plans > 0), "no such largest sizes");
 }
 
 /// Says what differed, and ends.
@@ -197,7 +213,7 @@ fn read_back(cases: &mut Generator, rng: &mut Rng) -> Tally {
 }
 
 /// A plan that is written goes through the library's own check, which accepts it with the counts of
-/// the forecast.
+/// the forecast, and with the bits that the reference answers.
 fn plan_one(rng: &mut Rng, tally: &mut Tally, number: &[u8], method: u32, width: u32, room: usize) {
     let number = Lent::holding(rng, number);
     let lent = Lent::noise(rng, room);
@@ -216,6 +232,9 @@ fn plan_one(rng: &mut Rng, tally: &mut Tally, number: &[u8], method: u32, width:
             let checked = library::check(number.part(), plan, &mut space);
             if checked.map(|accepted| accepted.counts) != Ok(counts) {
                 differ("own plans", "check and forecast", &(number.part(), plan));
+            }
+            if checked != reference::check(number.part(), plan, &mut space) {
+                differ("own plans", "answers of check", &(number.part(), plan));
             }
         }
     }
@@ -293,6 +312,11 @@ fn check_one(rng: &mut Rng, tally: &mut Tally, number: &[u8], plan: &[u8], room:
     if tally.answered > answered {
         let hidden = hidden_doublings(plan.part(), left.part());
         tally.hidden = [tally.hidden[0] + hidden[0], tally.hidden[1] + hidden[1]];
+        let top = number.part().last().map_or(0, |top| top.leading_zeros() as usize);
+        let bits = 8 * number.part().len() - top;
+        let [above, below] = largest_bits(plan.part(), left.part());
+        tally.largest[0] += usize::from(above.max(below) > bits);
+        tally.largest[1] += usize::from(below > above);
     }
 }
 
@@ -307,6 +331,13 @@ fn check(cases: &mut Generator, rng: &mut Rng) -> Tally {
         let plan = one_bit_apart(place);
         let room = lesmutka::work_space(plan.len() / lesmutka::STEP_BYTES);
         check_one(rng, &mut tally, &[2], &plan, room);
+    }
+    for bits in 3..=limits::VALUE_BITS {
+        for (is_ones, is_below_zero) in [(false, false), (true, false), (false, true), (true, true)] {
+            let plan = largest_of(bits, is_ones, is_below_zero);
+            let room = lesmutka::work_space(plan.len() / lesmutka::STEP_BYTES);
+            check_one(rng, &mut tally, &[2], &plan, room);
+        }
     }
     for number in padded() {
         // The plan of the number without these bytes, if there is one; part of a step; no step at all.
@@ -640,6 +671,7 @@ fn main() {
     let checks = check(cases, rng);
     checks.print(&[1, 2, 7, 8, 9, 10, 11, 12, 13]);
     print_hidden(checks.hidden);
+    print_largest(checks.largest);
     hexadecimal(rng).print(&[4]);
     decimal(rng).print(&[4]);
     read_digits(rng).print(&[6]);

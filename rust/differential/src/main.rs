@@ -7,7 +7,7 @@ mod memory;
 use lesmutka::sys;
 use memory::Lent;
 use reference::generate::{
-    hidden_doublings, largest_bits, largest_of, methods, one_bit_apart, trimmed, Generator, Rng,
+    bit_length, hidden_doublings, largest_bits, largest_of, methods, one_bit_apart, trimmed, Generator, Rng,
 };
 use reference::refusal::{HIGHEST_BYTE_IS_ZERO, LAST, MALFORMED_STEP, WRONG_END};
 use reference::{limits, Refusal};
@@ -27,8 +27,8 @@ struct Tally {
     /// Doublings at two positions in plans that were accepted: of equal values added, of opposite ones
     /// subtracted.
     hidden: [usize; 2],
-    /// Plans that were accepted whose largest size has more bits than the number, and than any size above
-    /// zero.
+    /// Plans that were accepted: those whose largest size has more bits than the number, and those in which
+    /// one below zero has more bits than all above.
     largest: [usize; 2],
 }
 
@@ -92,8 +92,8 @@ fn print_hidden(hidden: [usize; 2]) {
     assert!(hidden.iter().all(|&steps| steps > 0), "no hidden doublings");
 }
 
-/// Prints how many largest sizes were neither the number's nor above zero. Without both kinds, the bits that
-/// a check answers were not tested.
+/// Prints how often the largest size had more bits than the number, and how often it was below zero. Without
+/// both kinds, the bits that a check answers were not tested.
 fn print_largest(largest: [usize; 2]) {
     println!(
         "largest sizes in accepted plans: {} of more bits than the number, {} below zero",
@@ -312,10 +312,8 @@ fn check_one(rng: &mut Rng, tally: &mut Tally, number: &[u8], plan: &[u8], room:
     if tally.answered > answered {
         let hidden = hidden_doublings(plan.part(), left.part());
         tally.hidden = [tally.hidden[0] + hidden[0], tally.hidden[1] + hidden[1]];
-        let top = number.part().last().map_or(0, |top| top.leading_zeros() as usize);
-        let bits = 8 * number.part().len() - top;
         let [above, below] = largest_bits(plan.part(), left.part());
-        tally.largest[0] += usize::from(above.max(below) > bits);
+        tally.largest[0] += usize::from(above.max(below) > bit_length(number.part()));
         tally.largest[1] += usize::from(below > above);
     }
 }

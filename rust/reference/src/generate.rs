@@ -966,12 +966,8 @@ pub fn largest_of(bits: usize, is_ones: bool, is_below_zero: bool) -> Vec<u8> {
 pub fn largest_bits(plan: &[u8], space: &[u8]) -> [usize; 2] {
     let mut largest = [0; 2];
     for record in space.chunks_exact(RECORD_BYTES).take(plan.len() / STEP_BYTES + 1) {
-        let size = trimmed(&record[1..]);
-        let bits = size
-            .last()
-            .map_or(0, |top| 8 * size.len() - top.leading_zeros() as usize);
         let sign = usize::from(record[0]);
-        largest[sign] = largest[sign].max(bits);
+        largest[sign] = largest[sign].max(bit_length(&record[1..]));
     }
     largest
 }
@@ -980,6 +976,13 @@ pub fn largest_bits(plan: &[u8], space: &[u8]) -> [usize; 2] {
 pub fn trimmed(number: &[u8]) -> &[u8] {
     let length = number.iter().rposition(|&byte| byte != 0).map_or(0, |top| top + 1);
     &number[..length]
+}
+
+pub fn bit_length(number: &[u8]) -> usize {
+    match trimmed(number) {
+        [] => 0,
+        [below @ .., top] => 8 * below.len() + 8 - top.leading_zeros() as usize,
+    }
 }
 
 fn power_of_two(place: usize) -> Vec<u8> {

@@ -224,7 +224,8 @@ fn check_cases() {
     let (mut full, mut empty, mut below_zero, mut minus, mut large) = (0, 0, 0, 0, 0);
     // Accepted plans with hidden doublings, in both ways.
     let mut hidden = [0; 2];
-    // Accepted plans whose largest size has more bits than the number, and than any size above zero.
+    // Accepted plans whose largest size has more bits than the number, and those in which one below zero has
+    // more bits than all above.
     let mut largest = [0; 2];
     for _ in 0..CASES {
         let case = generator.check_case();

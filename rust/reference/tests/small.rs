@@ -1,7 +1,7 @@
 //! Small numbers against plain integers and brute force, and the totals
 //! that Bosma, "Signed bits and fast exponentiation", publishes.
 
-use reference::generate::{hidden_doublings, methods, Generator};
+use reference::generate::{bit_length, hidden_doublings, methods, Generator};
 use reference::limits::*;
 use reference::refusal::HIGHEST_BYTE_IS_ZERO;
 use reference::*;
@@ -199,8 +199,7 @@ fn largest_bits_of_own_plans() {
                 Ok(counts) => counts,
                 Err(_) => continue,
             };
-            let top = number[number.len() - 1];
-            let bits = 8 * number.len() - top.leading_zeros() as usize;
+            let bits = bit_length(&number);
             let is_ones = number.iter().map(|byte| byte.count_ones() as usize).sum::<usize>() == bits;
             let (kind, expected) = match (method, width as usize) {
                 (3, width) if number[0] % 2 == 0 && bits < width => (1, width),

@@ -8,10 +8,10 @@
 //!
 //! writes the two files again.
 
-use crate::generate::methods;
+use crate::generate::{largest_of, methods};
 use crate::limits::*;
 use crate::refusal::{Refusal, LAST};
-use crate::{check, clean, forecast, plan, read_back, recode, text, Counts, Recoder};
+use crate::{check, clean, forecast, plan, read_back, recode, text, Accepted, Counts, Recoder};
 
 /// What the program fills a buffer with before it lends it.
 const FILL: u8 = 0xA5;
@@ -66,7 +66,7 @@ fn answer(request: &str) -> String {
         ("forecast", [method, width]) => fields(forecast(&input, decimal(method), decimal(width)).map(numbers)),
         ("check", [plan]) => {
             let accepted = check(&input, &bytes(plan), &mut out);
-            fields(accepted.map(|accepted| numbers(accepted.counts))) + &buffer(&out)
+            fields(accepted.map(numbers_and_bits)) + &buffer(&out)
         }
         ("hex", []) => {
             let read = text::hexadecimal(&input, &mut out);
@@ -123,6 +123,11 @@ fn fields<const N: usize>(answer: Result<[usize; N], Refusal>) -> String {
 
 fn numbers(counts: Counts) -> [usize; 3] {
     [counts.doublings, counts.additions, counts.subtractions]
+}
+
+fn numbers_and_bits(accepted: Accepted) -> [usize; 4] {
+    let [doublings, additions, subtractions] = numbers(accepted.counts);
+    [doublings, additions, subtractions, accepted.largest_bits]
 }
 
 /// The bytes up to the last one that is not the fill, and how many stand above it.
@@ -201,6 +206,19 @@ fn ones(k: usize) -> Vec<u8> {
     if k % 8 > 0 {
         number.push((1 << (k % 8)) - 1);
     }
+    number
+}
+
+/// 2^k.
+fn power_of_two(k: usize) -> Vec<u8> {
+    let mut number = vec![0; k / 8];
+    number.push(1 << (k % 8));
+    number
+}
+
+/// An odd number less 1.
+fn less_one(mut number: Vec<u8>) -> Vec<u8> {
+    number[0] -= 1;
     number
 }
 
@@ -622,6 +640,7 @@ impl Requests {
         }
         self.accepted(&long(), 4, 0);
         self.hidden_doublings();
+        self.largest_sizes();
         self.title("The longest plan and a step more; part of a step");
         self.check(work_space(PLAN_STEPS + 1), &small(2), &[0; PLAN_ROOM]);
         self.check(work_space(PLAN_STEPS + 1), &small(2), &[0; PLAN_ROOM + STEP_BYTES]);
@@ -731,6 +750,82 @@ impl Requests {
         self.check(room, &small(1), &[doublings(top), opposite].concat());
     }
 
+    fn largest_sizes(&mut self) {
+        self.title(LARGEST);
+        let below = [add(0, 0), subtract(0, 1), subtract(2, 1), add(3, 3)].concat();
+        for (number, steps) in [
+            (1, vec![]),
+            (2, vec![add(0, 0)]),
+            (1, vec![add(0, 0), subtract(1, 0)]),
+            // At the end: 12.
+            (12, vec![doublings(3), add(3, 2)]),
+            // On the way: 16, then 15 and 3.
+            (3, vec![doublings(4), subtract(4, 0), add(1, 0)]),
+            // Below zero: -6, then 1, or 7 and 8.
+            (1, vec![below.clone(), add(1, 2)]),
+            (8, vec![below, subtract(0, 4), add(5, 0)]),
+        ] {
+            let steps = steps.concat();
+            self.check(work_space(steps.len() / STEP_BYTES), &small(number), &steps);
+        }
+
+        self.title(LARGEST_NAF);
+        for k in [2, 8, 64] {
+            for number in [ones(k), less_one(ones(k)), power_of_two(k)] {
+                self.accepted(&number, 4, 0);
+            }
+        }
+        for number in [
+            ones(NUMBER_BITS),
+            less_one(ones(NUMBER_BITS)),
+            power_of_two(NUMBER_BITS - 1),
+        ] {
+            self.accepted(&number, 4, 0);
+        }
+
+        self.title(LARGEST_WINDOWS);
+        for (number, width) in [
+            (2, 1),
+            (2, 2),
+            (2, 3),
+            (2, 6),
+            (6, 3),
+            (6, 4),
+            (30, 5),
+            (30, 6),
+            (62, 6),
+            (64, 6),
+            (1, 6),
+            (5, 6),
+            (31, 6),
+            (63, 6),
+        ] {
+            self.accepted(&small(number), 3, width);
+        }
+        for number in [2, 6, 31] {
+            self.accepted(&small(number), 2, 6);
+        }
+
+        self.title(LARGEST_BITS);
+        let plan = |requests: &mut Requests, bits: usize, is_ones: bool, is_below_zero: bool| {
+            let steps = largest_of(bits, is_ones, is_below_zero);
+            requests.check(work_space(steps.len() / STEP_BYTES), &small(2), &steps);
+        };
+        for bits in EDGES {
+            plan(self, bits, false, false);
+        }
+        for bits in [8, 9, 63, 64, 65, VALUE_BITS] {
+            plan(self, bits, true, true);
+        }
+
+        self.title(LARGEST_REFUSED);
+        let room = work_space(VALUE_BITS);
+        for last in [step(2, 0, 0), subtract(64, 64), add(0, 0)] {
+            self.check(room, &small(1), &[doublings(64), last].concat());
+        }
+        self.check(room, &small(1), &doublings(VALUE_BITS));
+    }
+
     /// What the program does not hand to a call.
     fn unanswered(&mut self) {
         self.title(UNANSWERED);
@@ -761,9 +856,30 @@ impl Requests {
     }
 }
 
-/// The titles of five sections.
+/// Bit lengths around the borders of bytes and words, those of the longest number and the largest value included.
+pub const EDGES: [usize; 10] = [
+    8,
+    9,
+    63,
+    64,
+    65,
+    NUMBER_BITS - 1,
+    NUMBER_BITS,
+    NUMBER_BITS + 1,
+    VALUE_BITS - 1,
+    VALUE_BITS,
+];
+
+/// The titles of ten sections.
 pub const HIDDEN: &str = "Equal values added and opposite ones subtracted, at two positions, and what is near";
 pub const NEAR: &str = "Values that differ in the lowest bit, in a middle byte, in the highest byte, and not at all";
+pub const LARGEST: &str = "The largest size: of the empty plan, at the end, on the way, below zero";
+pub const LARGEST_NAF: &str = "2^k - 1 by NAF, whose largest size has a bit more, then 2^k - 2 and a power of two";
+pub const LARGEST_WINDOWS: &str =
+    "Even numbers of fewer bits than a sliding window, whose largest size is the table's; others; fixed windows";
+pub const LARGEST_BITS: &str =
+    "Largest sizes around borders of bytes and words, then 2: powers of two, and minus all ones";
+pub const LARGEST_REFUSED: &str = "Refused after large values";
 pub const UNANSWERED: &str = "A call of another name, more room than there is, a line that is too long";
 pub const ONES: &str = "2^k - 1 for each k of 2 or more, by methods 1 and 4";
 pub const SMALL: &str = "1 to 1,023, by methods 1 and 4";

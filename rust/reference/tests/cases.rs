@@ -2,8 +2,9 @@
 //! `reference::cases` makes them, so the program answers as this crate does, and what they hold
 //! agrees with the rules and with the tables of Bosma, "Signed bits and fast exponentiation".
 
-use reference::cases::{answers, requests, HIDDEN, NEAR, ONES, SMALL, UNANSWERED};
-use reference::limits::{NUMBER_BITS, NUMBER_BYTES, VALUE_BITS};
+use reference::cases::*;
+use reference::generate::largest_bits;
+use reference::limits::{NUMBER_BITS, NUMBER_BYTES, STEP_BYTES, VALUE_BITS};
 use reference::refusal::{HIGHEST_BYTE_IS_ZERO, LAST, MALFORMED_STEP, NUMBER_TOO_LONG, WRONG_END};
 
 const STDIN: &str = include_str!("../../../crates/cases/stdin");
@@ -139,6 +140,67 @@ fn hidden_doublings_are_stored() {
     // Each of the three values that differ is made by an addition, then added once and subtracted twice.
     let near: Vec<[usize; 5]> = section(NEAR).iter().map(fields).collect();
     assert_eq!(near, [[0, 0, VALUE_BITS - 1 + 1 + 3 + 1, 3 + 3, 1 + 6]]);
+}
+
+/// The last number of a check: how many bits the largest size has, none where it is refused.
+#[test]
+fn largest_sizes_are_stored() {
+    let bits = |title: &str| -> Vec<usize> { section(title).iter().map(|stored| stored.field(5)).collect() };
+    assert_eq!(bits(LARGEST), [1, 2, 2, 4, 5, 3, 4]);
+    let naf = [3, 2, 3, 9, 8, 9, 65, 64, 65, NUMBER_BITS + 1, NUMBER_BITS, NUMBER_BITS];
+    assert_eq!(bits(LARGEST_NAF), naf);
+    // The width where an even number has fewer bits; else those of the number.
+    let sliding = [2, 2, 3, 6, 3, 4, 5, 6, 6, 7, 1, 3, 5, 6];
+    let fixed = [2, 3, 5];
+    assert_eq!(bits(LARGEST_WINDOWS), [&sliding[..], &fixed].concat());
+    let below_zero = [8, 9, 63, 64, 65, VALUE_BITS];
+    assert_eq!(bits(LARGEST_BITS), [&EDGES[..], &below_zero].concat());
+    let refused: Vec<[usize; 6]> = section(LARGEST_REFUSED)
+        .iter()
+        .map(|stored| [0, 1, 2, 3, 4, 5].map(|index| stored.field(index)))
+        .collect();
+    assert_eq!(
+        refused,
+        [
+            [9, 65, 0, 0, 0, 0],
+            [10, 65, 0, 0, 0, 0],
+            [12, 65, 0, 0, 0, 0],
+            [11, VALUE_BITS, 0, 0, 0, 0],
+        ]
+    );
+}
+
+/// In every check that is stored, these bits are those of the records behind them.
+#[test]
+fn the_bits_of_stored_records() {
+    let mut seen = [0; 2];
+    let checks = STDOUT.lines().filter_map(Stored::read);
+    for stored in checks.filter(|stored| stored.request[0] == "check" && stored.answer.len() > 1) {
+        let is_accepted = stored.field(0) == 0;
+        seen[usize::from(is_accepted)] += 1;
+        if !is_accepted {
+            assert_eq!(
+                [2, 3, 4, 5].map(|index| stored.field(index)),
+                [0; 4],
+                "{:?}",
+                stored.request
+            );
+            continue;
+        }
+        let (records, _) = stored.answer[6].split_once('+').unwrap();
+        let bytes = |text: &str| -> Vec<u8> {
+            let byte = |i: usize| u8::from_str_radix(&text[i..i + 2], 16).unwrap();
+            (0..text.len()).step_by(2).map(byte).collect()
+        };
+        let plan = match stored.request[3] {
+            "-" => vec![],
+            plan => bytes(plan),
+        };
+        assert_eq!(plan.len() % STEP_BYTES, 0);
+        let [above, below] = largest_bits(&plan, &bytes(records));
+        assert_eq!(stored.field(5), above.max(below), "{:?}", stored.request);
+    }
+    assert!(seen[0] > 50 && seen[1] > 50, "{:?}", seen);
 }
 
 /// Both readers answer with a number and without, and where there is none, nothing is written.

@@ -3,7 +3,7 @@ use crate::fault::{Fault, Shown};
 use crate::files;
 use crate::plans;
 use crate::request::{is_blank, is_standard, Request};
-use lesmutka::{sys, Counts, Refusal, Value};
+use lesmutka::{sys, Accepted, Counts, Refusal, Value};
 
 /// What a call answered.
 pub enum Answer<'a> {
@@ -11,7 +11,7 @@ pub enum Answer<'a> {
     Value(Value<'a>),
     Counts(Counts),
     Plan(Counts, &'a [u8]),
-    Accepted(Counts),
+    Accepted(Accepted),
     Refused(Refused),
 }
 
@@ -118,7 +118,7 @@ impl Desk {
             }
             Request::Check { file, .. } => plans::read(file).map(|plan| match plan {
                 Ok(plan) => match lesmutka::check(number, &plan.bytes, &mut self.space) {
-                    Ok(accepted) => Answer::Accepted(accepted.counts),
+                    Ok(accepted) => Answer::Accepted(accepted),
                     Err(refusal) => Answer::Refused(Refused {
                         refusal,
                         word: plan.word(refusal),

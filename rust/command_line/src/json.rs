@@ -18,6 +18,7 @@ pub struct Fields<'a> {
     pub digits: Option<&'a [i8]>,
     pub value: Option<Value<'a>>,
     pub counts: Option<Counts>,
+    pub largest_bits: Option<usize>,
     pub steps: Option<&'a [u8]>,
     pub values: Option<&'a [Value<'a>]>,
     pub file: Option<&'a [u8]>,
@@ -36,6 +37,7 @@ impl<'a> Fields<'a> {
             digits: None,
             value: None,
             counts: None,
+            largest_bits: None,
             steps: None,
             values: None,
             file: None,
@@ -53,11 +55,15 @@ impl<'a> Fields<'a> {
         match &answered.outcome {
             Ok(Answer::Digits(digits)) => fields.digits = Some(digits),
             Ok(Answer::Value(value)) => fields.value = Some(*value),
-            Ok(Answer::Counts(counts)) | Ok(Answer::Accepted(counts)) => fields.counts = Some(*counts),
+            Ok(Answer::Counts(counts)) => fields.counts = Some(*counts),
             Ok(Answer::Plan(counts, plan)) => {
                 fields.counts = Some(*counts);
                 // A plan that was written to a file is there.
                 fields.steps = Some(*plan).filter(|_| fields.file.is_none());
+            }
+            Ok(Answer::Accepted(accepted)) => {
+                fields.counts = Some(accepted.counts);
+                fields.largest_bits = Some(accepted.largest_bits);
             }
             Ok(Answer::Refused(refused)) => fields.refused = Some(refused),
             Err(fault) => fields.message = Some(fault.to_string()),
@@ -100,6 +106,8 @@ impl<'a> Fields<'a> {
         put_or_null(counts.map(|counts| counts.additions as u64), out, put_number);
         out.extend_from_slice(b",\"subtractions\":");
         put_or_null(counts.map(|counts| counts.subtractions as u64), out, put_number);
+        out.extend_from_slice(b",\"largest_bits\":");
+        put_or_null(self.largest_bits.map(|bits| bits as u64), out, put_number);
         out.extend_from_slice(b",\"steps\":");
         put_or_null(self.steps, out, |plan, out| {
             in_list(out, |out| put_steps(plan, &Frame::new(b",\"", b"\""), out))

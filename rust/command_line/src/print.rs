@@ -5,7 +5,7 @@ use crate::fault::{Fault, Shown};
 use crate::json::Fields;
 use crate::request::Request;
 use crate::steps::{put_steps, Frame};
-use lesmutka::{Counts, Method, Refusal, Value};
+use lesmutka::{Accepted, Counts, Method, Refusal, Value};
 use std::io::Write;
 use std::os::unix::ffi::OsStrExt;
 
@@ -109,9 +109,9 @@ impl Form {
                     }
                 }
             }
-            Ok(Answer::Accepted(counts)) => {
+            Ok(Answer::Accepted(accepted)) => {
                 out.extend_from_slice(b"accepted: ");
-                put_counts(*counts, out);
+                put_accepted(*accepted, out);
             }
             Ok(Answer::Refused(refused)) => put_refusal(refused, answered.number, request.choice(), out),
             Err(fault) => {
@@ -244,6 +244,14 @@ fn put_counts(counts: Counts, out: &mut Vec<u8>) {
     out.extend_from_slice(b" additions, ");
     put_number(counts.subtractions as u64, out);
     out.extend_from_slice(b" subtractions");
+}
+
+/// As `Accepted` prints, without the cost of formatting.
+fn put_accepted(accepted: Accepted, out: &mut Vec<u8>) {
+    put_counts(accepted.counts, out);
+    out.extend_from_slice(b"; at most ");
+    put_number(accepted.largest_bits as u64, out);
+    out.extend_from_slice(b" bits");
 }
 
 /// A number in decimal, without the cost of formatting.

@@ -4,7 +4,7 @@ use crate::fault::Fault;
 use crate::json::Fields;
 use crate::plans;
 use crate::print::{put_refusal, put_value, Status};
-use lesmutka::{check, records, Counts, Refusal, Step, Value, STEP_BYTES};
+use lesmutka::{check, records, Accepted, Refusal, Step, Value, STEP_BYTES};
 use std::ffi::OsStr;
 use std::io::{self, Write};
 use std::os::unix::ffi::OsStrExt;
@@ -33,7 +33,8 @@ pub fn show(file: &OsStr, dot: bool, json: bool, desk: &mut Desk, out: &mut Vec<
         fields.file = Some(file.as_bytes());
         fields.steps = Some(&chain.bytes);
         fields.values = Some(&chain.values);
-        fields.counts = chain.counts;
+        fields.counts = chain.accepted.map(|accepted| accepted.counts);
+        fields.largest_bits = chain.accepted.map(|accepted| accepted.largest_bits);
         fields.refused = chain.refused.as_ref();
         fields.put(out);
     } else if dot {
@@ -56,7 +57,7 @@ struct Chain<'a> {
     /// The value at position 0, then one for each step.
     values: Vec<Value<'a>>,
     /// If the plan ends at a number that a call takes.
-    counts: Option<Counts>,
+    accepted: Option<Accepted>,
     refused: Option<Refused>,
 }
 
@@ -66,7 +67,7 @@ impl<'a> Chain<'a> {
         Chain {
             bytes: Vec::new(),
             values: Vec::new(),
-            counts: None,
+            accepted: None,
             refused: Some(Refused { refusal, word: None }),
         }
     }
@@ -93,8 +94,8 @@ impl<'a> Chain<'a> {
         };
         Chain {
             bytes: plan.bytes[..STEP_BYTES * steps].to_vec(),
-            counts: match refusal {
-                None => check(&end, &plan.bytes, space).ok().map(|accepted| accepted.counts),
+            accepted: match refusal {
+                None => check(&end, &plan.bytes, space).ok(),
                 Some(_) => None,
             },
             values: records(space, steps).collect(),
@@ -120,13 +121,13 @@ impl<'a> Chain<'a> {
             put_value(*value, out);
             out.push(b'\n');
         }
-        match (&self.refused, self.values.last(), self.counts) {
+        match (&self.refused, self.values.last(), self.accepted) {
             (Some(refused), _, _) => put_refusal(refused, None, None, out),
-            (None, Some(end), counts) => {
+            (None, Some(end), accepted) => {
                 out.extend_from_slice(b"ends at ");
                 put_value(*end, out);
-                if let Some(counts) = counts {
-                    let _ = write!(out, ": {}", counts);
+                if let Some(accepted) = accepted {
+                    let _ = write!(out, ": {}", accepted);
                 }
             }
             (None, None, _) => {}

@@ -2,7 +2,7 @@
 mod common;
 
 use common::{run, step_words, steps, stored_files, Folder, Json};
-use reference::limits::{NUMBER_BITS, PLAN_STEPS};
+use reference::limits::{NUMBER_BITS, PLAN_STEPS, VALUE_BITS};
 use std::fs;
 use std::os::unix::fs::{symlink, FileTypeExt, PermissionsExt};
 use std::process::Command;
@@ -13,7 +13,7 @@ fn three() -> Vec<u8> {
 }
 
 const WRITTEN: &str = "0x03 by binary: 1 doublings, 1 additions, 0 subtractions; written to ";
-const ACCEPTED: &str = "0x03: accepted: 1 doublings, 1 additions, 0 subtractions\n";
+const ACCEPTED: &str = "0x03: accepted: 1 doublings, 1 additions, 0 subtractions; at most 2 bits\n";
 
 #[test]
 fn written_and_checked() {
@@ -437,7 +437,7 @@ fn shown() {
     assert_eq!(
         ended.text(),
         "0: 0x01\n1: add(0,0) = 0x02\n2: subtract(0,1) = -0x01\n3: subtract(1,2) = 0x03\n\
-         ends at 0x03: 1 doublings, 0 additions, 2 subtractions\n"
+         ends at 0x03: 1 doublings, 0 additions, 2 subtractions; at most 2 bits\n"
     );
     assert_eq!(ended.status, 0);
     let object = Json::read(run(&folder, &["show", "plan", "--json"], b"").text().trim_end());
@@ -448,6 +448,7 @@ fn shown() {
         &texts(&step_words(&plan).split(' ').collect::<Vec<_>>())
     );
     assert_eq!(object.get("subtractions"), &Json::Number(2));
+    assert_eq!(object.get("largest_bits"), &Json::Number(2));
     let dot = run(&folder, &["show", "plan", "--dot"], b"").text();
     assert_eq!(
         dot,
@@ -456,9 +457,12 @@ fn shown() {
          1 -> 2 [label=\"-\", style=\"dashed\"];\n    3 [label=\"3: 0x03\"];\n    1 -> 3 [label=\"+\"];\n    \
          2 -> 3 [label=\"-\", style=\"dashed\"];\n}\n"
     );
-    // An end that is no number of a call has no counts.
+    // An end that is no number of a call has no counts, and no bits.
     let ended = run(&folder, &["show", "-"], &steps(&[[0, 0, 0], [1, 0, 1]]));
     assert!(ended.text().ends_with("ends at -0x01\n"), "{}", ended.text());
+    let ended = run(&folder, &["show", "-", "--json"], &steps(&[[0, 0, 0], [1, 0, 1]]));
+    let object = Json::read(ended.text().trim_end());
+    assert_eq!(object.get("largest_bits"), &Json::Null);
     let doublings: Vec<[u16; 3]> = (0..NUMBER_BITS as u16 + 4).map(|i| [0, i, i]).collect();
     let ended = run(&folder, &["show", "-"], &steps(&doublings));
     assert!(
@@ -470,7 +474,7 @@ fn shown() {
     );
     assert_eq!(
         run(&folder, &["show", "-"], b"").text(),
-        "0: 0x01\nends at 0x01: 0 doublings, 0 additions, 0 subtractions\n"
+        "0: 0x01\nends at 0x01: 0 doublings, 0 additions, 0 subtractions; at most 1 bits\n"
     );
 }
 
@@ -482,7 +486,7 @@ fn hidden_doublings_shown() {
         (
             "equal-values.plan",
             "4",
-            "3 doublings, 0 additions, 0 subtractions",
+            "3 doublings, 0 additions, 0 subtractions; at most 3 bits",
             "0: 0x01\n1: add(0,0) = 0x02\n2: add(0,0) = 0x02\n3: add(1,2) = 0x04\n",
             [3, 0, 0],
             "    1 [label=\"1: 0x02\"];\n    0 -> 1 [label=\"double\"];\n    2 [label=\"2: 0x02\"];\n    \
@@ -492,7 +496,7 @@ fn hidden_doublings_shown() {
         (
             "opposite-values.plan",
             "2",
-            "2 doublings, 0 additions, 1 subtractions",
+            "2 doublings, 0 additions, 1 subtractions; at most 2 bits",
             "0: 0x01\n1: add(0,0) = 0x02\n2: subtract(0,1) = -0x01\n3: subtract(0,2) = 0x02\n",
             [2, 0, 1],
             "    1 [label=\"1: 0x02\"];\n    0 -> 1 [label=\"double\"];\n    2 [label=\"2: -0x01\"];\n    \
@@ -517,6 +521,29 @@ fn hidden_doublings_shown() {
                 assert_eq!(object.get(kind), &Json::Number(count), "{}: {}", name, kind);
             }
         }
+    }
+}
+
+/// The bits of the largest size, below zero and at the limit, by `check` and by `show`, in words and as JSON.
+#[test]
+fn largest_sizes_shown() {
+    let folder = Folder::new();
+    for (name, number, bits) in [
+        ("largest-below-zero.plan", "1", 3),
+        ("largest-most.plan", "2", VALUE_BITS as i128),
+    ] {
+        folder.write(name, &stored_files()[name]);
+        let told = format!(" subtractions; at most {} bits\n", bits);
+        for words in [&["check", number, name][..], &["show", name]] {
+            let ended = run(&folder, words, b"");
+            assert!(ended.text().ends_with(&told), "{}", ended.text());
+            let ended = run(&folder, &[words, &["--json"]].concat(), b"");
+            let object = Json::read(ended.text().trim_end());
+            assert_eq!(object.get("largest_bits"), &Json::Number(bits), "{}", name);
+        }
+        let ended = run(&folder, &["check", "9", name, "--json"], b"");
+        let object = Json::read(ended.text().trim_end());
+        assert_eq!((ended.status, object.get("largest_bits")), (1, &Json::Null));
     }
 }
 

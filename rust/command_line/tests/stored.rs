@@ -146,6 +146,7 @@ fn in_words(object: &Json) -> String {
     };
     if text("status") == "refused" {
         assert_eq!(object.get("doublings"), &Json::Null);
+        assert_eq!(object.get("largest_bits"), &Json::Null);
         return format!(
             "{}refused {}, place {}: {}",
             subject,
@@ -156,6 +157,10 @@ fn in_words(object: &Json) -> String {
     }
     assert_eq!(text("status"), "answered");
     assert_eq!(object.get("refusal"), &Json::Null);
+    // Plan and forecast answer counts alone.
+    if text("request") != "check" {
+        assert_eq!(object.get("largest_bits"), &Json::Null);
+    }
     let counts = || {
         format!(
             "{} doublings, {} additions, {} subtractions",
@@ -170,7 +175,7 @@ fn in_words(object: &Json) -> String {
         "forecast" => counts(),
         "plan" if object.get("file") == &Json::Null => format!("{}; steps: {}", counts(), joined(list("steps"))),
         "plan" => format!("{}; written to {}", counts(), text("file")),
-        "check" => format!("accepted: {}", counts()),
+        "check" => format!("accepted: {}; at most {} bits", counts(), number("largest_bits")),
         other => panic!("{}", other),
     };
     subject + &answer

@@ -118,10 +118,16 @@ pub fn steps(steps: &[[u16; 3]]) -> Vec<u8> {
 /// The files that the stored requests read.
 pub fn stored_files() -> HashMap<String, Vec<u8>> {
     let doublings = |n: usize| steps(&(0..n as u16).map(|i| [0, i, i]).collect::<Vec<_>>());
+    let two = steps(&[[0, 0, 0]]);
     let files = [
         ("below-zero.plan", steps(&[[0, 0, 0], [1, 0, 1], [1, 1, 2]])),
         ("equal-values.plan", steps(&[[0, 0, 0], [0, 0, 0], [0, 1, 2]])),
         ("opposite-values.plan", steps(&[[0, 0, 0], [1, 0, 1], [1, 0, 2]])),
+        (
+            "largest-below-zero.plan",
+            steps(&[[0, 0, 0], [1, 0, 1], [1, 2, 1], [0, 3, 3], [0, 1, 2]]),
+        ),
+        ("largest-most.plan", [doublings(VALUE_BITS - 1), two].concat()),
         ("minus-one.plan", steps(&[[0, 0, 0], [1, 0, 1]])),
         ("zero.plan", steps(&[[1, 0, 0]])),
         ("own-position.plan", steps(&[[0, 0, 0], [0, 2, 0]])),
@@ -302,7 +308,11 @@ pub fn expected(words: &[&str], files: &mut HashMap<String, Vec<u8>>) -> String 
             let number = number(words[1]);
             let mut space = vec![0; work_space(PLAN_STEPS)];
             let answer = match check(&number, &files[words[2]], &mut space) {
-                Ok(accepted) => format!("accepted: {}", counted(accepted.counts)),
+                Ok(accepted) => format!(
+                    "accepted: {}; at most {} bits",
+                    counted(accepted.counts),
+                    accepted.largest_bits
+                ),
                 Err(refusal) => refused(refusal, &number, None),
             };
             format!("{}: {}", shown(&number), answer)

@@ -87,8 +87,8 @@ impl fmt::Display for Counts {
     }
 }
 
-/// What an accepted plan has. Its largest size is that of all its values, position 0 included and values
-/// below zero by their size, so registers of [`largest_bits`](Accepted::largest_bits) bits hold every size.
+/// An accepted plan: its counts, and the bits of the largest size among all its values, position 0
+/// included and values below zero by their size. So registers of that many bits hold every size.
 ///
 /// ```
 /// use lesmutka::{check, plan, work_space, Method, PLAN_ROOM};

@@ -775,13 +775,7 @@ impl Requests {
                 self.accepted(&number, 4, 0);
             }
         }
-        for number in [
-            ones(NUMBER_BITS),
-            less_one(ones(NUMBER_BITS)),
-            power_of_two(NUMBER_BITS - 1),
-        ] {
-            self.accepted(&number, 4, 0);
-        }
+        self.accepted(&ones(NUMBER_BITS), 4, 0);
 
         self.title(LARGEST_WINDOWS);
         for (number, width) in [
@@ -819,11 +813,10 @@ impl Requests {
         }
 
         self.title(LARGEST_REFUSED);
-        let room = work_space(VALUE_BITS);
         for last in [step(2, 0, 0), subtract(64, 64), add(0, 0)] {
-            self.check(room, &small(1), &[doublings(64), last].concat());
+            self.check(work_space(65), &small(1), &[doublings(64), last].concat());
         }
-        self.check(room, &small(1), &doublings(VALUE_BITS));
+        self.check(work_space(VALUE_BITS), &small(1), &doublings(VALUE_BITS));
     }
 
     /// What the program does not hand to a call.
@@ -857,18 +850,7 @@ impl Requests {
 }
 
 /// Bit lengths around the borders of bytes and words, those of the longest number and the largest value included.
-pub const EDGES: [usize; 10] = [
-    8,
-    9,
-    63,
-    64,
-    65,
-    NUMBER_BITS - 1,
-    NUMBER_BITS,
-    NUMBER_BITS + 1,
-    VALUE_BITS - 1,
-    VALUE_BITS,
-];
+pub const EDGES: [usize; 8] = [8, 9, 63, 64, 65, NUMBER_BITS, NUMBER_BITS + 1, VALUE_BITS];
 
 /// The titles of ten sections.
 pub const HIDDEN: &str = "Equal values added and opposite ones subtracted, at two positions, and what is near";

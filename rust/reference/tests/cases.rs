@@ -147,7 +147,7 @@ fn hidden_doublings_are_stored() {
 fn largest_sizes_are_stored() {
     let bits = |title: &str| -> Vec<usize> { section(title).iter().map(|stored| stored.field(5)).collect() };
     assert_eq!(bits(LARGEST), [1, 2, 2, 4, 5, 3, 4]);
-    let naf = [3, 2, 3, 9, 8, 9, 65, 64, 65, NUMBER_BITS + 1, NUMBER_BITS, NUMBER_BITS];
+    let naf = [3, 2, 3, 9, 8, 9, 65, 64, 65, NUMBER_BITS + 1];
     assert_eq!(bits(LARGEST_NAF), naf);
     // The width where an even number has fewer bits; else those of the number.
     let sliding = [2, 2, 3, 6, 3, 4, 5, 6, 6, 7, 1, 3, 5, 6];

@@ -1,9 +1,10 @@
--- Whether two integers are the same. Assumes nothing.
+-- Whether two integers are the same, and the size of an opposite. Assumes nothing.
 use mathlib.Core.Path.{_≡_, refl, ap}
 use mathlib.Core.Logic.{_↔_, _≢_}
 use mathlib.Core.Bool.{true, false}
+use Prim.Native.Nat.{zero, suc}
 use borrow.Author.Tests.{eqb-true, eq-eqb, ne-eqb}
-use lib.IntN.{ℤ, pos, negsuc}
+use lib.IntN.{ℤ, pos, negsuc, negℤ, natAbs}
 use Rattle.integers.specs.Signed.{isSame}
 
 pub same-true : (a b : ℤ) → a ≡ b → isSame a b ≡ true
@@ -27,3 +28,9 @@ same-is a b = (to a b, same-true a b)
     to (pos m) (negsuc n) e = cc
     to (negsuc m) (pos n) e = cc
     to (negsuc m) (negsuc n) e = ap negsuc (eqb-true m n e)
+
+-- an integer and its opposite have the same size
+pub negated-size : (a : ℤ) → natAbs (negℤ a) ≡ natAbs a
+negated-size (pos zero) = refl
+negated-size (pos (suc n)) = refl
+negated-size (negsuc n) = refl

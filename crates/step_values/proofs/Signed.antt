@@ -10,6 +10,7 @@ use lib.Dec.{ltb, eqb}
 use lib.IntN.{ℤ, pos, negsuc, negℤ, natAbs, _+ℤ_}
 use mir.Val.{boolByte}
 use Rattle.integers.specs.Signed.{signOf, isSame}
+use Rattle.integers.proofs.Signed.{negated-size}
 use Rattle.chains.specs.Steps.{adding, subtracting}
 use Rattle.records.specs.Recording.{distanceOf}
 
@@ -19,13 +20,11 @@ abbrev pub addend : ℕ → ℤ → ℤ
 addend operation y = cond (eqb operation adding) y (negℤ y)
 
 pub addend-size : (operation : ℕ) (y : ℤ) → natAbs (addend operation y) ≡ natAbs y
-addend-size operation y = go (eqb operation adding) y
+addend-size operation y = go (eqb operation adding)
   where
-    go : (adds : Bool) (y : ℤ) → natAbs (cond adds y (negℤ y)) ≡ natAbs y
-    go true y = refl
-    go false (pos zero) = refl
-    go false (pos (suc n)) = refl
-    go false (negsuc n) = refl
+    go : (adds : Bool) → natAbs (cond adds y (negℤ y)) ≡ natAbs y
+    go true = refl
+    go false = negated-size y
 
 -- the signs of both values give the operation where what is added has the first one's sign
 pub agreeing : (operation : ℕ) (x y : ℤ) → operation ≤ subtracting → y ≢ pos 0 → eqb (bitXor (signOf x) (signOf y)) operation ≡ eqb (signOf x) (signOf (addend operation y))

@@ -24,11 +24,12 @@ first-rest l at n s t h e =
     let f : getD l at 0 ∷ take n (drop (suc at) l) ≡ s ∷ t = rw (one-add, drop-cons l at 0 h) at e in
     (cc, rw add-one (cc))
 
--- the bytes of a size are below the bound
+-- the bytes of a size are bytes, and below the bound
+pub size-bytes : (l : List ℕ) (at : ℕ) → Below 256 l → Below 256 (part at valueBytes l)
+size-bytes l at b = below-take 256 valueBytes (drop at l) (omega arith) (below-drop 256 at l (omega arith) b)
+
 pub size-below : (l : List ℕ) (at : ℕ) → Below 256 l → bytesValue (part at valueBytes l) < valueBound
-size-below l at b =
-    rw bound-bytes (positional-lt 256 valueBytes (part at valueBytes l) (omega (arith, length-take valueBytes (drop at l)))
-    (below-take 256 valueBytes (drop at l) (omega arith) (below-drop 256 at l (omega arith) b)))
+size-below l at b = rw bound-bytes (positional-lt 256 valueBytes (part at valueBytes l) (omega (arith, length-take valueBytes (drop at l))) (size-bytes l at b))
 
 signed-of : (z : ℤ) → signed (eqb (signOf z) 1) (natAbs z) ≡ z
 signed-of (pos n) = refl

@@ -1,29 +1,29 @@
 -- The bytes of a size in a work space: whole words, and a single byte for the top one. Assumes nothing.
 use mathlib.Core.Path.{_≡_, refl, sym, ap, _∙_}
-use mathlib.Core.Bool.{Bool, true, false, _&&_, false≢true}
+use mathlib.Core.Bool.{Bool, true, false, _&&_}
 use mathlib.Core.List.{List, [], _∷_}
 use Prim.Native.Nat.{ℕ, _+_, _*_, _-_, _/_, _%_, _^_, _<_, _≤_}
 use borrow.Author.Tests.{eqb-true, eqb-false, eq-eqb, ne-eqb, lt-ltb, le-ltb}
-use native.Mathlib.Decide.{decLt}
 use native.Mathlib.Nat.{mul-comm}
 use native.Mathlib.Numerals.{add-one}
 use native.Mathlib.Omega.{arith}
 use lib.Arith.{digits-div, digits-mod}
 use lib.Bits.{bitOr, bitXor, or-add-and, xor-add-and, xor-self, xor-zero-r, and-le-l, and-le-r, and-mask}
 use lib.Dec.{ltb, eqb}
-use lib.ListN.{length, getD, set, take, drop, length-take, length-drop, List·getD-eq-default}
+use lib.ListN.{length, getD, set, take, drop, length-take, length-drop}
 use lib.Seq.{length-take-le, take-all, take-nil, drop-cons}
 use mir.Val.{boolByte}
 use Rattle.rules.specs.Limits.{valueBytes, valueWords}
 use Rattle.integers.specs.Positional.{positional, bytesValue, wordsValue, lowBytes}
 use Rattle.integers.specs.Tabulate.{tabulate}
-use Rattle.integers.proofs.Positional.{Below, below-take, below-drop, positional-take, positional-lt}
+use Rattle.integers.proofs.Positional.{Below, below-take, positional-take, positional-lt}
 use Rattle.integers.proofs.Tabulate.{length-tabulate, getD-tabulate, below-tabulate}
 use Rattle.integers.proofs.Words.{part, wordAt, words-value, word-lt, part-part, words-low}
 use Rattle.integers.proofs.Blocks.{placed, place-more, place-one}
 use Rattle.integers.proofs.LowBytes.{length-low}
 use Rattle.words.proofs.Carry.{Carried, carried-none, difference-stored}
 use Rattle.records.specs.Recording.{distanceOf}
+use Rattle.records.proofs.Records.{size-bytes}
 
 module _ (space : List ℕ) (at : ℕ) where
   -- the words of the size whose bytes stand at `at`
@@ -67,27 +67,27 @@ no-carry x y u P b false hx hy h e = omega arith
 -- ---- how far apart two sizes are
 
 -- all bits of a word, or none
-abbrev pub maskOf : Bool → ℕ
+abbrev maskOf : Bool → ℕ
 maskOf below = boolByte below * (2 ^ 64 - 1)
 
--- a word with all its bits turned
-all-turned : (x : ℕ) → x < 2 ^ 64 → bitXor x (2 ^ 64 - 1) + x ≡ 2 ^ 64 - 1
-all-turned x h = omega (arith, xor-add-and x (2 ^ 64 - 1), and-mask x 64)
+-- a word and its complement
+complement : (x : ℕ) → x < 2 ^ 64 → bitXor x (2 ^ 64 - 1) + x ≡ 2 ^ 64 - 1
+complement x h = omega (arith, xor-add-and x (2 ^ 64 - 1), and-mask x 64)
 
--- the k low words, once those given are taken from zero, where they are below it, or are left as they are
-abbrev pub Unsigned : Bool → ℕ → List ℕ → List ℕ → Bool → Type 0
-Unsigned true k given words c = Carried k words given [] c
-Unsigned false k given words c = Carried k words [] given c × (c ≡ false)
+-- the k low words of the absolute value: those given are negated if they are below zero
+abbrev pub Absolute : Bool → ℕ → List ℕ → List ℕ → Bool → Type 0
+Absolute true k given words c = Carried k words given [] c
+Absolute false k given words c = Carried k words [] given c × (c ≡ false)
 
-pub unsigned-none : (below : Bool) (given words : List ℕ) → Unsigned below 0 given words false
-unsigned-none true given words = carried-none words given []
-unsigned-none false given words = (carried-none words [] given, refl)
+pub absolute-none : (below : Bool) (given words : List ℕ) → Absolute below 0 given words false
+absolute-none true given words = carried-none words given []
+absolute-none false given words = (carried-none words [] given, refl)
 
 module _ (k : ℕ) (given words : List ℕ) (x : ℕ) (c d : Bool) (h : k < length words) (small : getD given k 0 < 2 ^ 64) (next : x < 2 ^ 64) where
-  pub unsigned-more : (below : Bool) → x + maskOf below + boolByte c ≡ bitXor (getD given k 0) (maskOf below) + 2 ^ 64 * boolByte d → Unsigned below k given words c
-      → Unsigned below (k + 1) given (set words k x) d
-  unsigned-more true e w = difference-stored k [] given words x c d h w (omega (arith, all-turned (getD given k 0) small))
-  unsigned-more false e w =
+  pub absolute-more : (below : Bool) → x + maskOf below + boolByte c ≡ bitXor (getD given k 0) (maskOf below) + 2 ^ 64 * boolByte d → Absolute below k given words c
+      → Absolute below (k + 1) given (set words k x) d
+  absolute-more true e w = difference-stored k [] given words x c d h w (omega (arith, complement (getD given k 0) small))
+  absolute-more false e w =
       let f : x + 0 + boolByte c ≡ getD given k 0 + 2 ^ 64 * boolByte d = rw xor-zero-r at e in
       (difference-stored k given [] words x c d h (w .0) f, none d (rw (w .1) at f))
     where
@@ -95,16 +95,16 @@ module _ (k : ℕ) (given words : List ℕ) (x : ℕ) (c d : Bool) (h : k < leng
       none true f = absurd (omega arith)
       none false f = refl
 
--- all n of them: how far apart two numbers are, where one less the other was given
+-- all n of them: the distance of two numbers, where one less the other was given
 module _ (n x y : ℕ) (given words : List ℕ) (c : Bool) (hg : length given ≡ n) (hw : length words ≡ n) (lg : wordsValue given < (2 ^ 64) ^ n) (ly : y < (2 ^ 64) ^ n) where
-  pub unsigned-all : (below : Bool) → wordsValue given + y ≡ x + (2 ^ 64) ^ n * boolByte below → Unsigned below n given words c → (wordsValue words ≡ distanceOf x y) × (below ≡ ltb x y)
+  pub absolute-all : (below : Bool) → wordsValue given + y ≡ x + (2 ^ 64) ^ n * boolByte below → Absolute below n given words c → (wordsValue words ≡ distanceOf x y) × (below ≡ ltb x y)
   unfolding positional
-  unsigned-all true e u = from-zero (wordsValue given) (wordsValue words) ((2 ^ 64) ^ n) c lg ly e (rw (take-all n words (omega arith), take-all n given (omega arith), take-nil n) at u)
+  absolute-all true e u = from-zero (wordsValue given) (wordsValue words) ((2 ^ 64) ^ n) c lg ly e (rw (take-all n words (omega arith), take-all n given (omega arith), take-nil n) at u)
     where
       from-zero : (g v P : ℕ) (c : Bool) → g < P → y < P → g + y ≡ x + P * 1 → v + g ≡ 0 + P * boolByte c → (v ≡ distanceOf x y) × (true ≡ ltb x y)
       from-zero g v P true lg ly e f = (omega arith, sym (lt-ltb x y (omega arith)))
       from-zero g v P false lg ly e f = absurd (omega arith)
-  unsigned-all false e u =
+  absolute-all false e u =
       let v : wordsValue words + 0 ≡ wordsValue given + (2 ^ 64) ^ n * 0 = rw (take-all n words (omega arith), take-all n given (omega arith), take-nil n, u .1) at (u .0) in
       (omega arith, sym (le-ltb x y (omega arith)))
 
@@ -147,8 +147,7 @@ module _ (space : List ℕ) (a b : ℕ) where
     word-small : (at k : ℕ) → getD (sizeWords space at) k 0 < 2 ^ 64
     unfolding sizeWords
     word-small at =
-        let below : Below 256 (part at valueBytes space) = below-take 256 valueBytes (drop at space) (omega arith) (below-drop 256 at space (omega arith) bytes) in
-        below-tabulate (2 ^ 64) (wordAt (part at valueBytes space)) valueWords (λ k. word-lt (part at valueBytes space) k below)
+        below-tabulate (2 ^ 64) (wordAt (part at valueBytes space)) valueWords (λ k. word-lt (part at valueBytes space) k (size-bytes space at bytes))
 
     low-small : (at k : ℕ) → wordsValue (take k (sizeWords space at)) < (2 ^ 64) ^ k
     low-small at k =

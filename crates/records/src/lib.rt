@@ -119,15 +119,15 @@ pub fn distance_between(space: &[u8], a: usize, b: usize) -> Distance
     let first = subtracted(space, a, b);
     let below = first.below;
     let given = first.words;
-    // Below zero it is taken from zero. Without a branch: which size is the larger cannot be predicted.
+    // Negated if it is below zero. Without a branch: which size is the larger cannot be predicted.
     let mask = (below as u64) * ALL_BITS;
     let mut words = [0u64; VALUE_WORDS];
     let mut borrow = false;
     let mut k = 0;
     while k < VALUE_WORDS {
-        let turned = subtract_with_borrow(given[k] ^ mask, mask, borrow);
-        words[k] = turned.word;
-        borrow = turned.borrow;
+        let negated = subtract_with_borrow(given[k] ^ mask, mask, borrow);
+        words[k] = negated.word;
+        borrow = negated.borrow;
         k += 1;
     }
     Distance { words, below }

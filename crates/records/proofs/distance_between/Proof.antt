@@ -1,25 +1,25 @@
--- `records::distance_between` meets its contract: the k low words are without a sign. Assumes nothing.
+-- `records::distance_between` meets its contract: the k low words of the absolute value are found. Assumes nothing.
 use mathlib.Core.Path.{_≡_}
-use Prim.Native.Nat.{ℕ, _-_, _^_, _<_, _≤_}
+use Prim.Native.Nat.{ℕ, _-_, _^_, _≤_}
 use native.Mathlib.Nat.{lt-of-lt-of-le}
 use native.Mathlib.Omega.{arith}
 use lib.ListN.{length, getD, replicate}
 use mir.Syntax.{w64}
 use mir.Val.{Fits}
 use Rattle.rules.specs.Limits.{valueWords}
-use Rattle.integers.specs.Positional.{bytesValue, wordsValue}
+use Rattle.integers.specs.Positional.{bytesValue}
 use Rattle.integers.proofs.Bits.{bool-small}
 use Rattle.integers.proofs.Positional.{Below, positional-lt}
 use Rattle.records.specs.Recording.{sizeBytes}
 use Rattle.records.proofs.Limits.{bound-once}
 use Rattle.records.proofs.Records.{size-below}
-use Rattle.records.proofs.Sizes.{Unsigned, unsigned-none, unsigned-more, unsigned-all}
+use Rattle.records.proofs.Sizes.{Absolute, absolute-none, absolute-more, absolute-all}
 use borrow.Author.Needs.{needs}
 use Rattle.records.proofs.distance_between.Statement.{statement}
 use Rattle.records.proofs.distance_between.Tie as tie
 
 abbrev Inv-loop : tie.InvT-loop
-Inv-loop space a b below given mask words₀ borrow₀ k₀ words borrow k = (k ≤ valueWords) × (length words ≡ valueWords) × Unsigned below k given words borrow
+Inv-loop space a b below given mask words₀ borrow₀ k₀ words borrow k = (k ≤ valueWords) × (length words ≡ valueWords) × Absolute below k given words borrow
 
 abbrev μ-loop : tie.MeasureT-loop
 μ-loop space a b below given mask words₀ borrow₀ k₀ words borrow k = valueWords - k
@@ -36,7 +36,7 @@ mul-mask c = let first : tie.After-subtracted Inv-loop μ-loop = search in omega
 loop-holds : tie.Need-loop-holds Inv-loop μ-loop
 loop-holds c =
     let first : tie.After-subtracted Inv-loop μ-loop = search in
-    (search needs, search needs, unsigned-none (first .subtracted .result .below) (first .subtracted .result .words) (replicate valueWords 0))
+    (search needs, search needs, absolute-none (first .subtracted .result .below) (first .subtracted .result .words) (replicate valueWords 0))
 
 mul-subtract-with-borrow : tie.Need-mul-subtract-with-borrow Inv-loop μ-loop
 mul-subtract-with-borrow c = search needs
@@ -70,7 +70,7 @@ loop-again c =
     let fits-2 : Fits w64 (next .result .word) = search needs in (
       search needs,
       search needs,
-      unsigned-more (at .loop .k) given (at .loop .words) (next .result .word) (at .loop .borrow) (next .result .borrow) (search needs) (fits .fits) (fits-2 .fits) below (next .ensures) (at .loop .inv .2),
+      absolute-more (at .loop .k) given (at .loop .words) (next .result .word) (at .loop .borrow) (next .result .borrow) (search needs) (fits .fits) (fits-2 .fits) below (next .ensures) (at .loop .inv .2),
     )
 
 given-long : (c : tie.After-subtracted Inv-loop μ-loop) → length (c .subtracted .result .words) ≡ valueWords
@@ -89,7 +89,7 @@ returns c =
     let fits : Below (2 ^ 64) given = λ i. let f : Fits w64 (getD given i 0) = search needs in f .fits in
     let long : length given ≡ valueWords = given-long first in
     let e : at .loop .k ≡ valueWords = search needs in
-    unsigned-all valueWords (size (args .a)) (size (args .b)) given (at .loop .words) (at .loop .borrow) long (at .loop .inv .1) (positional-lt (2 ^ 64) valueWords given (omega arith) fits)
+    absolute-all valueWords (size (args .a)) (size (args .b)) given (at .loop .words) (at .loop .borrow) long (at .loop .inv .1) (positional-lt (2 ^ 64) valueWords given (omega arith) fits)
     (lt-of-lt-of-le (size-below (args .space .now) (args .b) bytes) bound-once) (first .subtracted .result .below) (first .subtracted .ensures) (rw e at (at .loop .inv .2))
 
 pub distance-between-spec : {M : Type 1} → statement M

@@ -1,10 +1,10 @@
 -- The largest size among the values of a plan: its bit length is the least number of bits that holds every size, and a step at most doubles it. Assumes
 -- nothing.
-use mathlib.Core.Path.{_≡_, refl, sym, ap, _∙_}
+use mathlib.Core.Path.{_≡_, refl}
 use mathlib.Core.Logic.{_↔_}
 use mathlib.Core.Bool.{Bool, true, false, cond}
 use mathlib.Core.List.{List, [], _∷_, _++_}
-use Prim.Native.Nat.{ℕ, zero, suc, max, _+_, _*_, _-_, _/_, _%_, _^_, _<_, _≤_}
+use Prim.Native.Nat.{ℕ, zero, suc, max, _+_, _*_, _-_, _/_, _^_, _<_, _≤_}
 use borrow.Author.Tests.{ltb-true}
 use native.Mathlib.Decide.{decLt, decLe}
 use native.Mathlib.Nat.{pow-suc, div-lt-iff-lt-mul, lt-of-le-of-lt}
@@ -16,6 +16,7 @@ use lib.Pow.{pow-pos, pow-mono}
 use lib.Seq.{getD-at}
 use Rattle.integers.specs.Bits.{bit, bitLength, lengthUpTo}
 use Rattle.integers.proofs.Bits.{bit-length-iff, bit-small}
+use Rattle.integers.proofs.Signed.{negated-size}
 use Rattle.chains.specs.Steps.{Step, adding, add, subtract}
 use Rattle.chains.specs.Values.{at, stepValue, extend, valuesOf, endOf}
 use Rattle.chains.specs.Largest.{largest, largestBits}
@@ -24,11 +25,12 @@ use Rattle.chains.proofs.Values.{valuesAfter, length-values, length-aft
 
 -- ---- of any values
 
-pub largest-each : (values : List ℤ) (i : ℕ) → i < length values → natAbs (at values i) ≤ largest values
+-- no size is larger; what stands at no position is 0
+pub largest-each : (values : List ℤ) (i : ℕ) → natAbs (at values i) ≤ largest values
 unfolding largest
-largest-each [] i h = absurd (omega arith)
-largest-each (z ∷ values) zero h = omega arith
-largest-each (z ∷ values) (suc i) h = omega (arith, largest-each values i (omega arith))
+largest-each [] i = omega arith
+largest-each (z ∷ values) zero = omega arith
+largest-each (z ∷ values) (suc i) = omega (arith, largest-each values i)
 
 -- it is one of them
 pub largest-one : (values : List ℤ) → 0 < length values → (i : ℕ) × (i < length values) × (natAbs (at values i) ≡ largest values)
@@ -42,18 +44,18 @@ largest-one (z ∷ (y ∷ values)) h =
       | no g ↦ (0, omega arith, omega arith)
     ]
 
+-- its bits are the least number that holds every size
+pub largest-bits : (values : List ℤ) (k : ℕ) → 0 < length values → bitLength (largest values) ≤ k ↔ ((i : ℕ) → i < length values → natAbs (at values i) < 2 ^ k)
+largest-bits values k some = (
+  λ h i w. lt-of-le-of-lt (largest-each values i) (bit-length-iff (largest values) k .0 h),
+  λ h. let (i, w, e) = largest-one values some in bit-length-iff (largest values) k .1 (rw e at (h i w)),
+)
+
 -- one value more
-pub largest-append : (values : List ℤ) (z : ℤ) → largest (values ++ (z ∷ [])) ≡ max (largest values) (natAbs z)
+largest-append : (values : List ℤ) (z : ℤ) → largest (values ++ (z ∷ [])) ≡ max (largest values) (natAbs z)
 unfolding largest
 largest-append [] z = omega arith
 largest-append (y ∷ values) z = omega (arith, largest-append values z)
-
--- what stands at no position is 0
-at-largest : (values : List ℤ) (i : ℕ) → natAbs (at values i) ≤ largest values
-unfolding largest
-at-largest [] i = omega arith
-at-largest (z ∷ values) zero = omega arith
-at-largest (z ∷ values) (suc i) = omega (arith, at-largest values i)
 
 difference-size : (a b : ℕ) → natAbs (subℕ a b) ≤ a + b
 difference-size a b = go (ltb a b) refl
@@ -68,11 +70,6 @@ sum-size (pos a) (negsuc b) = difference-size a (suc b)
 sum-size (negsuc a) (pos b) = omega (arith, difference-size b (suc a))
 sum-size (negsuc a) (negsuc b) = omega arith
 
-opposite-size : (x : ℤ) → natAbs (negℤ x) ≡ natAbs x
-opposite-size (pos zero) = refl
-opposite-size (pos (suc n)) = refl
-opposite-size (negsuc n) = refl
-
 -- a step at most doubles it
 pub step-size : (values : List ℤ) (s : Step) → natAbs (stepValue values s) ≤ 2 * largest values
 unfolding stepValue
@@ -85,12 +82,12 @@ step-size values s = go (eqb (s .operation) adding)
     b = at values (s .second)
 
     go : (t : Bool) → natAbs (cond t (a +ℤ b) (a -ℤ b)) ≤ 2 * largest values
-    go true = omega (arith, sum-size a b, at-largest values (s .first), at-largest values (s .second))
-    go false = omega (arith, sum-size a (negℤ b), opposite-size b, at-largest values (s .first), at-largest values (s .second))
+    go true = omega (arith, sum-size a b, largest-each values (s .first), largest-each values (s .second))
+    go false = omega (arith, sum-size a (negℤ b), negated-size b, largest-each values (s .first), largest-each values (s .second))
 
 -- ---- bits
 
-pub bits-up : (m n : ℕ) → m ≤ n → bitLength m ≤ bitLength n
+bits-up : (m n : ℕ) → m ≤ n → bitLength m ≤ bitLength n
 bits-up m n h = bit-length-iff m (bitLength n) .1 (lt-of-le-of-lt h (bit-length-iff n (bitLength n) .0 (omega arith)))
 
 -- the larger of two numbers, one of which is at most twice the other, has one bit more exactly where the bit above the other is 1
@@ -154,24 +151,15 @@ module _ (steps : List Step) where
   -- the least number of bits that holds every size
   pub bits-least : (k : ℕ) → largestBits steps ≤ k ↔ ((i : ℕ) → i ≤ length steps → natAbs (at (valuesOf steps) i) < 2 ^ k)
   unfolding largestBits
-  bits-least k = (to, from)
-    where
-      l : ℕ
-      l = largest (valuesOf steps)
-
-      to : bitLength l ≤ k → (i : ℕ) → i ≤ length steps → natAbs (at (valuesOf steps) i) < 2 ^ k
-      to h i w = lt-of-le-of-lt (largest-each (valuesOf steps) i (omega (arith, length-values steps))) (bit-length-iff l k .0 h)
-
-      from : ((i : ℕ) → i ≤ length steps → natAbs (at (valuesOf steps) i) < 2 ^ k) → bitLength l ≤ k
-      from h =
-          let (i, w, e) = largest-one (valuesOf steps) (omega (arith, length-values steps)) in
-          bit-length-iff l k .1 (rw e at (h i (omega (arith, length-values steps))))
+  bits-least k =
+      let all = largest-bits (valuesOf steps) k (omega (arith, length-values steps)) in
+      (λ h i w. all .0 h i (omega (arith, length-values steps)), λ h. all .1 (λ i w. h i (omega (arith, length-values steps))))
 
   -- so it holds the size of each position
-  pub bits-each : (i : ℕ) → i ≤ length steps → bitLength (natAbs (at (valuesOf steps) i)) ≤ largestBits steps
+  bits-each : (i : ℕ) → i ≤ length steps → bitLength (natAbs (at (valuesOf steps) i)) ≤ largestBits steps
   bits-each i w = bit-length-iff _ (largestBits steps) .1 (bits-least (largestBits steps) .0 (omega arith) i w)
 
-  -- that of the last one, which is the number where a plan is accepted, and of position 0
+  -- that of the last one, too, which is the number where a plan is accepted
   pub bits-end : bitLength (natAbs (endOf steps)) ≤ largestBits steps
   bits-end = bits-each (length steps) (omega arith)
 

@@ -5,7 +5,6 @@ use mathlib.Core.List.{List}
 use Prim.Native.Nat.{ℕ, suc, _+_, _*_, _/_, _<_, _≤_}
 use native.Mathlib.Numerals.{add-one}
 use native.Mathlib.Omega.{arith}
-use lib.IntN.{ℤ}
 use lib.ListN.{length, drop, length-take}
 use Rattle.rules.specs.Limits.{stepBytes, valueBytes}
 use Rattle.rules.specs.Outcome.{unlessFailed}
@@ -14,14 +13,13 @@ use Rattle.rules.specs.declared.Refusal.the-variants.{WrongEnd}
 use Rattle.rules.specs.declared.Checked.the-variants.{Accepted, Refused}
 use Rattle.rules.specs.declared.Verdict.{Verdict}
 use Rattle.rules.specs.declared.Verdict.the-variants.{Passed, Failed}
-use Rattle.integers.proofs.Bits.{bit-length-iff}
 use Rattle.chains.specs.Steps.{Step, subtracting, readStep, stepsOf}
 use Rattle.chains.specs.Values.{start, stepValue, valuesOf}
 use Rattle.chains.specs.Sound.{stepAt}
 use Rattle.chains.specs.Counts.{isDoubling, countsOf}
-use Rattle.chains.specs.Largest.{largest, largestBits}
+use Rattle.chains.specs.Largest.{largestBits}
 use Rattle.chains.proofs.Counts.{doubling-after}
-use Rattle.chains.proofs.Largest.{largest-one, bitsAfter, bits-next, bits-all}
+use Rattle.chains.proofs.Largest.{largest-bits, bitsAfter, bits-next, bits-all}
 use Rattle.chains.proofs.Values.{valuesAfter, length-values, length-after, after-none, after-all, after-more}
 use Rattle.chains.proofs.Bytes.{length-steps, step-at}
 use Rattle.step_values.specs.Verdicts.{stepVerdict, grown, StepChecked}
@@ -101,19 +99,17 @@ module _ (number plan lent here : List ℕ) (n : ℕ) (u : Underway plan lent he
 -- no size has more bits than a value may
 pub underway-few : (plan lent here : List ℕ) (n : ℕ) → Underway plan lent here n → bitsAfter (stepsOf plan) n ≤ 8 * valueBytes
 underway-few plan lent here n u =
-    let values : List ℤ = valuesAfter (stepsOf plan) n in
-    let (i, h, e) = largest-one values (omega (arith, length-take (suc n) (valuesOf (stepsOf plan)), length-values (stepsOf plan))) in
-    bit-length-iff (largest values) (8 * valueBytes) .1 (rw e at (u .recording .representable i h .small))
+    let some : 0 < length (valuesAfter (stepsOf plan) n) = omega (arith, length-take (suc n) (valuesOf (stepsOf plan)), length-values (stepsOf plan)) in
+    largest-bits (valuesAfter (stepsOf plan) n) (8 * valueBytes) some .1 (λ i h. u .recording .representable i h .small)
 
--- the size recorded last adds its bit just above the largest before it
+-- once the next size is recorded, its bit just above the largest before it is added
 pub underway-bits : (plan lent here : List ℕ) (n bits more : ℕ) → Underway plan lent here (n + 1) → n < length plan / stepBytes → bits ≡ bitsAfter (stepsOf plan) n
     → IsGrown (n + 1) bits here more → more ≡ bitsAfter (stepsOf plan) (n + 1)
 underway-bits plan lent here n bits more u h e is =
     let within : n < length (stepsOf plan) = rw (length-steps plan) h in
-    let long : length (valuesAfter (stepsOf plan) (n + 1)) ≡ n + 1 + 1 = omega (arith, length-after (stepsOf plan) (n + 1) (omega arith)) in
-    let known = is lent (valuesAfter (stepsOf plan) (n + 1)) long (u .recording) in
+    let known = is lent (valuesAfter (stepsOf plan) (n + 1)) (omega (arith, length-after (stepsOf plan) (n + 1) (omega arith))) (u .recording) in
     rw (known, e, add-one) (sym (bits-next (stepsOf plan) n within))
 
--- after the last, it is that of all
-pub underway-widest : (plan : List ℕ) (n bits : ℕ) → n ≡ length plan / stepBytes → bits ≡ bitsAfter (stepsOf plan) n → bits ≡ largestBits (stepsOf plan)
-underway-widest plan n bits e b = let f : n ≡ length (stepsOf plan) = e ∙ sym (length-steps plan) in b ∙ rw f (bits-all (stepsOf plan))
+-- once all are, these are the bits of the largest size of the plan
+pub underway-largest : (plan : List ℕ) (n bits : ℕ) → n ≡ length plan / stepBytes → bits ≡ bitsAfter (stepsOf plan) n → bits ≡ largestBits (stepsOf plan)
+underway-largest plan n bits e b = let f : n ≡ length (stepsOf plan) = e ∙ sym (length-steps plan) in b ∙ rw f (bits-all (stepsOf plan))

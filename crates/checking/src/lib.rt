@@ -48,7 +48,7 @@ pub fn check(number: &[u8], plan: &[u8], space: &mut [u8]) -> Checked
     // Kept are the doublings, and all steps but the additions; the other counts follow at the end.
     let mut doublings = 0;
     let mut not_additions = 0;
-    // That of 1, at position 0. A step at most doubles the largest size, so it adds a bit or none.
+    // The bit length of 1, at position 0. A step at most doubles the largest size: one bit more, or none.
     let mut largest_bits = 1;
     let mut n = 0;
     while n < steps {

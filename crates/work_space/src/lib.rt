@@ -30,8 +30,7 @@ pub fn begin(space: &mut [u8])
     store(space, 0, 0, one());
 }
 
-// So many bits, and one more if the size at position i, where no more are recorded, has the bit above
-// them.
+// `bits`, and one more if the size at position i has a 1 just above them.
 pub fn grown_bits(space: &[u8], i: usize, bits: usize) -> usize
     requires { ⌜ recordBytes * i + recordBytes ≤ length (now space) ⌝ }
     requires { ⌜ bits < 64 * valueWords ⌝ }

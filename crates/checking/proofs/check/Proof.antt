@@ -1,5 +1,5 @@
 -- `checking::check` meets its contract: n steps are checked and counted. Assumes nothing.
-use mathlib.Core.Path.{_≡_, refl, sym, ap, _∙_}
+use mathlib.Core.Path.{_≡_, refl, sym, _∙_}
 use mathlib.Core.Bool.{cond}
 use mathlib.Core.List.{List}
 use Prim.Native.Nat.{ℕ, _+_, _-_, _/_, _≤_}
@@ -18,7 +18,7 @@ use Rattle.step_reading.specs.Fields.{asStep}
 use Rattle.records.specs.Recording.{Recording}
 use Rattle.checking.specs.Check.{roomFor, admission}
 use Rattle.checking.proofs.Admission.{Checkable, checkable-is}
-use Rattle.checking.proofs.Underway.{Underway, Done, done-answer, done-space, underway-none, underway-next, underway-stop, underway-counted, underway-end, underway-few, underway-bits, underway-widest}
+use Rattle.checking.proofs.Underway.{Underway, Done, done-answer, done-space, underway-none, underway-next, underway-stop, underway-counted, underway-end, underway-few, underway-bits, underway-largest}
 use Rattle.checking.proofs.Tally.{Holding, countsTo, holding-none, holding-few, holding-more, holding-all}
 use borrow.Author.Needs.{needs}
 use Rattle.checking.proofs.check.Statement.{statement}
@@ -224,7 +224,7 @@ returns-3 c =
     let e : at .loop .n ≡ length plan / stepBytes = omega arith in
     let all = rw e at (holding-all plan (at .loop .n) (at .loop .doublings) (at .loop .not-additions) (at .loop .inv .2) e) in
     let admission = passed (at .before .before .before .before .before) in
-    let bits = underway-widest plan (at .loop .n) (at .loop .largest-bits) e (at .loop .inv .3) in
+    let bits = underway-largest plan (at .loop .n) (at .loop .largest-bits) e (at .loop .inv .3) in
     ((λ i. Accepted (all i) (bits i)) ∙ done-answer admission done, done-space admission done)
 
 same-length-3 : tie.Need-same-length-3 Inv-loop μ-loop

@@ -1,6 +1,6 @@
 -- Our own plans are all accepted, with the forecast's counts (docs/RULES.md, 4.12) and the bits that the method gives (5.11), and have no hidden doubling
 -- (3.8). Assumes nothing.
-use mathlib.Core.Path.{_≡_, refl, sym, ap}
+use mathlib.Core.Path.{_≡_, refl}
 use mathlib.Core.List.{List}
 use Prim.Native.Nat.{ℕ, _≤_}
 use native.Mathlib.Omega.{arith}

@@ -46,7 +46,7 @@ abbrev pub countedFields : Counted → Counts
 countedFields (Made c) = record { refusal = 0; place = 0; doublings = c .doublings; additions = c .additions; subtractions = c .subtractions }
 countedFields (NotCounted r) = record { refusal = refusalNumber r; place = refusalPlace r; doublings = 0; additions = 0; subtractions = 0 }
 
--- the counts and what goes with them; a refusal has no bits
+-- the fields of the counts, and then the bits, which are 0 beside a refusal
 abbrev pub acceptedFields : Counts → ℕ → Accepted
 acceptedFields c bits = record {
   refusal = c .refusal;

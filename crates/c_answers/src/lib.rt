@@ -175,7 +175,7 @@ pub fn of_counted(answer: Counted) -> Counts
     }
 }
 
-// The bits beside the counts, and beside a refusal.
+// The counts or the refusal, with the bits that go with them.
 fn with_bits(counted: Counts, largest_bits: usize) -> Accepted
     ensures { λ r. ⌜ r ≡ acceptedFields counted «largest_bits» ⌝ }
 {

@@ -105,7 +105,7 @@ module _ (e : ℕ) (some : 0 < e) where
   pub binary-unhidden : NoHiddenDoubling (binarySteps e)
   binary-unhidden = binary-made e some (lt-suc-self e) .unhidden
 
-  -- no value is wider than the number
+  -- no size has more bits than the number
   pub binary-largest : largestBits (binarySteps e) ≡ bitLength e
   binary-largest = own-bits some (binary-made e some)
 

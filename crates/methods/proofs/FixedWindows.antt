@@ -225,7 +225,7 @@ module _ (e d : ℕ) (some : 0 < e) (wide : 1 ≤ d) where
       let a = all e d some wide small more in
       rw (mul-zero d, quotient-none e) at (made _ (e / 2 ^ (d * 0)) (a .holds) (a .latest (lower-window e d some wide more))))
 
-  -- so no value is wider than the number
+  -- so no size has more bits than the number
   pub fixed-largest : largestBits (fixedWindowSteps e d) ≡ bitLength e
   fixed-largest = own-bits some fixed-made
 

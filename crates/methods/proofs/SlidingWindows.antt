@@ -328,7 +328,7 @@ module _ (e d : ℕ) (some : 0 < e) (wide : 1 ≤ d) where
 
   -- in whose plan the table's last value stands
   table-largest : e % 2 ≡ 0 → bitLength e < d → largestBits (slidingWindowSteps e d) ≡ d
-  table-largest even l = omega (arith, wider, made-bits wide (sliding-made small (λ more. omega arith)))
+  table-largest even l = omega (arith, no-less, made-bits wide (sliding-made small (λ more. omega arith)))
     where
       small : e < 2 ^ d
       small = bit-length-iff e d .0 (omega arith)
@@ -336,8 +336,8 @@ module _ (e d : ℕ) (some : 0 < e) (wide : 1 ≤ d) where
       last-stands : (more : Entry d e → ⊥) → d - 1 < largestBits (scanFrom e d (top e))
       last-stands more = stands-bits _ _ (2 ^ d - 1) (scanned small more (omega arith) .stands (2 ^ d - 1) (last-entry d wide)) (omega (arith, halved d wide, pow-pos (d - 1)))
 
-      wider : d - 1 < largestBits (slidingWindowSteps e d)
-      wider = entry-or-scan (λ s c. d - 1 < largestBits s) (λ t. absurd (omega (arith, t .odd))) last-stands
+      no-less : d - 1 < largestBits (slidingWindowSteps e d)
+      no-less = entry-or-scan (λ s c. d - 1 < largestBits s) (λ t. absurd (omega (arith, t .odd))) last-stands
 
   pub sliding-largest : largestBits (slidingWindowSteps e d) ≡ slidingLargestBits e d
   sliding-largest =

@@ -14,7 +14,7 @@ slidingLargestBits e d = cond (eqb (e % 2) 0 && ltb (bitLength e) d) d (bitLengt
 abbrev pub nafLargestBits : ℕ → ℕ
 nafLargestBits e = cond (ltb 1 e && eqb (e + 1) (2 ^ bitLength e)) (bitLength e + 1) (bitLength e)
 
--- any other plan has no value wider than the number; a line a method
+-- in any other plan no size has more bits than the number; a line a method
 abbrev pub largestBitsBy : Method → ℕ → ℕ
 largestBitsBy Binary e = bitLength e
 largestBitsBy (FixedWindows d) e = bitLength e

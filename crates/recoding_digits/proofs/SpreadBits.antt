@@ -7,12 +7,11 @@ use native.Mathlib.Decide.{decLt}
 use native.Mathlib.Omega.{arith}
 use lib.Bits.{bitAnd, bitXor, xor-block}
 use lib.Dec.{eqb}
-use lib.ListN.{length, getD, List·getD-eq-default}
 use Rattle.integers.specs.Bits.{bit}
 use Rattle.integers.specs.Positional.{positional, bytesValue}
 use Rattle.integers.specs.Tabulate.{tabulate}
 use Rattle.integers.proofs.Bits.{bit-small, low-bits, power-of-bytes}
-use Rattle.integers.proofs.Positional.{Below, positional-at, positional-lt}
+use Rattle.integers.proofs.Positional.{positional-at, positional-lt}
 use Rattle.integers.proofs.Tabulate.{length-tabulate, tabulate-same, getD-tabulate, below-tabulate, positional-tabulate}
 use Rattle.recoding_digits.specs.Internal.{difference}
 

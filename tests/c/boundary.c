@@ -194,8 +194,8 @@ static int changed_only(size_t first) {
     return 1;
 }
 
-/* The check of steps as text, at most as many as there is room for: this refusal at this place, or these counts and as
- * many bits of the largest size; records with these values, and no other byte of the lent buffer. */
+/* The check of steps as text, at most as many as there is room for: this refusal at this place, or these counts and
+ * this many bits; records with these values, and no other byte of the lent buffer. */
 #define STEPS (ROOM / LESMUTKA_RECORD_BYTES - 1)
 static void checked(const char *text, uint8_t number, size_t refusal, size_t place, const size_t counts[3],
                     size_t largest_bits, const int *values, size_t records) {

@@ -60,7 +60,7 @@ pub static VERBS: [Verb; 9] = [
         name: "check",
         words: "NUMBER FILE",
         most: 3,
-        about: "whether a plan is sound and ends at the number, and the bits it needs",
+        about: "whether a plan is sound and ends at the number, and its largest size",
     },
     Verb {
         name: "show",

@@ -7,7 +7,7 @@ mod memory;
 use lesmutka::sys;
 use memory::Lent;
 use reference::generate::{
-    bit_length, hidden_doublings, largest_bits, largest_of, methods, one_bit_apart, trimmed, Generator, Rng,
+    bit_length, bits_by_sign, hidden_doublings, largest_of, methods, one_bit_apart, trimmed, Generator, Rng,
 };
 use reference::refusal::{HIGHEST_BYTE_IS_ZERO, LAST, MALFORMED_STEP, WRONG_END};
 use reference::{limits, Refusal};
@@ -312,7 +312,7 @@ fn check_one(rng: &mut Rng, tally: &mut Tally, number: &[u8], plan: &[u8], room:
     if tally.answered > answered {
         let hidden = hidden_doublings(plan.part(), left.part());
         tally.hidden = [tally.hidden[0] + hidden[0], tally.hidden[1] + hidden[1]];
-        let [above, below] = largest_bits(plan.part(), left.part());
+        let [above, below] = bits_by_sign(plan.part(), left.part());
         tally.largest[0] += usize::from(above.max(below) > bit_length(number.part()));
         tally.largest[1] += usize::from(below > above);
     }

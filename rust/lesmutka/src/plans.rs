@@ -95,7 +95,7 @@ impl fmt::Display for Counts {
 ///
 /// let mut room = [0; PLAN_ROOM];
 /// let plan = plan(&[7], Method::Naf, &mut room)?;
-/// // 1, 2, 4, 8, 7: 8 has a bit more than the number.
+/// // 1, 2, 4, 8, 7: 8 has one bit more than the number.
 /// let accepted = check(&[7], plan.bytes, &mut [0; work_space(4)])?;
 /// assert_eq!(accepted.counts, plan.counts);
 /// assert_eq!(accepted.largest_bits, 4);

@@ -8,7 +8,7 @@
 //!
 //! writes the two files again.
 
-use crate::generate::{largest_of, methods};
+use crate::generate::{largest_of, methods, power_of_two};
 use crate::limits::*;
 use crate::refusal::{Refusal, LAST};
 use crate::{check, clean, forecast, plan, read_back, recode, text, Accepted, Counts, Recoder};
@@ -206,13 +206,6 @@ fn ones(k: usize) -> Vec<u8> {
     if k % 8 > 0 {
         number.push((1 << (k % 8)) - 1);
     }
-    number
-}
-
-/// 2^k.
-fn power_of_two(k: usize) -> Vec<u8> {
-    let mut number = vec![0; k / 8];
-    number.push(1 << (k % 8));
     number
 }
 
@@ -856,7 +849,7 @@ pub const EDGES: [usize; 8] = [8, 9, 63, 64, 65, NUMBER_BITS, NUMBER_BITS + 1, V
 pub const HIDDEN: &str = "Equal values added and opposite ones subtracted, at two positions, and what is near";
 pub const NEAR: &str = "Values that differ in the lowest bit, in a middle byte, in the highest byte, and not at all";
 pub const LARGEST: &str = "The largest size: of the empty plan, at the end, on the way, below zero";
-pub const LARGEST_NAF: &str = "2^k - 1 by NAF, whose largest size has a bit more, then 2^k - 2 and a power of two";
+pub const LARGEST_NAF: &str = "2^k - 1 by NAF, whose largest size has one bit more, then 2^k - 2 and a power of two";
 pub const LARGEST_WINDOWS: &str =
     "Even numbers of fewer bits than a sliding window, whose largest size is the table's; others; fixed windows";
 pub const LARGEST_BITS: &str =

@@ -963,7 +963,7 @@ pub fn largest_of(bits: usize, is_ones: bool, is_below_zero: bool) -> Vec<u8> {
 
 /// The bits of the largest size above zero and of the largest below zero, 0 if
 /// there is none, by the records that the check of a plan left.
-pub fn largest_bits(plan: &[u8], space: &[u8]) -> [usize; 2] {
+pub fn bits_by_sign(plan: &[u8], space: &[u8]) -> [usize; 2] {
     let mut largest = [0; 2];
     for record in space.chunks_exact(RECORD_BYTES).take(plan.len() / STEP_BYTES + 1) {
         let sign = usize::from(record[0]);
@@ -985,7 +985,7 @@ pub fn bit_length(number: &[u8]) -> usize {
     }
 }
 
-fn power_of_two(place: usize) -> Vec<u8> {
+pub(crate) fn power_of_two(place: usize) -> Vec<u8> {
     let mut number = vec![0; place / 8 + 1];
     number[place / 8] = 1 << (place % 8);
     number

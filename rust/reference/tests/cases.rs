@@ -3,7 +3,7 @@
 //! agrees with the rules and with the tables of Bosma, "Signed bits and fast exponentiation".
 
 use reference::cases::*;
-use reference::generate::largest_bits;
+use reference::generate::bits_by_sign;
 use reference::limits::{NUMBER_BITS, NUMBER_BYTES, STEP_BYTES, VALUE_BITS};
 use reference::refusal::{HIGHEST_BYTE_IS_ZERO, LAST, MALFORMED_STEP, NUMBER_TOO_LONG, WRONG_END};
 
@@ -197,7 +197,7 @@ fn the_bits_of_stored_records() {
             plan => bytes(plan),
         };
         assert_eq!(plan.len() % STEP_BYTES, 0);
-        let [above, below] = largest_bits(&plan, &bytes(records));
+        let [above, below] = bits_by_sign(&plan, &bytes(records));
         assert_eq!(stored.field(5), above.max(below), "{:?}", stored.request);
     }
     assert!(seen[0] > 50 && seen[1] > 50, "{:?}", seen);

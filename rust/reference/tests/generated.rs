@@ -4,7 +4,7 @@
 
 mod common;
 
-use reference::generate::{hidden_doublings, largest_bits, largest_of, methods, one_bit_apart, trimmed, Generator};
+use reference::generate::{bits_by_sign, hidden_doublings, largest_of, methods, one_bit_apart, trimmed, Generator};
 use reference::limits::*;
 use reference::refusal::{HIGHEST_BYTE_IS_ZERO, LAST, WRONG_END};
 use reference::*;
@@ -243,7 +243,7 @@ fn check_cases() {
         let mut records = space.chunks(RECORD_BYTES).take(steps + 1);
         match result {
             Ok(accepted) => {
-                let [above, below] = largest_bits(&case.plan, &space);
+                let [above, below] = bits_by_sign(&case.plan, &space);
                 assert_eq!(accepted.largest_bits, above.max(below), "{:?}", case);
                 let bits = common::Big::from_bytes(&case.number).bits().len();
                 assert!((bits..=VALUE_BITS).contains(&accepted.largest_bits), "{:?}", case);
@@ -312,7 +312,7 @@ fn largest_sizes() {
             assert_eq!(result, common::check(&[2], &plan, &mut expected_space), "{}", bits);
             assert!(space == expected_space, "{}", bits);
             assert_eq!(result.map(|accepted| accepted.largest_bits), Ok(bits));
-            let [above, below] = largest_bits(&plan, &space);
+            let [above, below] = bits_by_sign(&plan, &space);
             let expected = if is_below_zero { [bits - 1, bits] } else { [bits, 0] };
             assert_eq!([above, below], expected, "{}", bits);
         }

@@ -59,7 +59,9 @@ begin-requires : tie.Need-begin-requires Inv-loop μ-loop
 begin-requires c κs = omega (arith, admitted (c .before) .fits)
 
 loop-holds : tie.Need-loop-holds Inv-loop μ-loop
-loop-holds c = (search needs, refl, holding-none _, sym (bits-start _), λ lent w. underway-none _ lent _ w)
+loop-holds c =
+    let plan = c .before .before .before .before .before .before .before .before .before .before .args .plan .now in
+    (search needs, refl, holding-none plan, sym (bits-start (stepsOf plan)), λ lent w. underway-none plan lent _ w)
 
 -- at each turn: what was lent keeps its length, which is enough, and checking is underway in it
 kept : (c : tie.At-loop Inv-loop μ-loop) → length (c .loop .space) ≡ length (c .before .before .before .before .before .before .before .before .before .before .before .args .space .now)

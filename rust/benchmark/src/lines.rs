@@ -12,7 +12,10 @@ const RUNS: usize = 5;
 /// A request as it is written for a number, least significant byte first.
 type Request = fn(&[u8]) -> String;
 
-const REQUESTS: [(&str, Request); 5] = [
+const REQUESTS: [(&str, Request); 6] = [
+    ("forecast 0x.. binary", |number| {
+        format!("forecast {} binary", hexadecimal(number))
+    }),
     ("forecast 0x.. naf", |number| {
         format!("forecast {} naf", hexadecimal(number))
     }),

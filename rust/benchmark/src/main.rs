@@ -4,7 +4,9 @@
 //! runs every job once on both sides, one after the other, so that a busy machine strikes both. The
 //! plain side is `reference`, written from the papers: no allocation, words of 64 bits, ordinary
 //! safe Rust. For take, whose work is as small as its call, there is a plain side that was made as
-//! fast as its author could, called and inlined (`tuned`).
+//! fast as its author could, called and inlined (`tuned`). For forecasts by method 1, which are as
+//! short, there is a table of their own (`forecasts`).
+mod forecasts;
 mod lines;
 mod tuned;
 
@@ -27,11 +29,11 @@ const METHODS: [(&str, u32, u32); 4] = [
     ("NAF", 4, 0),
 ];
 
-/// One job on both sides: each runs the i-th input.
+/// One job on both sides: each runs all inputs.
 struct Job<'a> {
     name: String,
-    proved: Box<dyn FnMut(usize) + 'a>,
-    plain: Box<dyn FnMut(usize) + 'a>,
+    proved: Box<dyn FnMut() + 'a>,
+    plain: Box<dyn FnMut() + 'a>,
     proved_times: Vec<f64>,
     plain_times: Vec<f64>,
 }
@@ -40,8 +42,8 @@ impl<'a> Job<'a> {
     fn new(name: &str, proved: impl FnMut(usize) + 'a, plain: impl FnMut(usize) + 'a) -> Job<'a> {
         Job {
             name: name.to_string(),
-            proved: Box::new(proved),
-            plain: Box::new(plain),
+            proved: each(proved),
+            plain: each(plain),
             proved_times: Vec::new(),
             plain_times: Vec::new(),
         }
@@ -59,8 +61,8 @@ impl<'a> Job<'a> {
     }
 
     fn print(&mut self) {
-        let proved = spread(&mut self.proved_times);
-        let plain = spread(&mut self.plain_times);
+        let proved = Spread::of(&mut self.proved_times);
+        let plain = Spread::of(&mut self.plain_times);
         println!(
             "{:<27} {:>8.0} {:>8.0}   {:>8.0} {:>8.0}   {:>5.2} {:>6.2}",
             self.name,
@@ -74,18 +76,23 @@ impl<'a> Job<'a> {
     }
 }
 
-/// Keeps an answer from being left out.
+/// Keeps an answer from being left out: it is taken to be read, and is not copied, which would take as
+/// long as the shortest calls. (`std::hint::black_box` is newer than Rust 1.63.)
+#[inline(always)]
 fn keep<T: Copy>(answer: T) {
-    // SAFETY: it reads a local variable.
-    unsafe { std::ptr::read_volatile(&answer) };
+    // SAFETY: it does nothing.
+    unsafe { std::arch::asm!("/* {0} */", in(reg) &answer, options(nostack, preserves_flags)) };
+}
+
+/// What runs the i-th input, for all inputs.
+fn each<'a>(mut run: impl FnMut(usize) + 'a) -> Box<dyn FnMut() + 'a> {
+    Box::new(move || (0..INPUTS).for_each(&mut run))
 }
 
 /// Nanoseconds for one input, over all inputs.
-fn time(run: &mut dyn FnMut(usize)) -> f64 {
+fn time(run: &mut dyn FnMut()) -> f64 {
     let start = Instant::now();
-    for i in 0..INPUTS {
-        run(i);
-    }
+    run();
     start.elapsed().as_nanos() as f64 / INPUTS as f64
 }
 
@@ -94,11 +101,13 @@ struct Spread {
     median: f64,
 }
 
-fn spread(times: &mut [f64]) -> Spread {
-    times.sort_by(f64::total_cmp);
-    Spread {
-        best: times[0],
-        median: times[times.len() / 2],
+impl Spread {
+    fn of(times: &mut [f64]) -> Spread {
+        times.sort_by(f64::total_cmp);
+        Spread {
+            best: times[0],
+            median: times[times.len() / 2],
+        }
     }
 }
 
@@ -210,6 +219,7 @@ fn agree(inputs: &Inputs, i: usize) {
         Ok((value.sign as u8, value.length)),
         reference::read_back(canonical, &mut b)
     );
+    forecasts::agree(number);
     for (_, method, width) in METHODS {
         let forecast = sys::forecast(number, method, width);
         assert_eq!(sys::plan(number, method, width, &mut a), forecast);
@@ -353,5 +363,6 @@ fn main() {
             job.print();
         }
     }
+    forecasts::print(&sizes);
     lines::print(&sizes);
 }

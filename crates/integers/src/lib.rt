@@ -71,18 +71,19 @@ pub fn bit_length(number: &[u8]) -> usize
     8 * (n - 1) + (64 - u64::leading_zeros(byte_at(number, n - 1)) as usize)
 }
 
-// How many bits of a number are 1.
+// How many bits of a number are 1: those of its whole words, and those of the bytes above them.
 pub fn ones(number: &[u8]) -> usize
     requires { ⌜ length (now number) ≤ numberBytes ⌝ }
     ensures { λ r. ⌜ r ≡ Count.ones (bytesValue (now (number .entry))) ⌝ }
 {
+    let words = number.len() / 8;
     let mut total = 0;
     let mut k = 0;
-    while k < NUMBER_WORDS {
-        total += u64::count_ones(word_at(number, 8 * k)) as usize;
+    while k < words {
+        total += u64::count_ones(whole_word_at(number, 8 * k)) as usize;
         k += 1;
     }
-    total
+    total + u64::count_ones(word_of(number, 8 * words, number.len() % 8)) as usize
 }
 
 // The value of `count` bytes from `from` on.

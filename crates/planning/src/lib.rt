@@ -47,13 +47,17 @@ fn write(number: &[u8], method: Method, out: &mut [u8])
     }
 }
 
-// The counts of the steps of a plan, without the plan.
+// The counts of the steps of a plan, without the plan. For method 1 they take less time than the
+// memory through which `counts` would answer them.
 pub fn forecast(number: &[u8], method: u32, width: u32) -> Counted
     ensures { λ r. ⌜ r ≡ forecastAnswer (now (number .entry)) method width ⌝ }
 {
     match requested(number, method, width) {
         Chosen::Refused(refusal) => Counted::Refused(refusal),
-        Chosen::Method(chosen) => Counted::Steps(counts(number, chosen)),
+        Chosen::Method(chosen) => match chosen {
+            Method::Binary => Counted::Steps(method_binary::counts(number)),
+            _ => Counted::Steps(counts(number, chosen)),
+        },
     }
 }
 

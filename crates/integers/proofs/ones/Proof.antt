@@ -3,7 +3,7 @@ use mathlib.Core.Path.{_≡_}
 use Prim.Native.Nat.{_≤_, _+_, _*_, _-_, _/_, _%_}
 use native.Mathlib.Omega.{arith}
 use lib.Count.{ones, ones-le}
-use lib.ListN.{length, drop, length-drop}
+use lib.ListN.{length, take, drop, length-drop}
 use lib.Seq.{take-all}
 use Rattle.integers.specs.Positional.{bytesValue}
 use Rattle.integers.proofs.Counting.{ones-word}
@@ -49,7 +49,8 @@ loop-again : tie.Need-loop-again Inv-loop μ-loop
 loop-again c =
     let number = c .before .before .before .before .args .number .now in
     let loop = c .before .before .loop in
-    let more = rw (← c .whole-word-at .ensures) at (ones-word number (loop .k) (λ i. c .before .before .before .shared-slice-known .given i .fits)) in
+    let word : c .whole-word-at .result ≡ bytesValue (take 8 (drop (8 * loop .k) number)) = c .whole-word-at .ensures in
+    let more = rw (← word) at (ones-word number (loop .k) (λ i. c .before .before .before .shared-slice-known .given i .fits)) in
     (search needs, omega (arith, word-ones c), omega (arith, loop .inv .2, more))
 
 mul-word-of : tie.Need-mul-word-of Inv-loop μ-loop
@@ -70,9 +71,9 @@ returns c =
     let loop = c .before .before .loop in
     let k-is-words : loop .k ≡ length number / 8 = omega arith in
     let rest = drop (8 * (length number / 8)) number in
+    let word : c .word-of .result ≡ bytesValue (take (length number % 8) rest) = c .word-of .ensures in
     let all = take-all (length number % 8) rest (rw length-drop (omega arith)) in
-    let word = rw all at (c .word-of .ensures) in
-    omega (arith, rw (k-is-words, ← word) at (loop .inv .2))
+    omega (arith, rw (k-is-words, ← all, ← word) at (loop .inv .2))
 
 pub ones-spec : {M : Type 1} → statement M
 ones-spec =

@@ -47,8 +47,8 @@ fn write(number: &[u8], method: Method, out: &mut [u8])
     }
 }
 
-// The counts of the steps of a plan, without the plan. For method 1 they take less time than the
-// memory through which `counts` would answer them.
+// The counts of the steps of a plan, without the plan. Those of method 1 do not go through `counts`:
+// to hand them over in memory takes as long as to count them.
 pub fn forecast(number: &[u8], method: u32, width: u32) -> Counted
     ensures { λ r. ⌜ r ≡ forecastAnswer (now (number .entry)) method width ⌝ }
 {

@@ -199,6 +199,7 @@ pub fn plan<'a>(number: &[u8], method: Method, out: &'a mut [u8]) -> Result<Plan
 /// let steps = |method: &Method| forecast(&[0xff; 32], *method).map_or(usize::MAX, |counts| counts.total());
 /// assert_eq!(Method::ALL.iter().copied().min_by_key(steps), Some(Method::Naf));
 /// ```
+#[inline]
 pub fn forecast(number: &[u8], method: Method) -> Result<Counts, Refusal> {
     Counts::try_from(sys::forecast(number, method.number(), method.width()))
 }

@@ -37,6 +37,7 @@ impl Counts {
 impl TryFrom<sys::Counts> for Counts {
     type Error = Refusal;
 
+    #[inline]
     fn try_from(answer: sys::Counts) -> Result<Counts, Refusal> {
         Refusal::of(answer.refusal, answer.place)?;
         Ok(Counts {

@@ -114,6 +114,7 @@ impl Refusal {
     }
 
     /// The refusal of an answer, if it has one.
+    #[inline]
     pub(crate) fn of(refusal: usize, place: usize) -> Result<(), Refusal> {
         Err(match refusal {
             0 => return Ok(()),

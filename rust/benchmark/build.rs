@@ -8,19 +8,16 @@ fn main() {
     let folder = env::var("OUT_DIR").expect("a folder from cargo");
     let object = folder.clone() + "/forecasts.o";
     let archive = folder.clone() + "/libforecasts.a";
-    run(
-        "cc",
-        &[
-            "-std=c99",
-            "-O2",
-            "-fPIC",
-            "-I../../include",
-            "-c",
-            "src/forecasts.c",
-            "-o",
-            &object,
-        ],
-    );
+    let flags = [
+        "-std=c99",
+        "-Wall",
+        "-Wextra",
+        "-Werror",
+        "-O2",
+        "-fPIC",
+        "-I../../include",
+    ];
+    run("cc", &[&flags[..], &["-c", "src/forecasts.c", "-o", &object]].concat());
     run("ar", &["crs", &archive, &object]);
     println!("cargo:rustc-link-search=native={}", folder);
     println!("cargo:rustc-link-lib=static=forecasts");

@@ -1,5 +1,5 @@
-//! Forecasts by method 1: the library as C and as Rust call it, beside plain Rust that tests each bit,
-//! plain Rust that counts by words, and `reference`.
+//! Forecasts by method 1: the library as C and as Rust call it, beside plain Rust that counts by words,
+//! `reference`, and plain Rust that tests or adds each bit.
 use crate::{keep, Inputs, Spread, ROUNDS};
 use lesmutka::Method;
 use reference::limits::NUMBER_BYTES;
@@ -7,11 +7,11 @@ use reference::refusal::{HIGHEST_BYTE_IS_ZERO, NUMBER_IS_ZERO, NUMBER_TOO_LONG};
 use reference::{Counts, Refusal};
 use std::time::Instant;
 
-/// How often the numbers are run between two looks at the clock.
+/// How often all numbers are forecast between two looks at the clock.
 const PASSES: usize = 16;
 
 extern "C" {
-    fn forecasts_from_c(numbers: *const *const u8, count: usize, bytes: usize);
+    fn forecasts_from_c(numbers: *const *const u8, count: usize, bytes: usize) -> usize;
 }
 
 /// Refusals 1, 13 and 2.
@@ -25,28 +25,9 @@ fn admitted(number: &[u8]) -> Result<(), Refusal> {
     Err(Refusal { number, place: 0 })
 }
 
-/// A test for each bit.
-pub fn by_bits(number: &[u8]) -> Result<Counts, Refusal> {
-    admitted(number)?;
-    let (mut top, mut ones) = (0, 0);
-    for (i, byte) in number.iter().enumerate() {
-        for bit in 0..8 {
-            if byte >> bit & 1 == 1 {
-                top = 8 * i + bit;
-                ones += 1;
-            }
-        }
-    }
-    Ok(Counts {
-        doublings: top,
-        additions: ones - 1,
-        subtractions: 0,
-    })
-}
-
 /// The ones of each word, and the leading zeros of the highest byte.
 #[inline(always)]
-pub fn by_words(number: &[u8]) -> Result<Counts, Refusal> {
+fn by_words(number: &[u8]) -> Result<Counts, Refusal> {
     admitted(number)?;
     let mut ones = 0;
     let mut words = number.chunks_exact(8);
@@ -64,71 +45,118 @@ pub fn by_words(number: &[u8]) -> Result<Counts, Refusal> {
     })
 }
 
-/// By words, as a call, which is what a linked library's is.
+/// The same as a call, which is what a linked library's is.
 #[inline(never)]
 fn by_words_called(number: &[u8]) -> Result<Counts, Refusal> {
     by_words(number)
 }
 
-/// One way to forecast all numbers, and the nanoseconds for a number in each round.
+/// A test for each bit.
+#[inline(never)]
+fn by_bits(number: &[u8]) -> Result<Counts, Refusal> {
+    admitted(number)?;
+    let (mut top, mut ones) = (0, 0);
+    for (i, byte) in number.iter().enumerate() {
+        for bit in 0..8 {
+            if byte >> bit & 1 == 1 {
+                top = 8 * i + bit;
+                ones += 1;
+            }
+        }
+    }
+    Ok(Counts {
+        doublings: top,
+        additions: ones - 1,
+        subtractions: 0,
+    })
+}
+
+/// Each bit added, and the top one looked for from above: what a compiler can do many bits at a time.
+#[inline(never)]
+fn by_added_bits(number: &[u8]) -> Result<Counts, Refusal> {
+    admitted(number)?;
+    let bit = |place: usize| usize::from(number[place / 8] >> (place % 8) & 1);
+    let mut ones = 0;
+    for byte in number {
+        for place in 0..8 {
+            ones += usize::from(byte >> place & 1);
+        }
+    }
+    let mut top = 8 * number.len() - 1;
+    while bit(top) == 0 {
+        top -= 1;
+    }
+    Ok(Counts {
+        doublings: top,
+        additions: ones - 1,
+        subtractions: 0,
+    })
+}
+
+/// How many steps a plan has; none where it is refused.
+fn steps(answer: Result<Counts, Refusal>) -> usize {
+    answer.map_or(0, Counts::total)
+}
+
+/// A way to forecast all numbers, which answers the steps of all plans together, and the nanoseconds for
+/// a number in each round.
 struct Way<'a> {
     name: &'static str,
-    run: Box<dyn FnMut() + 'a>,
+    forecast: Box<dyn Fn() -> usize + 'a>,
     times: Vec<f64>,
 }
 
 impl<'a> Way<'a> {
-    fn new(name: &'static str, run: impl FnMut() + 'a) -> Way<'a> {
+    fn new(name: &'static str, forecast: impl Fn() -> usize + 'a) -> Way<'a> {
         Way {
             name,
-            run: Box::new(run),
+            forecast: Box::new(forecast),
             times: Vec::new(),
         }
     }
 
-    /// By a call for each number.
-    fn each<T: Copy>(name: &'static str, inputs: &'a Inputs, forecast: impl Fn(&[u8]) -> T + 'a) -> Way<'a> {
-        Way::new(name, move || {
-            for number in &inputs.numbers {
-                keep(forecast(number));
-            }
-        })
+    /// By the steps of each number.
+    fn each(name: &'static str, inputs: &'a Inputs, steps: impl Fn(&[u8]) -> usize + 'a) -> Way<'a> {
+        Way::new(name, move || inputs.numbers.iter().map(|number| steps(number)).sum())
     }
 
     fn round(&mut self, numbers: usize) {
         let start = Instant::now();
         for _ in 0..PASSES {
-            (self.run)();
+            keep((self.forecast)());
         }
-        self.times
-            .push(start.elapsed().as_nanos() as f64 / (PASSES * numbers) as f64);
+        let time = start.elapsed().as_nanos() as f64;
+        self.times.push(time / (PASSES * numbers) as f64);
     }
 }
 
-/// All ways on these inputs; the first is what the others are compared with.
+/// All ways on these inputs; the others are compared with the first.
 fn ways(inputs: &Inputs) -> Vec<Way<'_>> {
     let pointers: Vec<*const u8> = inputs.numbers.iter().map(|number| number.as_ptr()).collect();
-    let from_c = move || {
-        // SAFETY: each pointer stands for that many bytes, which the inputs keep.
-        unsafe { forecasts_from_c(pointers.as_ptr(), pointers.len(), inputs.bytes) }
-    };
     vec![
-        Way::new("proved, from C", from_c),
-        Way::each("proved, from Rust", inputs, |number| {
-            lesmutka::forecast(number, Method::Binary)
+        // SAFETY: each pointer stands for that many bytes, which the inputs keep.
+        Way::new("proved, from C", move || unsafe {
+            forecasts_from_c(pointers.as_ptr(), pointers.len(), inputs.bytes)
         }),
-        Way::each("plain Rust, by words", inputs, by_words_called),
-        Way::each("same, and inlined", inputs, by_words),
-        Way::each("rust/reference", inputs, |number| reference::forecast(number, 1, 0)),
-        Way::each("plain Rust, bit by bit", inputs, by_bits),
+        Way::each("proved, from Rust", inputs, |number| {
+            lesmutka::forecast(number, Method::Binary).map_or(0, lesmutka::Counts::total)
+        }),
+        Way::each("plain Rust, by words", inputs, |number| steps(by_words_called(number))),
+        Way::each("same, and inlined", inputs, |number| steps(by_words(number))),
+        Way::each("rust/reference", inputs, |number| {
+            steps(reference::forecast(number, 1, 0))
+        }),
+        Way::each("plain Rust, bit by bit", inputs, |number| steps(by_bits(number))),
+        Way::each("same, without a branch", inputs, |number| steps(by_added_bits(number))),
     ]
 }
 
-/// All of them answer the same.
-pub fn agree(number: &[u8]) {
-    let answer = reference::forecast(number, 1, 0);
-    assert_eq!(by_bits(number), answer);
-    assert_eq!(by_words(number), answer);
+/// What is timed is done: all ways answer the same.
+pub fn agree(inputs: &Inputs) {
+    let ways = ways(inputs);
+    for way in &ways {
+        assert_eq!((way.forecast)(), (ways[0].forecast)(), "{}", way.name);
+    }
 }
 
 pub fn print(sizes: &[Inputs]) {
@@ -142,29 +170,32 @@ pub fn print(sizes: &[Inputs]) {
         }
     }
     println!(
-        "\nforecasts by method 1: {} rounds over {} numbers",
-        ROUNDS,
-        PASSES * sizes[0].numbers.len()
+        "\nforecasts by method 1: {} rounds, {} times over the numbers",
+        ROUNDS, PASSES
     );
     for (inputs, table) in sizes.iter().zip(&mut tables) {
         println!(
-            "\n{:<24} {:>16} {:>16} {:>16}",
+            "\n{:<24} {:>17} {:>19} {:>16}",
             format!("numbers of {} bytes", inputs.bytes),
-            "ns: best, median",
+            "ns a call",
             "times as long",
-            "a second"
+            "calls a second"
+        );
+        println!(
+            "{:<24} {:>8} {:>8} {:>10} {:>8} {:>16}",
+            "way", "best", "median", "best", "median", "median"
         );
         let first = Spread::of(&mut table[0].times);
         for way in table {
-            let spread = Spread::of(&mut way.times);
+            let own = Spread::of(&mut way.times);
             println!(
-                "{:<24} {:>8.1} {:>7.1} {:>8.2} {:>7.2} {:>16.0}",
+                "{:<24} {:>8.1} {:>8.1} {:>10.2} {:>8.2} {:>16.0}",
                 way.name,
-                spread.best,
-                spread.median,
-                spread.best / first.best,
-                spread.median / first.median,
-                1e9 / spread.median
+                own.best,
+                own.median,
+                own.best / first.best,
+                own.median / first.median,
+                1e9 / own.median
             );
         }
     }
@@ -179,11 +210,22 @@ mod tests {
     fn the_plain_forecasts_answer_as_the_reference_does() {
         let rng = &mut Rng::new(2);
         for bytes in 0..=NUMBER_BYTES + 1 {
-            for _ in 0..100 {
-                agree(&rng.bytes(bytes));
+            let mut numbers = vec![vec![0; bytes], vec![0xff; bytes]];
+            numbers.extend((0..100).map(|_| rng.bytes(bytes)));
+            for number in numbers {
+                let answer = reference::forecast(&number, 1, 0);
+                assert_eq!(by_words(&number), answer);
+                assert_eq!(by_bits(&number), answer);
+                assert_eq!(by_added_bits(&number), answer);
             }
-            agree(&vec![0; bytes]);
-            agree(&vec![0xff; bytes]);
+        }
+    }
+
+    #[test]
+    fn all_ways_agree() {
+        let rng = &mut Rng::new(3);
+        for bytes in 1..=NUMBER_BYTES {
+            agree(&Inputs::new(rng, bytes));
         }
     }
 }

@@ -219,7 +219,6 @@ fn agree(inputs: &Inputs, i: usize) {
         Ok((value.sign as u8, value.length)),
         reference::read_back(canonical, &mut b)
     );
-    forecasts::agree(number);
     for (_, method, width) in METHODS {
         let forecast = sys::forecast(number, method, width);
         assert_eq!(sys::plan(number, method, width, &mut a), forecast);
@@ -338,6 +337,7 @@ fn main() {
         for i in 0..INPUTS {
             agree(inputs, i);
         }
+        forecasts::agree(inputs);
     }
     let mut tables: Vec<Vec<Job>> = sizes.iter().map(jobs).collect();
     for round in 0..ROUNDS {

@@ -294,6 +294,15 @@ fn forecast(cases: &mut Generator, rng: &mut Rng) -> Tally {
             forecast_one(rng, &mut tally, &number, method, width);
         }
     }
+    // Method 1 counts ones by words: each bit alone below the top one, for every length.
+    for bytes in 1..=lesmutka::NUMBER_BYTES {
+        for place in 0..8 * bytes {
+            let mut number = vec![0; bytes];
+            number[bytes - 1] = 0x80;
+            number[place / 8] |= 1 << (place % 8);
+            forecast_one(rng, &mut tally, &number, 1, 0);
+        }
+    }
     tally
 }
 

@@ -123,7 +123,7 @@ impl<'a> Way<'a> {
     fn round(&mut self, numbers: usize) {
         let start = Instant::now();
         for _ in 0..PASSES {
-            keep((self.forecast)());
+            keep(&(self.forecast)());
         }
         let time = start.elapsed().as_nanos() as f64;
         self.times.push(time / (PASSES * numbers) as f64);

@@ -76,12 +76,12 @@ impl<'a> Job<'a> {
     }
 }
 
-/// Keeps an answer from being left out: it is taken to be read, and is not copied, which would take as
-/// long as the shortest calls. (`std::hint::black_box` is newer than Rust 1.63.)
+/// Keeps an answer from being left out: it is taken to be read where it stands, since a copy can take
+/// longer than the call. (`std::hint::black_box` is newer than Rust 1.63.)
 #[inline(always)]
-fn keep<T: Copy>(answer: T) {
+fn keep<T>(answer: &T) {
     // SAFETY: it does nothing.
-    unsafe { std::arch::asm!("/* {0} */", in(reg) &answer, options(nostack, preserves_flags)) };
+    unsafe { std::arch::asm!("/* {0} */", in(reg) answer, options(nostack, preserves_flags)) };
 }
 
 /// What runs the i-th input, for all inputs.
@@ -266,66 +266,66 @@ fn jobs(inputs: &Inputs) -> Vec<Job<'_>> {
     let (mut a, mut b) = (vec![0; ROOM], vec![0; ROOM]);
     jobs.push(Job::new(
         "recode",
-        move |i| keep(sys::recode(&numbers[i], &mut a)),
-        move |i| keep(reference::recode(&numbers[i], &mut b)),
+        move |i| keep(&sys::recode(&numbers[i], &mut a)),
+        move |i| keep(&reference::recode(&numbers[i], &mut b)),
     ));
     jobs.push(Job::new(
         "take, all digits",
-        move |i| keep(proved_takes(&numbers[i])),
-        move |i| keep(plain_takes(&numbers[i])),
+        move |i| keep(&proved_takes(&numbers[i])),
+        move |i| keep(&plain_takes(&numbers[i])),
     ));
     jobs.push(Job::new(
         "same, plain one tuned",
-        move |i| keep(proved_takes(&numbers[i])),
-        move |i| keep(tuned_takes(&numbers[i], tuned::called)),
+        move |i| keep(&proved_takes(&numbers[i])),
+        move |i| keep(&tuned_takes(&numbers[i], tuned::called)),
     ));
     jobs.push(Job::new(
         "same, and inlined",
-        move |i| keep(proved_takes(&numbers[i])),
-        move |i| keep(tuned_takes(&numbers[i], tuned::Recoder::take)),
+        move |i| keep(&proved_takes(&numbers[i])),
+        move |i| keep(&tuned_takes(&numbers[i], tuned::Recoder::take)),
     ));
     let (mut a, mut b) = (vec![0; ROOM], vec![0; ROOM]);
     jobs.push(Job::new(
         &format!("clean, {} digits", 8 * bytes),
-        move |i| keep(sys::clean(&strings[i], &mut a)),
-        move |i| keep(reference::clean(&strings[i], &mut b)),
+        move |i| keep(&sys::clean(&strings[i], &mut a)),
+        move |i| keep(&reference::clean(&strings[i], &mut b)),
     ));
     let (mut a, mut b) = (vec![0; ROOM], vec![0; ROOM]);
     jobs.push(Job::new(
         "read back, the NAF",
-        move |i| keep(sys::read_back(&canonicals[i], &mut a)),
-        move |i| keep(reference::read_back(&canonicals[i], &mut b)),
+        move |i| keep(&sys::read_back(&canonicals[i], &mut a)),
+        move |i| keep(&reference::read_back(&canonicals[i], &mut b)),
     ));
     for (name, method, width) in METHODS {
         let (mut a, mut b) = (vec![0; ROOM], vec![0; ROOM]);
         jobs.push(Job::new(
             &format!("plan, {}", name),
-            move |i| keep(sys::plan(&numbers[i], method, width, &mut a)),
-            move |i| keep(reference::plan(&numbers[i], method, width, &mut b)),
+            move |i| keep(&sys::plan(&numbers[i], method, width, &mut a)),
+            move |i| keep(&reference::plan(&numbers[i], method, width, &mut b)),
         ));
         jobs.push(Job::new(
             &format!("forecast, {}", name),
-            move |i| keep(sys::forecast(&numbers[i], method, width)),
-            move |i| keep(reference::forecast(&numbers[i], method, width)),
+            move |i| keep(&sys::forecast(&numbers[i], method, width)),
+            move |i| keep(&reference::forecast(&numbers[i], method, width)),
         ));
     }
     let (mut a, mut b) = (vec![0; SPACE], vec![0; SPACE]);
     jobs.push(Job::new(
         &format!("check, {} steps", plans[0].len() / lesmutka::STEP_BYTES),
-        move |i| keep(sys::check(&numbers[i], &plans[i], &mut a)),
-        move |i| keep(reference::check(&numbers[i], &plans[i], &mut b)),
+        move |i| keep(&sys::check(&numbers[i], &plans[i], &mut a)),
+        move |i| keep(&reference::check(&numbers[i], &plans[i], &mut b)),
     ));
     let (mut a, mut b) = (vec![0; ROOM], vec![0; ROOM]);
     jobs.push(Job::new(
         "hexadecimal text read",
-        move |i| keep(sys::hexadecimal(hexadecimals[i].as_bytes(), &mut a)),
-        move |i| keep(reference::text::hexadecimal(hexadecimals[i].as_bytes(), &mut b)),
+        move |i| keep(&sys::hexadecimal(hexadecimals[i].as_bytes(), &mut a)),
+        move |i| keep(&reference::text::hexadecimal(hexadecimals[i].as_bytes(), &mut b)),
     ));
     let (mut a, mut b) = (vec![0; ROOM], vec![0; ROOM]);
     jobs.push(Job::new(
         "decimal text read",
-        move |i| keep(sys::decimal(decimals[i].as_bytes(), &mut a)),
-        move |i| keep(reference::text::decimal(decimals[i].as_bytes(), &mut b)),
+        move |i| keep(&sys::decimal(decimals[i].as_bytes(), &mut a)),
+        move |i| keep(&reference::text::decimal(decimals[i].as_bytes(), &mut b)),
     ));
     jobs
 }

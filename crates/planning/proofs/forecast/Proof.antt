@@ -1,5 +1,6 @@
 -- `planning::forecast` meets its contract. Assumes nothing.
-use mathlib.Core.Path.{sym, _∙_}
+use mathlib.Core.Path.{sym, _∙_, ap}
+use Rattle.rules.specs.declared.Counted.the-variants.{Steps}
 use Rattle.requests.proofs.Requests.{granted-allowed}
 use borrow.Author.Needs.{needs}
 use Rattle.planning.proofs.forecast.Statement.{statement}
@@ -29,10 +30,10 @@ returns : tie.Need-returns
 returns c = rw (sym (c .before .before .before .requested .ensures) ∙ c .before .refusal .given .1)
 
 returns-2 : tie.Need-returns-2
-returns-2 c = rw (sym (c .before .before .before .before .before .before .requested .ensures) ∙ c .before .before .before .before .chosen .given .1, c .before .enum-told .given .1, c .counts .ensures)
+returns-2 c = rw (sym (c .before .before .before .before .before .before .requested .ensures) ∙ c .before .before .before .before .chosen .given .1, c .before .enum-told .given .1) (ap Steps (c .counts .ensures))
 
 returns-3 : tie.Need-returns-3
-returns-3 c = rw (sym (c .before .before .before .before .before .requested .ensures) ∙ c .before .before .before .chosen .given .1, c .counts2 .ensures)
+returns-3 c = rw (sym (c .before .before .before .before .before .requested .ensures) ∙ c .before .before .before .chosen .given .1) (ap Steps (c .counts2 .ensures))
 
 pub forecast-spec : {M : Type 1} → statement M
 forecast-spec =

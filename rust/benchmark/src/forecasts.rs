@@ -1,7 +1,7 @@
-//! Forecasts by method 1: the library as C and as Rust call it, beside plain Rust that counts by words,
-//! `reference`, and plain Rust that tests or adds each bit.
+//! Forecasts by method 1: the library as C and as Rust call it, beside plain Rust by words and bit by
+//! bit, which is written for this and knows no other method, and `reference`.
 use crate::{keep, Inputs, Spread, ROUNDS};
-use lesmutka::Method;
+use lesmutka::{sys, Method};
 use reference::limits::NUMBER_BYTES;
 use reference::refusal::{HIGHEST_BYTE_IS_ZERO, NUMBER_IS_ZERO, NUMBER_TOO_LONG};
 use reference::{Counts, Refusal};
@@ -12,6 +12,7 @@ const PASSES: usize = 16;
 
 extern "C" {
     fn forecasts_from_c(numbers: *const *const u8, count: usize, bytes: usize) -> usize;
+    fn forecasts_kept_in_c(numbers: *const *const u8, count: usize, bytes: usize, kept: *mut sys::Counts) -> usize;
 }
 
 /// Refusals 1, 13 and 2.
@@ -25,24 +26,37 @@ fn admitted(number: &[u8]) -> Result<(), Refusal> {
     Err(Refusal { number, place: 0 })
 }
 
-/// The ones of each word, and the leading zeros of the highest byte.
+/// The answer of all plain programs for method 1: one doubling for each bit below the top one, one
+/// addition for each 1 below it.
+fn counted(top: usize, ones: usize) -> Result<Counts, Refusal> {
+    Ok(Counts {
+        doublings: top,
+        additions: ones - 1,
+        subtractions: 0,
+    })
+}
+
+/// The place of the top bit of a number above zero, by its highest byte.
+fn top(number: &[u8]) -> usize {
+    8 * number.len() - 1 - number[number.len() - 1].leading_zeros() as usize
+}
+
+fn word(eight: &[u8]) -> u64 {
+    u64::from_le_bytes(eight.try_into().expect("eight bytes"))
+}
+
+/// The ones of each word, and of the bytes above them.
 #[inline(always)]
 fn by_words(number: &[u8]) -> Result<Counts, Refusal> {
     admitted(number)?;
     let mut ones = 0;
     let mut words = number.chunks_exact(8);
-    for word in words.by_ref() {
-        let word = u64::from_le_bytes(word.try_into().expect("eight bytes"));
-        ones += word.count_ones() as usize;
+    for eight in words.by_ref() {
+        ones += word(eight).count_ones() as usize;
     }
     let rest = words.remainder().iter().rev();
     ones += rest.fold(0, |word, &byte| word << 8 | u64::from(byte)).count_ones() as usize;
-    let zeros = number[number.len() - 1].leading_zeros() as usize;
-    Ok(Counts {
-        doublings: 8 * number.len() - zeros - 1,
-        additions: ones - 1,
-        subtractions: 0,
-    })
+    counted(top(number), ones)
 }
 
 /// The same as a call, which is what a linked library's is.
@@ -51,7 +65,24 @@ fn by_words_called(number: &[u8]) -> Result<Counts, Refusal> {
     by_words(number)
 }
 
-/// A test for each bit.
+/// The same by an index, for which the compiler finds shorter code.
+#[inline(never)]
+fn by_indexed_words(number: &[u8]) -> Result<Counts, Refusal> {
+    admitted(number)?;
+    let (mut ones, mut i) = (0, 0);
+    while i + 8 <= number.len() {
+        ones += word(&number[i..i + 8]).count_ones() as usize;
+        i += 8;
+    }
+    let mut rest: u64 = 0;
+    while i < number.len() {
+        rest = rest << 8 | u64::from(number[i]);
+        i += 1;
+    }
+    counted(top(number), ones + rest.count_ones() as usize)
+}
+
+/// A test for each bit: is it a 1, and so the highest yet?
 #[inline(never)]
 fn by_bits(number: &[u8]) -> Result<Counts, Refusal> {
     admitted(number)?;
@@ -64,33 +95,46 @@ fn by_bits(number: &[u8]) -> Result<Counts, Refusal> {
             }
         }
     }
-    Ok(Counts {
-        doublings: top,
-        additions: ones - 1,
-        subtractions: 0,
-    })
+    counted(top, ones)
 }
 
-/// Each bit added, and the top one looked for from above: what a compiler can do many bits at a time.
-#[inline(never)]
-fn by_added_bits(number: &[u8]) -> Result<Counts, Refusal> {
-    admitted(number)?;
-    let bit = |place: usize| usize::from(number[place / 8] >> (place % 8) & 1);
-    let mut ones = 0;
-    for byte in number {
-        for place in 0..8 {
-            ones += usize::from(byte >> place & 1);
-        }
-    }
+/// The place of the top bit of a number above zero, by a test of each bit from above.
+fn top_by_bits(number: &[u8]) -> usize {
     let mut top = 8 * number.len() - 1;
-    while bit(top) == 0 {
+    while number[top / 8] >> (top % 8) & 1 == 0 {
         top -= 1;
     }
-    Ok(Counts {
-        doublings: top,
-        additions: ones - 1,
-        subtractions: 0,
-    })
+    top
+}
+
+/// A test for each bit, the top one by itself: the compiler makes one of many tests.
+#[inline(never)]
+fn by_bits_top_apart(number: &[u8]) -> Result<Counts, Refusal> {
+    admitted(number)?;
+    let mut ones: usize = 0;
+    for byte in number {
+        for bit in 0..8 {
+            if byte >> bit & 1 == 1 {
+                ones += 1;
+            }
+        }
+    }
+    counted(top_by_bits(number), ones)
+}
+
+/// The same with a count of 32 bits, of which twice as many fit into a register.
+#[inline(never)]
+fn by_bits_in_32(number: &[u8]) -> Result<Counts, Refusal> {
+    admitted(number)?;
+    let mut ones: u32 = 0;
+    for byte in number {
+        for bit in 0..8 {
+            if byte >> bit & 1 == 1 {
+                ones += 1;
+            }
+        }
+    }
+    counted(top_by_bits(number), ones as usize)
 }
 
 /// How many steps a plan has; none where it is refused.
@@ -102,12 +146,12 @@ fn steps(answer: Result<Counts, Refusal>) -> usize {
 /// a number in each round.
 struct Way<'a> {
     name: &'static str,
-    forecast: Box<dyn Fn() -> usize + 'a>,
+    forecast: Box<dyn FnMut() -> usize + 'a>,
     times: Vec<f64>,
 }
 
 impl<'a> Way<'a> {
-    fn new(name: &'static str, forecast: impl Fn() -> usize + 'a) -> Way<'a> {
+    fn new(name: &'static str, forecast: impl FnMut() -> usize + 'a) -> Way<'a> {
         Way {
             name,
             forecast: Box::new(forecast),
@@ -132,30 +176,53 @@ impl<'a> Way<'a> {
 
 /// All ways on these inputs; the others are compared with the first.
 fn ways(inputs: &Inputs) -> Vec<Way<'_>> {
-    let pointers: Vec<*const u8> = inputs.numbers.iter().map(|number| number.as_ptr()).collect();
+    let Inputs { bytes, numbers, .. } = inputs;
+    let (bytes, count) = (*bytes, numbers.len());
+    let pointers: Vec<*const u8> = numbers.iter().map(|number| number.as_ptr()).collect();
+    let same_pointers = pointers.clone();
+    let mut kept = vec![sys::forecast(&[], 1, 0); count];
+    let mut kept_plain = vec![by_words(&[]); count];
     vec![
         // SAFETY: each pointer stands for that many bytes, which the inputs keep.
         Way::new("proved, from C", move || unsafe {
-            forecasts_from_c(pointers.as_ptr(), pointers.len(), inputs.bytes)
+            forecasts_from_c(pointers.as_ptr(), count, bytes)
         }),
         Way::each("proved, from Rust", inputs, |number| {
             lesmutka::forecast(number, Method::Binary).map_or(0, lesmutka::Counts::total)
         }),
-        Way::each("plain Rust, by words", inputs, |number| steps(by_words_called(number))),
-        Way::each("same, and inlined", inputs, |number| steps(by_words(number))),
+        Way::each("by words", inputs, |number| steps(by_words_called(number))),
+        Way::each("by words, indexed", inputs, |number| steps(by_indexed_words(number))),
+        Way::each("by words, inlined", inputs, |number| steps(by_words(number))),
         Way::each("rust/reference", inputs, |number| {
             steps(reference::forecast(number, 1, 0))
         }),
-        Way::each("plain Rust, bit by bit", inputs, |number| steps(by_bits(number))),
-        Way::each("same, without a branch", inputs, |number| steps(by_added_bits(number))),
+        Way::each("bit by bit", inputs, |number| steps(by_bits(number))),
+        Way::each("bit by bit, top apart", inputs, |number| {
+            steps(by_bits_top_apart(number))
+        }),
+        Way::each("same, count in 32 bits", inputs, |number| steps(by_bits_in_32(number))),
+        // SAFETY: the same, and there is room for that many answers.
+        Way::new("proved, from C, kept", move || unsafe {
+            forecasts_kept_in_c(same_pointers.as_ptr(), count, bytes, kept.as_mut_ptr())
+        }),
+        Way::new("by words, kept", move || {
+            for (answer, number) in kept_plain.iter_mut().zip(numbers) {
+                *answer = by_words_called(number);
+            }
+            kept_plain.iter().map(|&answer| steps(answer)).sum()
+        }),
     ]
 }
 
 /// What is timed is done: all ways answer the same.
 pub fn agree(inputs: &Inputs) {
-    let ways = ways(inputs);
-    for way in &ways {
-        assert_eq!((way.forecast)(), (ways[0].forecast)(), "{}", way.name);
+    let answer: usize = inputs
+        .numbers
+        .iter()
+        .map(|number| steps(reference::forecast(number, 1, 0)))
+        .sum();
+    for way in &mut ways(inputs) {
+        assert_eq!((way.forecast)(), answer, "{}", way.name);
     }
 }
 
@@ -175,27 +242,27 @@ pub fn print(sizes: &[Inputs]) {
     );
     for (inputs, table) in sizes.iter().zip(&mut tables) {
         println!(
-            "\n{:<24} {:>17} {:>19} {:>16}",
+            "\n{:<24} {:>17} {:>19} {:>18}",
             format!("numbers of {} bytes", inputs.bytes),
-            "ns a call",
+            "ns a number",
             "times as long",
-            "calls a second"
+            "millions a second"
         );
         println!(
-            "{:<24} {:>8} {:>8} {:>10} {:>8} {:>16}",
+            "{:<24} {:>8} {:>8} {:>10} {:>8} {:>18}",
             "way", "best", "median", "best", "median", "median"
         );
         let first = Spread::of(&mut table[0].times);
         for way in table {
             let own = Spread::of(&mut way.times);
             println!(
-                "{:<24} {:>8.1} {:>8.1} {:>10.2} {:>8.2} {:>16.0}",
+                "{:<24} {:>8.1} {:>8.1} {:>10.2} {:>8.2} {:>18.1}",
                 way.name,
                 own.best,
                 own.median,
                 own.best / first.best,
                 own.median / first.median,
-                1e9 / own.median
+                1e3 / own.median
             );
         }
     }
@@ -214,9 +281,10 @@ mod tests {
             numbers.extend((0..100).map(|_| rng.bytes(bytes)));
             for number in numbers {
                 let answer = reference::forecast(&number, 1, 0);
-                assert_eq!(by_words(&number), answer);
-                assert_eq!(by_bits(&number), answer);
-                assert_eq!(by_added_bits(&number), answer);
+                let plain = [by_words, by_indexed_words, by_bits, by_bits_top_apart, by_bits_in_32];
+                for forecast in plain {
+                    assert_eq!(forecast(&number), answer);
+                }
             }
         }
     }

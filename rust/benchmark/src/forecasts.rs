@@ -5,6 +5,7 @@ use lesmutka::{sys, Method};
 use reference::limits::NUMBER_BYTES;
 use reference::refusal::{HIGHEST_BYTE_IS_ZERO, NUMBER_IS_ZERO, NUMBER_TOO_LONG};
 use reference::{Counts, Refusal};
+use std::ops::AddAssign;
 use std::time::Instant;
 
 /// How often all numbers are forecast between two looks at the clock.
@@ -65,7 +66,7 @@ fn by_words_called(number: &[u8]) -> Result<Counts, Refusal> {
     by_words(number)
 }
 
-/// The same by an index, for which the compiler finds shorter code.
+/// The same by an index, which turns out quicker.
 #[inline(never)]
 fn by_indexed_words(number: &[u8]) -> Result<Counts, Refusal> {
     admitted(number)?;
@@ -107,34 +108,32 @@ fn top_by_bits(number: &[u8]) -> usize {
     top
 }
 
+/// The ones, by a test of each bit.
+#[inline(always)]
+fn ones_by_bits<T: Default + AddAssign + From<u8>>(number: &[u8]) -> T {
+    let mut ones = T::default();
+    for byte in number {
+        for bit in 0..8 {
+            if byte >> bit & 1 == 1 {
+                ones += T::from(1);
+            }
+        }
+    }
+    ones
+}
+
 /// A test for each bit, the top one by itself: the compiler makes one of many tests.
 #[inline(never)]
 fn by_bits_top_apart(number: &[u8]) -> Result<Counts, Refusal> {
     admitted(number)?;
-    let mut ones: usize = 0;
-    for byte in number {
-        for bit in 0..8 {
-            if byte >> bit & 1 == 1 {
-                ones += 1;
-            }
-        }
-    }
-    counted(top_by_bits(number), ones)
+    counted(top_by_bits(number), ones_by_bits(number))
 }
 
 /// The same with a count of 32 bits, of which twice as many fit into a register.
 #[inline(never)]
 fn by_bits_in_32(number: &[u8]) -> Result<Counts, Refusal> {
     admitted(number)?;
-    let mut ones: u32 = 0;
-    for byte in number {
-        for bit in 0..8 {
-            if byte >> bit & 1 == 1 {
-                ones += 1;
-            }
-        }
-    }
-    counted(top_by_bits(number), ones as usize)
+    counted(top_by_bits(number), ones_by_bits::<u32>(number) as usize)
 }
 
 /// How many steps a plan has; none where it is refused.

@@ -84,7 +84,7 @@ fn keep<T>(answer: &T) {
     unsafe { std::arch::asm!("/* {0} */", in(reg) answer, options(nostack, preserves_flags)) };
 }
 
-/// What runs the i-th input, for all inputs.
+/// A run over all inputs, by what runs the i-th.
 fn each<'a>(mut run: impl FnMut(usize) + 'a) -> Box<dyn FnMut() + 'a> {
     Box::new(move || (0..INPUTS).for_each(&mut run))
 }

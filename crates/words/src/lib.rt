@@ -10,7 +10,7 @@ ghost use Rattle.rules.specs.Limits.{numberWords};
 ghost use Rattle.integers.specs.Positional.{wordsValue, lowBytes};
 
 // The word at k: 0 above the highest.
-fn word_in(words: &[u64], k: usize) -> u64
+pub fn word_in(words: &[u64], k: usize) -> u64
     ensures { λ r. ⌜ r ≡ getD (now (words .entry)) k 0 ⌝ }
 {
     if k < words.len() { words[k] } else { 0 }
@@ -78,18 +78,26 @@ pub fn halved(words: [u64; NUMBER_WORDS]) -> [u64; NUMBER_WORDS]
     half
 }
 
-// Writes the eight bytes of a word at `at`.
-pub fn store_word(bytes: &mut [u8], at: usize, word: u64)
-    requires { ⌜ at + 8 ≤ length (now bytes) ⌝ }
-    ensures { λ _. ⌜ now (bytes .exit) ≡ take at (now (bytes .entry)) ++ (lowBytes 8 word ++ drop (at + 8) (now (bytes .entry))) ⌝ }
+// Writes the `count` low bytes of a word at `at`: zeros above its eight.
+pub fn store_low(bytes: &mut [u8], at: usize, count: usize, word: u64)
+    requires { ⌜ at + count ≤ length (now bytes) ⌝ }
+    ensures { λ _. ⌜ now (bytes .exit) ≡ take at (now (bytes .entry)) ++ (lowBytes count word ++ drop (at + count) (now (bytes .entry))) ⌝ }
 {
     let mut rest = word;
     let mut i = 0;
-    while i < 8 {
+    while i < count {
         bytes[at + i] = (rest % 256) as u8;
         rest = rest / 256;
         i += 1;
     }
+}
+
+// Writes the eight bytes of a word at `at`: one store.
+pub fn store_word(bytes: &mut [u8], at: usize, word: u64)
+    requires { ⌜ at + 8 ≤ length (now bytes) ⌝ }
+    ensures { λ _. ⌜ now (bytes .exit) ≡ take at (now (bytes .entry)) ++ (lowBytes 8 word ++ drop (at + 8) (now (bytes .entry))) ⌝ }
+{
+    store_low(bytes, at, 8, word)
 }
 
 // A word of a sum, and whether it carries into the next.

@@ -1,4 +1,4 @@
--- `words::store_word` meets its contract: after i turns the i low bytes stand. Assumes nothing.
+-- `words::store_low` meets its contract: after i turns the i low bytes stand. Assumes nothing.
 use mathlib.Core.Path.{_≡_, refl, sym, _∙_}
 use Prim.Native.Nat.{_≤_, _+_, _-_, _/_, _%_, _^_}
 use native.Mathlib.Nat.{add-zero, div-one, div-div-eq-div-mul, pow-suc}
@@ -9,15 +9,15 @@ use Rattle.integers.specs.Positional.{lowBytes}
 use Rattle.integers.proofs.Blocks.{placed, place-one}
 use Rattle.integers.proofs.LowBytes.{length-low, low-add}
 use borrow.Author.Needs.{needs}
-use Rattle.words.proofs.store_word.Statement.{statement}
-use Rattle.words.proofs.store_word.Tie as tie
+use Rattle.words.proofs.store_low.Statement.{statement}
+use Rattle.words.proofs.store_low.Tie as tie
 
 abbrev Inv-loop : tie.InvT-loop
-Inv-loop bytes₀ at word rest₀ i₀ bytes rest i =
-    (i ≤ 8) × (length bytes ≡ length bytes₀) × (rest ≡ word / 256 ^ i) × (bytes ≡ placed bytes₀ at i (lowBytes i word))
+Inv-loop bytes₀ at count word rest₀ i₀ bytes rest i =
+    (i ≤ count) × (length bytes ≡ length bytes₀) × (rest ≡ word / 256 ^ i) × (bytes ≡ placed bytes₀ at i (lowBytes i word))
 
 abbrev μ-loop : tie.MeasureT-loop
-μ-loop bytes₀ at word rest₀ i₀ bytes rest i = 8 - i
+μ-loop bytes₀ at count word rest₀ i₀ bytes rest i = count - i
 
 loop-holds : tie.Need-loop-holds Inv-loop μ-loop
 unfolding lowBytes
@@ -55,11 +55,11 @@ same-length c = search needs
 
 returns : tie.Need-returns Inv-loop μ-loop
 returns c =
-    let e : c .before .loop .i ≡ 8 = omega arith in
+    let e : c .before .loop .i ≡ c .before .before .args .count = omega arith in
     rw e at (c .before .loop .inv .3)
 
-pub store-word-spec : {M : Type 1} → statement M
-store-word-spec =
+pub store-low-spec : {M : Type 1} → statement M
+store-low-spec =
     tie.close
     (tie.spec
     Inv-loop

@@ -30,7 +30,7 @@ pub block-more : (f : ℕ → ℕ) (l : List ℕ) (at n : ℕ) → at + n < leng
 unfolding tabulate
 block-more f l at n h = place-one l at n (tabulate f n) (length-tabulate f n) (f n) h ∙ rw add-one
 
-tabulate-add : (f : ℕ → ℕ) (m n : ℕ) → tabulate f (m + n) ≡ tabulate f m ++ tabulate (λ j. f (m + j)) n
+pub tabulate-add : (f : ℕ → ℕ) (m n : ℕ) → tabulate f (m + n) ≡ tabulate f m ++ tabulate (λ j. f (m + j)) n
 unfolding tabulate
 tabulate-add f m zero = rw (add-zero, append-nil)
 tabulate-add f m (suc n) = rw (add-suc, tabulate-add f m n) (simp append-assoc)

@@ -17,34 +17,41 @@ use Rattle.recoding_digits.specs.Internal.{difference}
 
 -- ---- the number whose bytes are f 0, f 1, .., f (n - 1)
 
-value-small : (f : ℕ → ℕ) (n : ℕ) → ((j : ℕ) → f j < 256) → bytesValue (tabulate f n) < 2 ^ (8 * n)
+pub value-small : (f : ℕ → ℕ) (n : ℕ) → ((j : ℕ) → f j < 256) → bytesValue (tabulate f n) < 2 ^ (8 * n)
 value-small f n h = rw (← power-of-bytes n) (positional-lt 256 n (tabulate f n) (omega (arith, length-tabulate f n)) (below-tabulate 256 f n h))
 
-value-none : (f : ℕ → ℕ) → bytesValue (tabulate f 0) ≡ 0
+pub value-none : (f : ℕ → ℕ) → bytesValue (tabulate f 0) ≡ 0
 unfolding tabulate positional
 value-none f = refl
 
-value-more : (f : ℕ → ℕ) (n : ℕ) → bytesValue (tabulate f (suc n)) ≡ f n * 2 ^ (8 * n) + bytesValue (tabulate f n)
+pub value-more : (f : ℕ → ℕ) (n : ℕ) → bytesValue (tabulate f (suc n)) ≡ f n * 2 ^ (8 * n) + bytesValue (tabulate f n)
 value-more f n = positional-tabulate 256 f n ∙ rw (power-of-bytes n) (omega arith)
 
-value-add : (f g : ℕ → ℕ) (n : ℕ) → bytesValue (tabulate f n) + bytesValue (tabulate g n) ≡ bytesValue (tabulate (λ j. f j + g j) n)
+pub value-add : (f g : ℕ → ℕ) (n : ℕ) → bytesValue (tabulate f n) + bytesValue (tabulate g n) ≡ bytesValue (tabulate (λ j. f j + g j) n)
 value-add f g zero = omega (arith, value-none f, value-none g, value-none (λ j. f j + g j))
 value-add f g (suc n) = omega (arith, value-more f n, value-more g n, value-more (λ j. f j + g j) n, value-add f g n)
 
-value-xor : (f g : ℕ → ℕ) (n : ℕ) → ((j : ℕ) → f j < 256) → ((j : ℕ) → g j < 256)
+-- an operation that acts on each bit by itself acts on each byte
+pub value-each : (op : ℕ → ℕ → ℕ) → op 0 0 ≡ 0
+    → ((k a b r s : ℕ) → r < 2 ^ k → s < 2 ^ k → op (a * 2 ^ k + r) (b * 2 ^ k + s) ≡ op a b * 2 ^ k + op r s)
+    → (f g : ℕ → ℕ) (n : ℕ) → ((j : ℕ) → f j < 256) → ((j : ℕ) → g j < 256)
+    → op (bytesValue (tabulate f n)) (bytesValue (tabulate g n)) ≡ bytesValue (tabulate (λ j. op (f j) (g j)) n)
+value-each op none block f g zero hf hg = rw (value-none f, value-none g, value-none (λ j. op (f j) (g j))) none
+value-each op none block f g (suc n) hf hg =
+    rw (value-more f n, value-more g n, value-more (λ j. op (f j) (g j)) n, block (8 * n) (f n) (g n) (bytesValue (tabulate f n)) (bytesValue (tabulate g n)) (value-small f n hf) (value-small g n hg), value-each op none block f g n hf hg)
+
+pub value-xor : (f g : ℕ → ℕ) (n : ℕ) → ((j : ℕ) → f j < 256) → ((j : ℕ) → g j < 256)
     → bitXor (bytesValue (tabulate f n)) (bytesValue (tabulate g n)) ≡ bytesValue (tabulate (λ j. bitXor (f j) (g j)) n)
-value-xor f g zero hf hg = rw (value-none f, value-none g, value-none (λ j. bitXor (f j) (g j)))
-value-xor f g (suc n) hf hg =
-    rw (value-more f n, value-more g n, value-more (λ j. bitXor (f j) (g j)) n, xor-block (8 * n) (f n) (g n) (bytesValue (tabulate f n)) (bytesValue (tabulate g n)) (value-small f n hf) (value-small g n hg), value-xor f g n hf hg)
+value-xor = value-each bitXor refl xor-block
 
 -- ---- eight bits, one to a byte
 
 -- a test passes at each number below n
-all : (ℕ → Bool) → ℕ → Bool
+unfoldable pub all : (ℕ → Bool) → ℕ → Bool
 all f zero = true
 all f (suc n) = f n && all f n
 
-all-below : (f : ℕ → Bool) (n : ℕ) → all f n ≡ true → (k : ℕ) → k < n → f k ≡ true
+pub all-below : (f : ℕ → Bool) (n : ℕ) → all f n ≡ true → (k : ℕ) → k < n → f k ≡ true
 unfolding all
 all-below f zero e k h = absurd (omega arith)
 all-below f (suc n) e k h = go (decLt k n) (λ l. all-below f n (and-eq-true-iff (f n) (all f n) .0 e .1) k l)

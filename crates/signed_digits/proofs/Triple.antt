@@ -37,7 +37,7 @@ digit-difference (suc i) a n l m =
     rw (shift (n + a) i, shift a i, ← h .0) (higher 2 (omega arith) n i ∙ digit-difference i (a / 2) (rest 2 n) (h .1) (h .2))
 
 -- at first a = e / 2 and n = e
-digit-at : (e i : ℕ) → digitAt (canonical (pos e)) i ≡ pos (3 * e / 2 ^ (i + 1) % 2) -ℤ pos (e / 2 ^ (i + 1) % 2)
+pub digit-at : (e i : ℕ) → digitAt (canonical (pos e)) i ≡ pos (3 * e / 2 ^ (i + 1) % 2) -ℤ pos (e / 2 ^ (i + 1) % 2)
 digit-at e i =
     let sum : 3 * e / 2 ≡ e + e / 2 = omega arith in
     rw (add-one i, shift (3 * e) i, shift e i, sum) (digit-difference i (e / 2) e (omega arith) (omega arith))

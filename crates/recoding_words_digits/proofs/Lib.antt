@@ -1,0 +1,4 @@
+pub mod Places
+mod Lookup
+mod Fours
+mod Words

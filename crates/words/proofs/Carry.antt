@@ -16,7 +16,7 @@ use Rattle.integers.proofs.Positional.{positional-take}
 use Rattle.integers.proofs.Bits.{bool-small}
 
 -- a sum has wrapped if it is below its first part
-wrapped : (a b s : ℕ) → a < 2 ^ 64 → b < 2 ^ 64 → s ≡ (a + b) % 2 ^ 64 → s + 2 ^ 64 * boolByte (ltb s a) ≡ a + b
+pub wrapped : (a b s : ℕ) → a < 2 ^ 64 → b < 2 ^ 64 → s ≡ (a + b) % 2 ^ 64 → s + 2 ^ 64 * boolByte (ltb s a) ≡ a + b
 wrapped a b s ha hb e = go (ltb s a) refl
   where
     go : (t : Bool) → ltb s a ≡ t → s + 2 ^ 64 * boolByte t ≡ a + b
@@ -60,7 +60,7 @@ module _ (a b : ℕ) (k : Bool) (s t : ℕ) (hb : b < 2 ^ 64) where
 abbrev pub Carried : ℕ → List ℕ → List ℕ → List ℕ → Bool → Type 0
 Carried k v w u c = wordsValue (take k v) + wordsValue (take k w) ≡ wordsValue (take k u) + (2 ^ 64) ^ k * boolByte c
 
-one-more : (P x y z p q r c d : ℕ) → x + y ≡ z + P * c → p + q + c ≡ r + 2 ^ 64 * d
+pub one-more : (P x y z p q r c d : ℕ) → x + y ≡ z + P * c → p + q + c ≡ r + 2 ^ 64 * d
     → x + P * p + (y + P * q) ≡ z + P * r + P * 2 ^ 64 * d
 one-more P x y z p q r c d h e =
     let l : P * (p + q + c) ≡ P * p + P * q + P * c = rw (mul-add P (p + q) c, mul-add P p q) in

@@ -1,0 +1,110 @@
+-- `recoding_words::recode_words` meets its contract. Assumes nothing.
+use mathlib.Core.Path.{_≡_, sym, ap, _∙_}
+use mathlib.Core.List.{_++_}
+use Prim.Native.Nat.{_*_}
+use native.Mathlib.Omega.{arith}
+use lib.IntN.{pos}
+use lib.ListN.{length, drop}
+use lib.Seq.{take-all}
+use Rattle.rules.specs.Limits.{numberBytes}
+use Rattle.rules.specs.declared.Verdict.the-variants.{Passed}
+use Rattle.rules.proofs.Returns.{returns-refused, returns-written}
+use Rattle.integers.specs.Positional.{bytesValue, wordsValue}
+use Rattle.integers.specs.Tabulate.{tabulate}
+use Rattle.numbers.specs.Admission.{numberVerdict, Admitted}
+use Rattle.numbers.proofs.Tests.{admitted-is}
+use Rattle.signed_digits.specs.Naf.{canonical}
+use Rattle.digit_strings.specs.Places.{placeByte}
+use Rattle.recoding.specs.Recode.{recoding}
+use Rattle.recoding.proofs.Outcomes.{length-recoding, recoding-written}
+use borrow.Author.Needs.{needs}
+use Rattle.recoding_words.proofs.recode_words.Statement.{statement}
+use Rattle.recoding_words.proofs.recode_words.Tie as tie
+
+-- past refusals 1 and 13
+passed : (c : tie.After-enum-told) → numberVerdict (c .before .before .before .before .before .args .number .now) ≡ Passed
+passed c = sym (c .before .before .number-verdict .ensures) ∙ c .enum-told .given .1
+
+-- the words hold the number, and three times the number
+held : (c : tie.After-words-of) → wordsValue (c .words-of .result) ≡ bytesValue (c .before .before .before .before .before .before .args .number .now)
+held c =
+    let number = c .before .before .before .before .before .before .args .number .now in
+    c .words-of .ensures ∙ ap bytesValue (take-all numberBytes number (admitted-is number .0 (passed (c .before)) .short))
+
+three : (c : tie.After-tripled) → wordsValue (c .tripled .result) ≡ 3 * bytesValue (c .before .before .before .before .before .before .before .before .args .number .now)
+three c = c .tripled .ensures ∙ rw (held (c .before .before))
+
+number-verdict-requires : tie.Need-number-verdict-requires
+number-verdict-requires c κs = search needs
+
+enum-known-refusal : tie.Need-enum-known-refusal
+enum-known-refusal c = search needs
+
+returns : tie.Need-returns
+returns c = let e = sym (c .before .before .before .number-verdict .ensures) ∙ c .before .refusal .given .1 in (rw e, rw e)
+
+enum-told : tie.Need-enum-told
+enum-told c = search needs
+
+words-of-requires : tie.Need-words-of-requires
+words-of-requires c κs = search needs
+
+tripled-requires : tie.Need-tripled-requires
+tripled-requires c κs = search needs
+
+slice-aggregate-count : tie.Need-slice-aggregate-count
+slice-aggregate-count c = search needs
+
+count-requires : tie.Need-count-requires
+count-requires c κs =
+    let t : tie.After-tripled = search in
+    (admitted-is _ .0 (passed (t .before .before .before)), three t)
+
+returns-2 : tie.Need-returns-2
+returns-2 c =
+    let found : tie.After-count = search in
+    let t : tie.After-tripled = search in
+    let args = t .before .before .before .before .before .before .before .before .args in
+    returns-refused (λ w. w) (recoding (args .number .now)) (args .out .now) (passed (t .before .before .before)) (found .count .ensures ∙ sym (length-recoding _)) (search needs)
+
+slice-aggregate-write : tie.Need-slice-aggregate-write
+slice-aggregate-write c = search needs
+
+slice-aggregate-write-2 : tie.Need-slice-aggregate-write-2
+slice-aggregate-write-2 c = search needs
+
+write-requires : tie.Need-write-requires
+write-requires c κs =
+    let t : tie.After-tripled = search in
+    (t .tripled .ensures, search needs)
+
+same-length : tie.Need-same-length
+same-length c = search needs
+
+returns-3 : tie.Need-returns-3
+returns-3 c =
+    let found : tie.After-count = search in
+    let t : tie.After-tripled = search in
+    let args = t .before .before .before .before .before .before .before .before .args in
+    let n = found .count in
+    let digits : _ ≡ tabulate (placeByte (canonical (pos (bytesValue (args .number .now))))) (n .result) ++ drop (n .result) (args .out .now) = rw (held (t .before .before)) at (c .before .before .write .ensures) in
+    returns-written (λ w. w) (recoding (args .number .now)) (args .out .now) (passed (t .before .before .before)) (n .ensures ∙ sym (length-recoding _)) (search needs) (digits ∙ recoding-written (args .number .now) (args .out .now) (n .ensures))
+
+pub recode-words-spec : {M : Type 1} → statement M
+recode-words-spec =
+    tie.close
+    (tie.spec
+    number-verdict-requires
+    enum-known-refusal
+    returns
+    enum-told
+    words-of-requires
+    tripled-requires
+    slice-aggregate-count
+    count-requires
+    returns-2
+    slice-aggregate-write
+    slice-aggregate-write-2
+    write-requires
+    same-length
+    returns-3)

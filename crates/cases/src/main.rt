@@ -2,6 +2,7 @@
 // request is the name of a call, the room to lend, then the inputs of the call:
 //
 //     recode ROOM NUMBER
+//     bywords ROOM NUMBER
 //     take TIMES NUMBER
 //     clean ROOM DIGITS
 //     readback ROOM DIGITS
@@ -33,6 +34,7 @@ use lesmutka::lesmutka_read_back;
 use lesmutka::lesmutka_read_digits;
 use lesmutka::lesmutka_read_steps;
 use lesmutka::lesmutka_recode;
+use lesmutka::lesmutka_recode_words;
 use lesmutka::lesmutka_start;
 use lesmutka::lesmutka_take;
 use lesmutka::lesmutka_write_words;
@@ -59,6 +61,8 @@ const ROOM_BYTES: usize = RECORD_BYTES * (PLAN_STEPS + 2);
 
 // The names of the calls: their letters in base 256.
 const RECODE: u64 = 0x7265636f6465;
+
+const BYWORDS: u64 = 0x6279776f726473;
 
 const TAKE: u64 = 0x74616b65;
 
@@ -128,6 +132,11 @@ fn call(name: u64, input: &[u8], plan: &[u8], method: u32, width: u32, out: &mut
     match name {
         RECODE => {
             let a = lesmutka_recode(input, out);
+            put_three(a.refusal, a.place, a.length);
+            put_buffer(out);
+        }
+        BYWORDS => {
+            let a = lesmutka_recode_words(input, out);
             put_three(a.refusal, a.place, a.length);
             put_buffer(out);
         }

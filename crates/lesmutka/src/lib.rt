@@ -37,6 +37,15 @@ pub extern "C" fn lesmutka_recode(number: &[u8], out: &mut [u8]) -> Length
     c_answers::of_written(recoding::recode(number, out))
 }
 
+// The same word by word.
+#[no_mangle]
+pub extern "C" fn lesmutka_recode_words(number: &[u8], out: &mut [u8]) -> Length
+    ensures answer { λ r. ⌜ r ≡ writtenFields (recodeAnswer (now (number .entry)) (length (now (out .entry)))) ⌝ }
+    ensures buffer { λ r. ⌜ now (out .exit) ≡ recodeBuffer (now (number .entry)) (now (out .entry)) ⌝ }
+{
+    c_answers::of_written(recoding_words::recode_words(number, out))
+}
+
 // Starts taking the digits of a number, in a recoder that the caller keeps.
 #[no_mangle]
 pub extern "C" fn lesmutka_start(number: &[u8], recoder: &mut [u64; KEPT_WORDS]) -> Started

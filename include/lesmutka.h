@@ -298,6 +298,16 @@ typedef struct {
 lesmutka_length lesmutka_recode(const uint8_t *number, size_t number_length, uint8_t *out,
                                 size_t out_length);
 
+/** Recode by words: the same as lesmutka_recode in every answer and every byte, and quicker.
+ *
+ *  Returns: the length of the string, the bytes written.
+ *           Refused: 1, then 13, then 6; nothing is written.
+ *  In:      number: the number, number_length bytes.
+ *  Out:     out: room for the digits, out_length bytes. LESMUTKA_RECODE_ROOM is always enough.
+ */
+lesmutka_length lesmutka_recode_words(const uint8_t *number, size_t number_length, uint8_t *out,
+                                      size_t out_length);
+
 /** Start taking the canonical digits of a number one by one.
  *
  *  Returns: nothing but the refusal.

@@ -123,6 +123,8 @@ pub const DONE: u32 = 0x100;
 extern "C" {
     /// Writes the canonical string of a number. Refused: 1, 13, 6.
     pub fn lesmutka_recode(number: *const u8, number_length: usize, out: *mut u8, out_length: usize) -> Length;
+    /// The same by words, which is quicker. Refused: 1, 13, 6.
+    pub fn lesmutka_recode_words(number: *const u8, number_length: usize, out: *mut u8, out_length: usize) -> Length;
     /// Starts taking the canonical digits of a number. Refused: 1, 13; the recoder is then that of zero.
     pub fn lesmutka_start(number: *const u8, number_length: usize, recoder: *mut Recoder) -> Started;
     /// Takes the lowest digit that is left: its byte, or [`DONE`].
@@ -174,6 +176,12 @@ extern "C" {
 #[inline]
 pub fn recode(number: &[u8], out: &mut [u8]) -> Length {
     unsafe { lesmutka_recode(number.as_ptr(), number.len(), out.as_mut_ptr(), out.len()) }
+}
+
+/// [`lesmutka_recode_words`] over slices.
+#[inline]
+pub fn recode_words(number: &[u8], out: &mut [u8]) -> Length {
+    unsafe { lesmutka_recode_words(number.as_ptr(), number.len(), out.as_mut_ptr(), out.len()) }
 }
 
 /// [`lesmutka_start`] over a slice and a reference.

@@ -1,9 +1,14 @@
 //! The cases of docs/RULES.md through the safe calls, and what the calls leave in memory.
 use lesmutka::*;
 
+type Recode = for<'a> fn(&[u8], &'a mut [i8]) -> Result<&'a [i8], Refusal>;
+
+/// The two calls that recode.
+const RECODES: [Recode; 2] = [recode, recode_words];
+
 fn digits_of(number: &[u8]) -> Vec<i8> {
-    let mut room = [7; RECODE_ROOM];
-    let mut digits = recode(number, &mut room).unwrap().to_vec();
+    let [mut digits, by_words] = RECODES.map(|recode| recode(number, &mut [7; RECODE_ROOM]).unwrap().to_vec());
+    assert_eq!(digits, by_words);
     digits.reverse();
     digits
 }
@@ -23,20 +28,43 @@ fn recoding() {
 
 #[test]
 fn recoding_refused() {
-    let mut room = [7; RECODE_ROOM - 1];
-    assert_eq!(
-        recode(&[0xff; NUMBER_BYTES], &mut room),
-        Err(Refusal::RoomTooSmall { needed: RECODE_ROOM })
-    );
-    assert_eq!(recode(&[0; NUMBER_BYTES + 1], &mut room), Err(Refusal::NumberTooLong));
-    assert_eq!(room, [7; RECODE_ROOM - 1]);
+    for recode in RECODES {
+        let mut room = [7; RECODE_ROOM - 1];
+        assert_eq!(
+            recode(&[0xff; NUMBER_BYTES], &mut room),
+            Err(Refusal::RoomTooSmall { needed: RECODE_ROOM })
+        );
+        assert_eq!(recode(&[0; NUMBER_BYTES + 1], &mut room), Err(Refusal::NumberTooLong));
+        assert_eq!(room, [7; RECODE_ROOM - 1]);
+    }
 }
 
 #[test]
 fn only_the_answer_is_written() {
-    let mut room = [7; 5];
-    assert_eq!(recode(&[3], &mut room).unwrap(), [-1, 0, 1]);
-    assert_eq!(room, [-1, 0, 1, 7, 7]);
+    for recode in RECODES {
+        let mut room = [7; 5];
+        assert_eq!(recode(&[3], &mut room).unwrap(), [-1, 0, 1]);
+        assert_eq!(room, [-1, 0, 1, 7, 7]);
+    }
+}
+
+/// Both recode into every room up to one more than is needed: the same answer, and the same bytes left.
+#[test]
+fn the_two_recodings_agree() {
+    let mut noise = Noise(2);
+    for bytes in 0..=NUMBER_BYTES + 1 {
+        let other: Vec<u8> = (0..bytes).map(|_| noise.byte()).collect();
+        for number in [vec![0xff; bytes], vec![0x55; bytes], vec![0xaa; bytes], other] {
+            for room in 0..=8 * bytes + 2 {
+                let [plain, by_words] = RECODES.map(|recode| {
+                    let mut out = vec![7; room];
+                    let length = recode(&number, &mut out).map(<[i8]>::len);
+                    (length, out)
+                });
+                assert_eq!(plain, by_words, "{:x?} into {}", number, room);
+            }
+        }
+    }
 }
 
 #[test]
@@ -44,9 +72,11 @@ fn digits_one_by_one() {
     let longest = [[0xff; NUMBER_BYTES], [0x55; NUMBER_BYTES], [0xaa; NUMBER_BYTES]];
     let [ones, odd, even] = &longest;
     for number in [&[][..], &[1], &[43], ones, odd, even] {
-        let mut room = [7; RECODE_ROOM];
         let mut taken = digits(number).unwrap();
-        assert_eq!(recode(number, &mut room).unwrap(), taken.by_ref().collect::<Vec<_>>());
+        let all: Vec<i8> = taken.by_ref().collect();
+        for recode in RECODES {
+            assert_eq!(recode(number, &mut [7; RECODE_ROOM]).unwrap(), all);
+        }
         assert_eq!(taken.next(), None);
         assert_eq!(taken.next(), None);
     }
@@ -292,13 +322,16 @@ fn limits_by_number() {
     assert_eq!(std::mem::size_of::<sys::Recoder>(), 7 * 8);
 
     let mut room = [7; 1000];
-    let ones = recode(&[0xff; 48], &mut room).unwrap();
-    assert_eq!((ones.len(), ones[0], ones[384]), (385, -1, 1));
-    assert!(ones[1..384].iter().all(|&digit| digit == 0));
-    let small = Err(Refusal::RoomTooSmall { needed: 385 });
-    assert_eq!(recode(&[0xff; 48], &mut room[..384]), small);
+    for recode in RECODES {
+        let ones = recode(&[0xff; 48], &mut room).unwrap();
+        assert_eq!((ones.len(), ones[0], ones[384]), (385, -1, 1));
+        assert!(ones[1..384].iter().all(|&digit| digit == 0));
+        let small = Err(Refusal::RoomTooSmall { needed: 385 });
+        assert_eq!(recode(&[0xff; 48], &mut room[..384]), small);
+    }
     for number in [[0; 49], [0xff; 49]] {
         assert_eq!(recode(&number, &mut room), Err(Refusal::NumberTooLong));
+        assert_eq!(recode_words(&number, &mut room), Err(Refusal::NumberTooLong));
         assert_eq!(digits(&number).unwrap_err(), Refusal::NumberTooLong);
         assert_eq!(forecast(&number, Method::Naf), Err(Refusal::NumberTooLong));
         assert_eq!(plan(&number, Method::Naf, &mut []), Err(Refusal::NumberTooLong));
@@ -367,11 +400,13 @@ fn one_spelling() {
     for number in [&[0x2b][..], &[1], &top_zero[..47]] {
         let mut room = [7; 385];
         assert!(recode(number, &mut room).is_ok());
+        assert!(recode_words(number, &mut room).is_ok());
         assert!(digits(number).is_ok());
         assert!(forecast(number, Method::Naf).is_ok());
     }
     // Zero has no bytes.
     assert_eq!(recode(&[], &mut []), Ok(&[][..]));
+    assert_eq!(recode_words(&[], &mut []), Ok(&[][..]));
     assert_eq!(digits(&[]).unwrap().next(), None);
     assert_eq!(forecast(&[], Method::Naf), Err(Refusal::NumberIsZero));
     assert_eq!(plan(&[], Method::Naf, &mut []), Err(Refusal::NumberIsZero));
@@ -410,6 +445,7 @@ fn refused_by_every_call(number: &[u8], refusal: usize) {
             length: 0,
         };
         assert_eq!(sys::recode(number, &mut out), length, "{:x?}", number);
+        assert_eq!(sys::recode_words(number, &mut out), length, "{:x?}", number);
         for (method, width) in [(1, 0), (2, 6), (3, 6), (4, 0), (0, 0), (4, 1), (5, 0)] {
             assert_eq!(sys::plan(number, method, width, &mut out), counts, "{:x?}", number);
             assert_eq!(sys::forecast(number, method, width), counts, "{:x?}", number);
@@ -423,6 +459,7 @@ fn refused_by_every_call(number: &[u8], refusal: usize) {
         assert_eq!(out, vec![7; room], "{:x?}", number);
     }
     assert_eq!(recode(number, &mut [7; 385]), Err(safe));
+    assert_eq!(recode_words(number, &mut [7; 385]), Err(safe));
     assert_eq!(forecast(number, Method::Naf), Err(safe));
     assert_eq!(digits(number).unwrap_err(), safe);
     // The recoder is that of zero.

@@ -160,6 +160,7 @@ fn fields_agree() {
     };
     agree("lesmutka_started", sys::start(&number, &mut recoder));
     agree("lesmutka_length", sys::recode(&number, space));
+    agree("lesmutka_length", sys::recode_words(&number, space));
     agree("lesmutka_value", sys::read_back(&[1], space));
     agree("lesmutka_counts", sys::forecast(&number, 1, 0));
     agree(

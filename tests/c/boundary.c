@@ -43,6 +43,10 @@ static void empty_buffers(void) {
     EXPECT(recoded.refusal == 0 && recoded.place == 0 && recoded.length == 0);
     recoded = lesmutka_recode(one, 1, NULL, 0);
     EXPECT(recoded.refusal == LESMUTKA_ROOM_TOO_SMALL && recoded.place == 1 && recoded.length == 0);
+    recoded = lesmutka_recode_words(NULL, 0, NULL, 0);
+    EXPECT(recoded.refusal == 0 && recoded.place == 0 && recoded.length == 0);
+    recoded = lesmutka_recode_words(one, 1, NULL, 0);
+    EXPECT(recoded.refusal == LESMUTKA_ROOM_TOO_SMALL && recoded.place == 1 && recoded.length == 0);
     lesmutka_length cleaned = lesmutka_clean(NULL, 0, NULL, 0);
     EXPECT(cleaned.refusal == 0 && cleaned.place == 0 && cleaned.length == 0);
     lesmutka_value value = lesmutka_read_back(NULL, 0, NULL, 0);
@@ -116,9 +120,11 @@ static void rooms(void) {
     memset(number, 0xff, sizeof number);
     memset(digits, 0x01, sizeof digits);
     EXPECT(lesmutka_recode(number, sizeof number, out, LESMUTKA_RECODE_ROOM).length == LESMUTKA_RECODE_ROOM);
+    EXPECT(lesmutka_recode_words(number, sizeof number, out, LESMUTKA_RECODE_ROOM).length == LESMUTKA_RECODE_ROOM);
     EXPECT(lesmutka_clean(digits, sizeof digits, out, LESMUTKA_CLEAN_ROOM).length == LESMUTKA_CLEAN_ROOM);
     EXPECT(lesmutka_read_back(digits, sizeof digits, out, LESMUTKA_READ_BACK_ROOM).length == LESMUTKA_READ_BACK_ROOM);
     EXPECT(lesmutka_recode(number, sizeof number, out, LESMUTKA_RECODE_ROOM - 1).place == LESMUTKA_RECODE_ROOM);
+    EXPECT(lesmutka_recode_words(number, sizeof number, out, LESMUTKA_RECODE_ROOM - 1).place == LESMUTKA_RECODE_ROOM);
     EXPECT(lesmutka_clean(digits, sizeof digits, out, LESMUTKA_CLEAN_ROOM - 1).place == LESMUTKA_CLEAN_ROOM);
     EXPECT(lesmutka_read_back(digits, sizeof digits, out, LESMUTKA_READ_BACK_ROOM - 1).place == LESMUTKA_READ_BACK_ROOM);
 }
@@ -144,6 +150,8 @@ static void refusals(void) {
     uint8_t out[LESMUTKA_CLEAN_ROOM], space[LESMUTKA_WORK_SPACE(LESMUTKA_PLAN_STEPS)];
     lesmutka_length length = lesmutka_recode(number, sizeof number, out, sizeof out);
     EXPECT(length.refusal == LESMUTKA_NUMBER_TOO_LONG && length.place == 0);
+    length = lesmutka_recode_words(number, sizeof number, out, sizeof out);
+    EXPECT(length.refusal == LESMUTKA_NUMBER_TOO_LONG && length.place == 0);
     lesmutka_counts steps = lesmutka_forecast(number, 0, LESMUTKA_NAF, 0);
     EXPECT(steps.refusal == LESMUTKA_NUMBER_IS_ZERO && steps.place == 0);
     steps = lesmutka_forecast(number, LESMUTKA_NUMBER_BYTES, LESMUTKA_NAF, 0);
@@ -155,6 +163,8 @@ static void refusals(void) {
     length = lesmutka_clean(digits, sizeof digits, out, sizeof out);
     EXPECT(length.refusal == LESMUTKA_STRING_TOO_LONG && length.place == 0);
     length = lesmutka_recode(one, 1, out, 0);
+    EXPECT(length.refusal == LESMUTKA_ROOM_TOO_SMALL && length.place == 1);
+    length = lesmutka_recode_words(one, 1, out, 0);
     EXPECT(length.refusal == LESMUTKA_ROOM_TOO_SMALL && length.place == 1);
     lesmutka_accepted checked = lesmutka_check(one, 1, plan, LESMUTKA_STEP_BYTES - 1, space, sizeof space);
     EXPECT(checked.refusal == LESMUTKA_PLAN_LENGTH && checked.place == 0);
@@ -274,6 +284,8 @@ static void refused_number(const uint8_t *number, size_t length, size_t refusal)
     for (size_t i = 0; i < sizeof rooms / sizeof rooms[0]; i++) {
         lesmutka_length recoded = lesmutka_recode(number, length, lent, rooms[i]);
         EXPECT(recoded.refusal == refusal && recoded.place == 0 && recoded.length == 0);
+        recoded = lesmutka_recode_words(number, length, lent, rooms[i]);
+        EXPECT(recoded.refusal == refusal && recoded.place == 0 && recoded.length == 0);
         for (uint32_t method = 0; method <= LESMUTKA_NAF; method++) {
             lesmutka_counts counts = lesmutka_plan(number, length, method, 0, lent, rooms[i]);
             EXPECT(counts.refusal == refusal && counts.place == 0);
@@ -317,9 +329,35 @@ static void spellings(void) {
     /* The same number without that byte; a zero byte below the highest. */
     number[0] = 43;
     EXPECT(lesmutka_recode(number, 1, lent, ROOM).length == 7);
+    EXPECT(lesmutka_recode_words(number, 1, lent, ROOM).length == 7);
     number[0] = 0;
     number[1] = 1;
     EXPECT(lesmutka_recode(number, 2, lent, ROOM).length == 9);
+    EXPECT(lesmutka_recode_words(number, 2, lent, ROOM).length == 9);
+}
+
+/* By words or not, a number is recoded into the same bytes, and nothing else of the lent buffer changes: numbers of
+ * every length, into just the room, a byte more and a byte less. */
+static void two_recodings(void) {
+    const uint8_t patterns[] = {0xff, 0x55, 0xaa, 0x2b};
+    uint8_t number[LESMUTKA_NUMBER_BYTES], digits[LESMUTKA_RECODE_ROOM];
+    for (size_t i = 0; i < sizeof patterns; i++) {
+        memset(number, patterns[i], sizeof number);
+        for (size_t length = 0; length <= sizeof number; length++) {
+            size_t needed = lesmutka_recode(number, length, digits, sizeof digits).length;
+            for (size_t room = needed > 0 ? needed - 1 : 0; room <= needed + 1; room++) {
+                lend();
+                lesmutka_length recoded = lesmutka_recode_words(number, length, lent, room);
+                if (room < needed) {
+                    EXPECT(recoded.refusal == LESMUTKA_ROOM_TOO_SMALL && recoded.place == needed);
+                    EXPECT(recoded.length == 0 && changed_only(0));
+                } else {
+                    EXPECT(recoded.refusal == 0 && recoded.place == 0 && recoded.length == needed);
+                    EXPECT(memcmp(lent, digits, needed) == 0 && changed_only(needed));
+                }
+            }
+        }
+    }
 }
 
 typedef lesmutka_parsed parser(const uint8_t *, size_t, uint8_t *, size_t);
@@ -581,6 +619,7 @@ int main(void) {
     hidden_doublings();
     largest_sizes();
     spellings();
+    two_recodings();
     hexadecimal();
     decimal();
     lengths();

@@ -36,6 +36,11 @@ static void recode(void) {
     answer = lesmutka_recode(bytes, length, out, room).refusal;
 }
 
+static void recode_words(void) {
+    mark();
+    answer = lesmutka_recode_words(bytes, length, out, room).refusal;
+}
+
 static void start(void) {
     mark();
     answer = lesmutka_start(bytes, length, &recoder).refusal;
@@ -173,17 +178,20 @@ static void numbers(void) {
     for (size_t i = 0; i < sizeof number[2]; i++)
         number[2][i] = (uint8_t)(37 * i + 11);
 
-    for (int i = 0; i < 3; i++) {
-        bytes = number[i];
-        for (length = 1; length <= LESMUTKA_NUMBER_BYTES + 1; length++) {
-            room = sizeof out;
-            measure(recode, length > LESMUTKA_NUMBER_BYTES ? LESMUTKA_NUMBER_TOO_LONG : 0);
-            room = 0;
-            measure(recode, length > LESMUTKA_NUMBER_BYTES ? LESMUTKA_NUMBER_TOO_LONG : LESMUTKA_ROOM_TOO_SMALL);
+    for (int words = 0; words < 2; words++) {
+        void (*run)(void) = words ? recode_words : recode;
+        for (int i = 0; i < 3; i++) {
+            bytes = number[i];
+            for (length = 1; length <= LESMUTKA_NUMBER_BYTES + 1; length++) {
+                room = sizeof out;
+                measure(run, length > LESMUTKA_NUMBER_BYTES ? LESMUTKA_NUMBER_TOO_LONG : 0);
+                room = 0;
+                measure(run, length > LESMUTKA_NUMBER_BYTES ? LESMUTKA_NUMBER_TOO_LONG : LESMUTKA_ROOM_TOO_SMALL);
+            }
         }
+        measure_refused(run);
+        report(words ? "recode_words" : "recode");
     }
-    measure_refused(recode);
-    report("recode");
 
     for (int i = 0; i < 3; i++) {
         bytes = number[i];

@@ -972,6 +972,50 @@ pub fn bits_by_sign(plan: &[u8], space: &[u8]) -> [usize; 2] {
     largest
 }
 
+/// Numbers of this many bytes, n bits, whose recoding by words is easy to get wrong: 2^n / 3 and
+/// 2^(n + 1) / 3, rounded down and up, where three times the number gets its first and its second bit
+/// above these n; all ones and one less; a 1 at the top, alone and above a 1 at the bottom; a 1 in the
+/// highest byte, alone and above all ones.
+pub fn corners(bytes: usize) -> Vec<Vec<u8>> {
+    if bytes == 0 {
+        return vec![Vec::new()];
+    }
+    // The highest byte, those below it, and which bits of the lowest are turned.
+    let of = |high: u8, below: u8, turned: u8| {
+        let mut number = vec![below; bytes];
+        number[bytes - 1] = high;
+        number[0] ^= turned;
+        number
+    };
+    vec![
+        of(0x55, 0x55, 0),
+        of(0x55, 0x55, 0x55 ^ 0x56),
+        of(0xAA, 0xAA, 0),
+        of(0xAA, 0xAA, 0xAA ^ 0xAB),
+        of(0xFF, 0xFF, 0),
+        of(0xFF, 0xFF, 1),
+        of(0x80, 0x00, 0),
+        of(0x80, 0x00, 1),
+        of(0x01, 0x00, 0),
+        of(0x01, 0xFF, 0),
+    ]
+}
+
+/// Every number of at most this many words, each of them 0, all ones, every second bit from the lowest or
+/// from the next, the lowest bit or the highest; zero too.
+pub fn mixed_words(most: u32) -> impl Iterator<Item = Vec<u8>> {
+    const WORDS: [u64; 6] = [0, u64::MAX, u64::MAX / 3, u64::MAX / 3 * 2, 1, 1 << 63];
+    // As base 6 writes it, a mix has no high words 0: each number comes once.
+    (0..WORDS.len().pow(most)).map(|mut mix| {
+        let mut number = Vec::new();
+        while mix > 0 {
+            number.extend(WORDS[mix % WORDS.len()].to_le_bytes());
+            mix /= WORDS.len();
+        }
+        trimmed(&number).to_vec()
+    })
+}
+
 /// The number without its high zero bytes.
 pub fn trimmed(number: &[u8]) -> &[u8] {
     let length = number.iter().rposition(|&byte| byte != 0).map_or(0, |top| top + 1);

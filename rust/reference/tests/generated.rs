@@ -4,7 +4,10 @@
 
 mod common;
 
-use reference::generate::{bits_by_sign, hidden_doublings, largest_of, methods, one_bit_apart, trimmed, Generator};
+use reference::generate::{
+    bit_length, bits_by_sign, corners, hidden_doublings, largest_of, methods, mixed_words, one_bit_apart, trimmed,
+    Generator,
+};
 use reference::limits::*;
 use reference::refusal::{HIGHEST_BYTE_IS_ZERO, LAST, WRONG_END};
 use reference::*;
@@ -91,6 +94,71 @@ fn recode_cases() {
     }
     tally.assert_all(&[0, 1, 6, 13]);
     tally.assert_without(&[6]);
+}
+
+/// The corners and the mixes are numbers that are taken, and none of the mixes comes twice. Three times a
+/// corner has no bit above its bytes, one or two.
+#[test]
+fn corners_and_mixed_words() {
+    for bytes in 1..=NUMBER_BYTES {
+        let above: Vec<usize> = corners(bytes)
+            .iter()
+            .map(|number| {
+                assert!(number.len() == bytes && number.last() != Some(&0), "{:x?}", number);
+                let number = common::Big::from_bytes(number);
+                let triple = number.plus(&number).plus(&number);
+                bit_length(&triple.size).saturating_sub(8 * bytes)
+            })
+            .collect();
+        assert_eq!(above, [0, 1, 1, 2, 2, 2, 1, 1, 0, 0], "{} bytes", bytes);
+    }
+    let mut mixes: Vec<Vec<u8>> = mixed_words(3).collect();
+    assert!(mixes.iter().all(|number| number.last() != Some(&0)));
+    mixes.sort();
+    mixes.dedup();
+    assert_eq!(mixes.len(), 6 * 6 * 6);
+}
+
+#[test]
+fn recode_corners() {
+    let numbers = (0..=NUMBER_BYTES).flat_map(corners).chain(mixed_words(4));
+    for number in numbers {
+        let (mut out, mut expected_out) = ([7; RECODE_ROOM], [7; RECODE_ROOM]);
+        let expected = common::recode(&number, &mut expected_out);
+        assert_eq!(recode(&number, &mut out), expected, "{:x?}", number);
+        assert_eq!(out, expected_out, "{:x?}", number);
+    }
+}
+
+/// T-12: "The nonzero places of the NAF are the ones in 3e XOR e, shifted down by one." There the digit is
+/// minus 1 exactly if e has the one. The digits are those of the rule modulo 4, and 3e is a sum.
+#[test]
+fn nonzero_places() {
+    let mut generator = Generator::new(12);
+    let random: Vec<Vec<u8>> = (0..CASES).map(|_| generator.number()).collect();
+    let small = (0..1u32 << 16).map(|number| number.to_le_bytes().to_vec());
+    let corners = (0..=NUMBER_BYTES).flat_map(corners);
+    let mut seen = [0; 3];
+    for number in small.chain(corners).chain(mixed_words(4)).chain(random) {
+        let number = common::Big::from_bytes(&number);
+        let triple = number.plus(&number).plus(&number).bits();
+        let single = number.bits();
+        let digits = number.canonical();
+        assert_eq!(digits.len(), triple.len().saturating_sub(1), "{:x?}", number);
+        // Bit 0 is the same in both.
+        assert_eq!(triple.first(), single.first(), "{:x?}", number);
+        for (place, &digit) in digits.iter().enumerate() {
+            let in_single = single.get(place + 1) == Some(&true);
+            let expected = match (triple[place + 1] != in_single, in_single) {
+                (false, _) => 0x00,
+                (true, false) => 0x01,
+                (true, true) => 0xFF,
+            };
+            assert_eq!(digit, expected, "{:x?}, place {}", number, place);
+            seen[usize::from(digit.wrapping_add(1))] += 1;
+        }
+    }
+    assert!(seen.iter().all(|&digits| digits > 100_000), "{:?}", seen);
 }
 
 #[test]

@@ -8,7 +8,7 @@
 //!
 //! writes the two files again.
 
-use crate::generate::{largest_of, methods, power_of_two};
+use crate::generate::{corners, largest_of, methods, power_of_two};
 use crate::limits::*;
 use crate::refusal::{Refusal, LAST};
 use crate::{check, clean, forecast, plan, read_back, recode, text, Accepted, Counts, Recoder};
@@ -23,8 +23,9 @@ const DONE: usize = 0x100;
 const LINE_BYTES: usize = 2 * PLAN_ROOM;
 const MOST_ROOM: usize = work_space(PLAN_STEPS + 1);
 
-const CALLS: [&str; 12] = [
-    "recode", "take", "clean", "readback", "plan", "forecast", "check", "hex", "decimal", "digits", "steps", "words",
+const CALLS: [&str; 13] = [
+    "recode", "bywords", "take", "clean", "readback", "plan", "forecast", "check", "hex", "decimal", "digits", "steps",
+    "words",
 ];
 
 // Answers.
@@ -52,7 +53,7 @@ fn answer(request: &str) -> String {
     let input = bytes(words[2]);
     let mut out = vec![FILL; room];
     match (words[0], &words[3..]) {
-        ("recode", []) => fields(recode(&input, &mut out).map(|length| [length])) + &buffer(&out),
+        ("recode" | "bywords", []) => fields(recode(&input, &mut out).map(|length| [length])) + &buffer(&out),
         ("take", []) => take(&input, room),
         ("clean", []) => fields(clean(&input, &mut out).map(|length| [length])) + &buffer(&out),
         ("readback", []) => {
@@ -284,8 +285,10 @@ impl Requests {
         }
     }
 
+    /// Recoded, and again by words.
     fn recode(&mut self, room: usize, number: &[u8]) {
         self.line("recode", room, number, "");
+        self.line("bywords", room, number, "");
     }
 
     fn take(&mut self, times: usize, number: &[u8]) {
@@ -363,6 +366,14 @@ impl Requests {
         self.check(work_space(steps), number, &out[..STEP_BYTES * steps]);
     }
 
+    /// Recoded into just the room that it takes, a byte more and a byte less.
+    fn recode_fitted(&mut self, number: &[u8]) {
+        let length = recode(number, &mut [0; RECODE_ROOM]).unwrap();
+        for room in [length, length + 1, length.saturating_sub(1)] {
+            self.recode(room, number);
+        }
+    }
+
     fn numbers(&mut self) {
         self.title("Numbers to try by hand: recoded, then taken digit by digit until done, and done again");
         for number in [0, 1, 3, 7, 15, 25, 27, 43] {
@@ -386,6 +397,18 @@ impl Requests {
         self.recode(0, &[]);
         for room in [7, 6, 40, 0] {
             self.recode(room, &small(43));
+        }
+        self.title(WHOLE_WORDS);
+        for words in 1..=NUMBER_WORDS {
+            for number in corners(8 * words) {
+                self.recode_fitted(&number);
+            }
+        }
+        self.title(BYTES_ABOVE);
+        for bytes in [1, 7, 9, NUMBER_BYTES - 1] {
+            for number in corners(bytes) {
+                self.recode(RECODE_ROOM, &number);
+            }
         }
         self.title("The published table of non-adjacent forms");
         for number in 1..40 {
@@ -845,7 +868,10 @@ impl Requests {
 /// Bit lengths around the borders of bytes and words, those of the longest number and the largest value included.
 pub const EDGES: [usize; 8] = [8, 9, 63, 64, 65, NUMBER_BITS, NUMBER_BITS + 1, VALUE_BITS];
 
-/// The titles of ten sections.
+/// The titles of twelve sections.
+pub const WHOLE_WORDS: &str =
+    "Whole words: three times the number has no bit above them, one or two; carries through all of them";
+pub const BYTES_ABOVE: &str = "The same for a byte more or less than whole words";
 pub const HIDDEN: &str = "Equal values added and opposite ones subtracted, at two positions, and what is near";
 pub const NEAR: &str = "Values that differ in the lowest bit, in a middle byte, in the highest byte, and not at all";
 pub const LARGEST: &str = "The largest size: of the empty plan, at the end, on the way, below zero";

@@ -90,7 +90,7 @@ fn every_refusal_is_stored() {
 /// number is too long; the takes then answer done.
 #[test]
 fn highest_bytes_of_zero_are_stored() {
-    for call in ["recode", "take", "plan", "forecast", "check"] {
+    for call in ["recode", "bywords", "take", "plan", "forecast", "check"] {
         let mut seen = [0; 2];
         let padded = STDOUT
             .lines()
@@ -109,6 +109,34 @@ fn highest_bytes_of_zero_are_stored() {
         }
         assert!(seen[0] > 5 && seen[1] > 0, "{}: {:?}", call, seen);
     }
+}
+
+/// Each number is recoded by words right after it is recoded, into the same room, with the same answer.
+#[test]
+fn both_recodings_are_stored() {
+    let all: Vec<Stored> = STDOUT.lines().filter_map(Stored::read).collect();
+    let of = |call: &str| all.iter().filter(|stored| stored.request[0] == call).count();
+    let mut pairs = 0;
+    for pair in all.windows(2).filter(|pair| pair[0].request[0] == "recode") {
+        assert_eq!(pair[1].request[0], "bywords");
+        assert_eq!(pair[0].request[1..], pair[1].request[1..]);
+        assert_eq!(pair[0].answer, pair[1].answer, "{:?}", pair[0].request);
+        pairs += 1;
+    }
+    assert_eq!((of("recode"), of("bywords")), (pairs, pairs));
+    // Into just the room and a byte more, then refused: by how many digits are needed.
+    for stored in section(WHOLE_WORDS).chunks(6) {
+        let length = stored[0].field(2);
+        for (answers, room) in stored.chunks(2).zip([length, length + 1, length - 1]) {
+            let expected = if room < length { [6, length, 0] } else { [0, 0, length] };
+            for answer in answers {
+                assert_eq!(answer.request[1], room.to_string());
+                assert_eq!([0, 1, 2].map(|index| answer.field(index)), expected);
+            }
+        }
+    }
+    assert_eq!(section(WHOLE_WORDS).len(), 6 * 10 * NUMBER_BYTES / 8);
+    assert_eq!(section(BYTES_ABOVE).len(), 2 * 10 * 4);
 }
 
 /// A doubling adds equal values or subtracts opposite ones, whatever its positions are (docs/RULES.md, 3.7).

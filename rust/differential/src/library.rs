@@ -34,6 +34,11 @@ pub fn recode(number: &[u8], out: &mut [u8]) -> Result<usize, Refusal> {
     refused(answer.refusal, answer.place, &[answer.length]).map(|_| answer.length)
 }
 
+pub fn recode_words(number: &[u8], out: &mut [u8]) -> Result<usize, Refusal> {
+    let answer = sys::recode_words(number, out);
+    refused(answer.refusal, answer.place, &[answer.length]).map(|_| answer.length)
+}
+
 pub fn clean(digits: &[u8], out: &mut [u8]) -> Result<usize, Refusal> {
     let answer = sys::clean(digits, out);
     refused(answer.refusal, answer.place, &[answer.length]).map(|_| answer.length)

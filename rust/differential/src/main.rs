@@ -7,7 +7,8 @@ mod memory;
 use lesmutka::sys;
 use memory::Lent;
 use reference::generate::{
-    bit_length, bits_by_sign, hidden_doublings, largest_of, methods, one_bit_apart, trimmed, Generator, Rng,
+    bit_length, bits_by_sign, corners, hidden_doublings, largest_of, methods, mixed_words, one_bit_apart, trimmed,
+    Generator, Rng,
 };
 use reference::refusal::{HIGHEST_BYTE_IS_ZERO, LAST, MALFORMED_STEP, WRONG_END};
 use reference::{limits, Refusal};
@@ -170,15 +171,52 @@ fn calls<T: PartialEq + Debug>(
     tally
 }
 
-fn recode(cases: &mut Generator, rng: &mut Rng) -> Tally {
-    let mut padded = padded().flat_map(|number| [(number.clone(), 0), (number, limits::RECODE_ROOM)]);
-    let next = || {
-        padded.next().unwrap_or_else(|| {
-            let case = cases.recode_case();
-            (case.number, case.room)
-        })
-    };
-    calls("recode", rng, next, library::recode, reference::recode)
+/// The calls that recode, each beside the reference, then the one by words beside the other.
+const RECODINGS: [(&str, Call<usize>, Call<usize>); 3] = [
+    ("recode", library::recode, reference::recode),
+    ("by words", library::recode_words, reference::recode),
+    ("both calls", library::recode_words, library::recode),
+];
+
+/// One number into the same bytes by all of them.
+fn recode_one(rng: &mut Rng, tallies: &mut [Tally], number: &[u8], room: usize) {
+    let number = Lent::holding(rng, number);
+    let lent = Lent::noise(rng, room);
+    for (tally, (_, ours, theirs)) in tallies.iter_mut().zip(RECODINGS) {
+        compare(
+            tally,
+            &[&number],
+            &lent,
+            |out| ours(number.part(), out),
+            |out| theirs(number.part(), out),
+        );
+    }
+}
+
+fn recode(cases: &mut Generator, rng: &mut Rng) -> [Tally; 3] {
+    let mut tallies = RECODINGS.map(|(call, _, _)| Tally::new(call));
+    for _ in 0..CASES {
+        let case = cases.recode_case();
+        recode_one(rng, &mut tallies, &case.number, case.room);
+    }
+    for number in padded() {
+        recode_one(rng, &mut tallies, &number, 0);
+        recode_one(rng, &mut tallies, &number, limits::RECODE_ROOM);
+    }
+    let needed = |number: &[u8]| reference::recode(number, &mut [0; limits::RECODE_ROOM]).expect("a number");
+    // Each room up to one more than is needed.
+    for number in (0..=limits::NUMBER_BYTES).flat_map(corners) {
+        for room in 0..=needed(&number) + 1 {
+            recode_one(rng, &mut tallies, &number, room);
+        }
+    }
+    // Just the room, and a byte less.
+    for number in mixed_words(NUMBER_WORDS as u32) {
+        let room = needed(&number);
+        recode_one(rng, &mut tallies, &number, room);
+        recode_one(rng, &mut tallies, &number, room.saturating_sub(1));
+    }
+    tallies
 }
 
 /// A highest byte of zero at every length, also where that is too long. Below it: zeros, a 1, all ones, a
@@ -669,7 +707,9 @@ fn main() {
     same_limits();
     let cases = &mut Generator::new(SEED);
     let rng = &mut Rng::new(SEED ^ 1);
-    recode(cases, rng).print(&[1, 6, 13]);
+    for recoding in recode(cases, rng) {
+        recoding.print(&[1, 6, 13]);
+    }
     take(cases, rng).print(&[1, 13]);
     clean(cases, rng).print(&[4, 5, 6]);
     read_back(cases, rng).print(&[4, 5, 6]);

@@ -1,12 +1,12 @@
 //! Forecasts by method 1: the library as C and as Rust call it, beside plain Rust by words and bit by
 //! bit, which is written for this and knows no other method, and `reference`.
-use crate::{keep, Inputs, Spread, ROUNDS};
+use crate::ways::{self, Way};
+use crate::Inputs;
 use lesmutka::{sys, Method};
 use reference::limits::NUMBER_BYTES;
 use reference::refusal::{HIGHEST_BYTE_IS_ZERO, NUMBER_IS_ZERO, NUMBER_TOO_LONG};
 use reference::{Counts, Refusal};
 use std::ops::AddAssign;
-use std::time::Instant;
 
 /// How often all numbers are forecast between two looks at the clock.
 const PASSES: usize = 16;
@@ -141,40 +141,8 @@ fn steps(answer: Result<Counts, Refusal>) -> usize {
     answer.map_or(0, Counts::total)
 }
 
-/// A way to forecast all numbers, which answers the steps of all plans together, and the nanoseconds for
-/// a number in each round.
-struct Way<'a> {
-    name: &'static str,
-    forecast: Box<dyn FnMut() -> usize + 'a>,
-    times: Vec<f64>,
-}
-
-impl<'a> Way<'a> {
-    fn new(name: &'static str, forecast: impl FnMut() -> usize + 'a) -> Way<'a> {
-        Way {
-            name,
-            forecast: Box::new(forecast),
-            times: Vec::new(),
-        }
-    }
-
-    /// By the steps of each number.
-    fn each(name: &'static str, inputs: &'a Inputs, steps: impl Fn(&[u8]) -> usize + 'a) -> Way<'a> {
-        Way::new(name, move || inputs.numbers.iter().map(|number| steps(number)).sum())
-    }
-
-    fn round(&mut self, numbers: usize) {
-        let start = Instant::now();
-        for _ in 0..PASSES {
-            keep(&(self.forecast)());
-        }
-        let time = start.elapsed().as_nanos() as f64;
-        self.times.push(time / (PASSES * numbers) as f64);
-    }
-}
-
-/// All ways on these inputs; the others are compared with the first.
-fn ways(inputs: &Inputs) -> Vec<Way<'_>> {
+/// All ways on these inputs: each answers the steps of all plans together.
+fn all(inputs: &Inputs) -> Vec<Way<'_>> {
     let Inputs { bytes, numbers, .. } = inputs;
     let (bytes, count) = (*bytes, numbers.len());
     let pointers: Vec<*const u8> = numbers.iter().map(|number| number.as_ptr()).collect();
@@ -215,56 +183,16 @@ fn ways(inputs: &Inputs) -> Vec<Way<'_>> {
 
 /// What is timed is done: all ways answer the same.
 pub fn agree(inputs: &Inputs) {
-    let answer: usize = inputs
+    let answer = inputs
         .numbers
         .iter()
         .map(|number| steps(reference::forecast(number, 1, 0)))
         .sum();
-    for way in &mut ways(inputs) {
-        assert_eq!((way.forecast)(), answer, "{}", way.name);
-    }
+    ways::agree(&mut all(inputs), answer);
 }
 
 pub fn print(sizes: &[Inputs]) {
-    let mut tables: Vec<Vec<Way>> = sizes.iter().map(ways).collect();
-    for round in 0..ROUNDS {
-        for (inputs, table) in sizes.iter().zip(&mut tables) {
-            for i in 0..table.len() {
-                let next = (round + i) % table.len();
-                table[next].round(inputs.numbers.len());
-            }
-        }
-    }
-    println!(
-        "\nforecasts by method 1: {} rounds, {} times over the numbers",
-        ROUNDS, PASSES
-    );
-    for (inputs, table) in sizes.iter().zip(&mut tables) {
-        println!(
-            "\n{:<24} {:>17} {:>19} {:>18}",
-            format!("numbers of {} bytes", inputs.bytes),
-            "ns a number",
-            "times as long",
-            "millions a second"
-        );
-        println!(
-            "{:<24} {:>8} {:>8} {:>10} {:>8} {:>18}",
-            "way", "best", "median", "best", "median", "median"
-        );
-        let first = Spread::of(&mut table[0].times);
-        for way in table {
-            let own = Spread::of(&mut way.times);
-            println!(
-                "{:<24} {:>8.1} {:>8.1} {:>10.2} {:>8.2} {:>18.1}",
-                way.name,
-                own.best,
-                own.median,
-                own.best / first.best,
-                own.median / first.median,
-                1e3 / own.median
-            );
-        }
-    }
+    ways::print("forecasts by method 1", PASSES, sizes, all);
 }
 
 #[cfg(test)]

@@ -9,6 +9,7 @@
 mod forecasts;
 mod lines;
 mod tuned;
+mod ways;
 
 use lesmutka::sys;
 use reference::generate::Rng;

@@ -5,9 +5,11 @@
 //! plain side is `reference`, written from the papers: no allocation, words of 64 bits, ordinary
 //! safe Rust. For take, whose work is as small as its call, there is a plain side that was made as
 //! fast as its author could, called and inlined (`tuned`). For forecasts by method 1, which are as
-//! short, there is a table of their own (`forecasts`).
+//! short, there are tables of their own (`forecasts`), and for recodings, beside several plain programs
+//! (`recodings`).
 mod forecasts;
 mod lines;
+mod recodings;
 mod tuned;
 mod ways;
 
@@ -209,8 +211,13 @@ fn agree(inputs: &Inputs, i: usize) {
     let (canonical, plan) = (&inputs.canonicals[i], &inputs.plans[i]);
     let mut a = vec![0; lesmutka::work_space(lesmutka::PLAN_STEPS)];
     let mut b = a.clone();
-    let length = sys::recode(number, &mut a);
-    assert_eq!(Ok(length.length), reference::recode(number, &mut b));
+    for recode in [sys::recode, sys::recode_words] {
+        let length = recode(number, &mut a);
+        assert_eq!(Ok(length.length), reference::recode(number, &mut b));
+        assert_eq!(a, b);
+        a.fill(0);
+        b.fill(0);
+    }
     assert_eq!(proved_takes(number), plain_takes(number));
     assert_eq!(proved_takes(number), tuned_takes(number, tuned::Recoder::take));
     let length = sys::clean(string, &mut a);
@@ -268,6 +275,12 @@ fn jobs(inputs: &Inputs) -> Vec<Job<'_>> {
     jobs.push(Job::new(
         "recode",
         move |i| keep(&sys::recode(&numbers[i], &mut a)),
+        move |i| keep(&reference::recode(&numbers[i], &mut b)),
+    ));
+    let (mut a, mut b) = (vec![0; ROOM], vec![0; ROOM]);
+    jobs.push(Job::new(
+        "recode by words",
+        move |i| keep(&sys::recode_words(&numbers[i], &mut a)),
         move |i| keep(&reference::recode(&numbers[i], &mut b)),
     ));
     jobs.push(Job::new(
@@ -365,5 +378,6 @@ fn main() {
         }
     }
     forecasts::print(&sizes);
+    recodings::print(rng);
     lines::print(&sizes);
 }

@@ -126,7 +126,7 @@ impl Desk {
                 },
                 Err(refusal) => Answer::from(refusal),
             }),
-            _ => Ok(lesmutka::recode(number, &mut self.digits).map_or_else(Answer::from, Answer::Digits)),
+            _ => Ok(lesmutka::recode_words(number, &mut self.digits).map_or_else(Answer::from, Answer::Digits)),
         };
         Answered {
             number: Some(number),

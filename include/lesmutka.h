@@ -132,9 +132,9 @@
 extern "C" {
 #endif
 
-/* The version, 10000 * major + 100 * minor + patch: this is 0.6.1. lesmutka_version answers that of
+/* The version, 10000 * major + 100 * minor + patch: this is 0.6.2. lesmutka_version answers that of
  * the library that is linked. */
-#define LESMUTKA_VERSION 601
+#define LESMUTKA_VERSION 602
 
 /* Limits. lesmutka_limits answers those of the library that is linked. */
 #define LESMUTKA_NUMBER_BYTES 48

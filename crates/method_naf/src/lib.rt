@@ -1,10 +1,12 @@
 // Method 4, NAF: its steps counted, and written.
 mod words;
 
+use integers::words_of;
 use plan_writing::Cursor;
-use recoding_digits::count;
 use rules::Counts;
 use rules::NUMBER_BYTES;
+use triples::count;
+use triples::tripled;
 ghost use mathlib.Core.Path.{_≡_};
 ghost use mathlib.Core.Logic.{_≢_};
 ghost use mathlib.Core.List.{List, _++_};
@@ -31,8 +33,10 @@ fn recoded(number: &[u8], digits: &mut [u8; MOST_DIGITS]) -> usize
     requires { ⌜ Admitted (now number) ⌝ }
     ensures { λ r. ⌜ Recoded (now (number .entry)) (now (digits .exit)) r ⌝ }
 {
-    let length = count(number);
-    recoding_digits::write(number, digits, length);
+    let words = words_of(number);
+    let triple = tripled(&words);
+    let length = count(number, &triple);
+    recoding_words_digits::write(&words, &triple, digits, length);
     length
 }
 

@@ -1,24 +1,63 @@
 -- `method_naf::recoded` meets its contract. Assumes nothing.
+use mathlib.Core.Path.{_≡_, ap, _∙_}
+use Prim.Native.Nat.{_*_}
 use native.Mathlib.Omega.{arith}
+use lib.Seq.{take-all}
+use Rattle.rules.specs.Limits.{numberBytes}
+use Rattle.integers.specs.Positional.{bytesValue, wordsValue}
 use Rattle.method_naf.proofs.Digits.{few-digits, recoded-there}
 use borrow.Author.Needs.{needs}
 use Rattle.method_naf.proofs.recoded.Statement.{statement}
 use Rattle.method_naf.proofs.recoded.Tie as tie
 
+-- the words hold the number
+held : (c : tie.After-words-of) → wordsValue (c .words-of .result) ≡ bytesValue (c .before .before .args .number .now)
+held c = c .words-of .ensures ∙ ap bytesValue (take-all numberBytes (c .before .before .args .number .now) (c .before .before .pre .short))
+
+words-of-requires : tie.Need-words-of-requires
+words-of-requires c κs = search needs
+
+tripled-requires : tie.Need-tripled-requires
+tripled-requires c κs = search needs
+
+slice-aggregate-count : tie.Need-slice-aggregate-count
+slice-aggregate-count c = search needs
+
 count-requires : tie.Need-count-requires
-count-requires c κs = search needs
+count-requires c κs =
+    let w : tie.After-words-of = search in
+    let t : tie.After-tripled = search in
+    (w .before .before .pre, t .tripled .ensures ∙ rw (held w))
+
+slice-aggregate-write : tie.Need-slice-aggregate-write
+slice-aggregate-write c = search needs
+
+slice-aggregate-write-2 : tie.Need-slice-aggregate-write-2
+slice-aggregate-write-2 c = search needs
 
 write-requires : tie.Need-write-requires
 write-requires c κs =
-    let count = c .before in
-    let start = count .before .before in
-    omega (arith, few-digits (start .args .number .now) (λ i. count .before .shared-slice-known .given i .fits) (start .pre), count .count .ensures)
+    let known : tie.After-shared-slice-known = search in
+    let t : tie.After-tripled = search in
+    let found : tie.After-count = search in
+    (t .tripled .ensures, omega (arith, few-digits (known .before .args .number .now) (λ i. known .shared-slice-known .given i .fits) (known .before .pre), found .count .ensures))
 
 returns : tie.Need-returns
 returns c =
-    let count = c .before .before in
-    let start = count .before .before in
-    recoded-there (start .args .number .now) (start .args .digits .now) (c .write .last .1 .0) (count .count .result) (λ i. count .before .shared-slice-known .given i .fits) (start .pre) (count .count .ensures) (c .write .ensures)
+    let known : tie.After-shared-slice-known = search in
+    let w : tie.After-words-of = search in
+    let found : tie.After-count = search in
+    recoded-there (known .before .args .number .now) (known .before .args .digits .now) _ (found .count .result) (λ i. known .shared-slice-known .given i .fits) (known .before .pre) (found .count .ensures) (rw (held w) at (c .write .ensures))
 
 pub recoded-spec : {M : Type 1} → statement M
-recoded-spec = tie.close (tie.spec count-requires write-requires returns)
+recoded-spec =
+    tie.close
+    (tie.spec
+    words-of-requires
+    tripled-requires
+    slice-aggregate-count
+    count-requires
+    slice-aggregate-write
+    slice-aggregate-write-2
+    write-requires
+    returns)

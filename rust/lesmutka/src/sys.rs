@@ -123,7 +123,7 @@ pub const DONE: u32 = 0x100;
 extern "C" {
     /// Writes the canonical string of a number. Refused: 1, 13, 6.
     pub fn lesmutka_recode(number: *const u8, number_length: usize, out: *mut u8, out_length: usize) -> Length;
-    /// The same by words, which is quicker. Refused: 1, 13, 6.
+    /// The same by words. Refused: 1, 13, 6.
     pub fn lesmutka_recode_words(number: *const u8, number_length: usize, out: *mut u8, out_length: usize) -> Length;
     /// Starts taking the canonical digits of a number. Refused: 1, 13; the recoder is then that of zero.
     pub fn lesmutka_start(number: *const u8, number_length: usize, recoder: *mut Recoder) -> Started;

@@ -1,15 +1,13 @@
--- The bytes of canonical digits, and these bytes at the start of an array with room for every number. Assumes nothing.
+-- The bytes of canonical digits, and these bytes in an array with room for every number. Assumes nothing.
 use mathlib.Core.Path.{_≡_, refl}
 use mathlib.Core.Logic.{_≢_}
-use mathlib.Core.List.{List, _++_}
-use Prim.Native.Nat.{ℕ, _+_, _≤_}
+use mathlib.Core.List.{List}
+use Prim.Native.Nat.{ℕ, _+_, _<_, _≤_}
 use native.Mathlib.Omega.{arith}
 use lib.IntN.{ℤ, pos}
-use lib.ListN.{length, drop, List·getD-append}
+use lib.ListN.{length, getD}
 use Rattle.integers.specs.Positional.{bytesValue}
-use Rattle.integers.specs.Tabulate.{tabulate}
 use Rattle.integers.proofs.Positional.{Below}
-use Rattle.integers.proofs.Tabulate.{length-tabulate, getD-tabulate}
 use Rattle.numbers.specs.Admission.{Admitted}
 use Rattle.signed_digits.specs.Strings.{digitAt}
 use Rattle.signed_digits.specs.Naf.{canonical}
@@ -40,14 +38,13 @@ digit-byte e i = rw (digit-left 2 (omega arith) i e) (go (low-digit (rests 2 i e
 pub few-digits : (number : List ℕ) → Below 256 number → Admitted number → length (canonical (pos (bytesValue number))) ≤ mostDigits
 few-digits number bytes admitted = omega (arith, most-digits number bytes, admitted .short)
 
--- the digits stand at its start, with all their places written
-pub recoded-there : (number out after : List ℕ) (n : ℕ) → Below 256 number → Admitted number → n ≡ length (canonical (pos (bytesValue number)))
-    → after ≡ tabulate (placeByte (canonical (pos (bytesValue number)))) n ++ drop n out → Recoded number after n
+-- the digits stand there, if the bytes of their places do
+pub recoded-there : (number after : List ℕ) (n : ℕ) → Below 256 number → Admitted number → n ≡ length (canonical (pos (bytesValue number)))
+    → ((i : ℕ) → i < n → getD after (i + 1) 0 ≡ placeByte (canonical (pos (bytesValue number))) i) → Recoded number after n
 unfolding placeByte
-recoded-there number out after n bytes admitted count e =
-    let ds : List ℤ = canonical (pos (bytesValue number)) in
+recoded-there number after n bytes admitted count at =
     record {
       count = count;
       within = omega (arith, few-digits number bytes admitted);
-      digit = λ i l. rw (e, List·getD-append (tabulate (placeByte ds) n) (drop n out) 0 i (rw (length-tabulate (placeByte ds) n) l), getD-tabulate (placeByte ds) n i l) (digit-byte (bytesValue number) i);
+      digit = λ i l. rw (at i l) (digit-byte (bytesValue number) i);
     }

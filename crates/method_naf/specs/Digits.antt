@@ -19,8 +19,8 @@ pub data Digit : ℕ → ℤ → Type 0 where
   plus : Digit 1 (pos 1)
   minus : Digit 255 (negsuc 0)
 
--- the n canonical digits of a number stand at the start of an array
+-- the n canonical digits of a number stand in an array, each one place up
 pub record Recoded (number digits : List ℕ) (n : ℕ) : Type 0 where
   pub count : n ≡ length (canonical (pos (bytesValue number)))
   pub within : n ≤ mostDigits
-  pub digit : (i : ℕ) → i < n → Digit (getD digits i 0) (digitAt (canonical (pos (bytesValue number))) i)
+  pub digit : (i : ℕ) → i < n → Digit (getD digits (i + 1) 0) (digitAt (canonical (pos (bytesValue number))) i)

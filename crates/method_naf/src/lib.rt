@@ -3,6 +3,7 @@ mod words;
 
 use integers::words_of;
 use plan_writing::Cursor;
+use recoding_words_digits::write_raised;
 use rules::Counts;
 use rules::NUMBER_BYTES;
 use triples::count;
@@ -25,18 +26,19 @@ ghost use Rattle.methods.specs.NonAdjacentForm.{nafSteps};
 ghost use Rattle.plan_writing.specs.Writing.{Writing};
 ghost use Rattle.method_naf.specs.Digits.{Digit, Recoded};
 
-// The most canonical digits of a number within the limit: one more than it has bits.
-const MOST_DIGITS: usize = 8 * NUMBER_BYTES + 1;
+// Room for the most canonical digits of a number within the limit, one more than it has bits, and a word more,
+// since whole words of them are written.
+const DIGIT_ROOM: usize = 8 * NUMBER_BYTES + 1 + 64;
 
-// Puts the canonical digits of a number at the start of an array; answers how many there are.
-fn recoded(number: &[u8], digits: &mut [u8; MOST_DIGITS]) -> usize
+// Puts the canonical digit at each place i of a number into an array at i + 1; answers how many there are.
+fn recoded(number: &[u8], digits: &mut [u8; DIGIT_ROOM]) -> usize
     requires { ⌜ Admitted (now number) ⌝ }
     ensures { λ r. ⌜ Recoded (now (number .entry)) (now (digits .exit)) r ⌝ }
 {
     let words = words_of(number);
     let triple = tripled(&words);
     let length = count(number, &triple);
-    recoding_words_digits::write(&words, &triple, digits, length);
+    write_raised(&words, &triple, digits, length);
     length
 }
 
@@ -82,11 +84,11 @@ pub fn write(number: &[u8], out: &mut [u8])
     requires { ⌜ stepBytes * length (nafSteps (bytesValue (now number))) ≤ length (now out) ⌝ }
     ensures { λ _. ⌜ now (out .exit) ≡ planBytesOf (nafSteps (bytesValue (now (number .entry)))) ++ drop (length (planBytesOf (nafSteps (bytesValue (now (number .entry)))))) (now (out .entry)) ⌝ }
 {
-    let mut digits = [0u8; MOST_DIGITS];
+    let mut digits = [0u8; DIGIT_ROOM];
     let mut c = Cursor::first();
     let mut i = recoded(number, &mut digits) - 1;
     while 0 < i {
         i -= 1;
-        c = at_digit(c, out, digits[i]);
+        c = at_digit(c, out, digits[i + 1]);
     }
 }

@@ -7,7 +7,7 @@ use native.Mathlib.Nat.{mul-zero, zero-add, div-eq-of-lt}
 use native.Mathlib.Omega.{arith}
 use lib.Bits.{bitXor, xor-shr, xor-lt, differ}
 use lib.IntN.{pos}
-use lib.ListN.{length, getD, take, drop}
+use lib.ListN.{length, getD, take, drop, List·getD-append}
 use lib.Pow.{pow-mono, shr-shr}
 use lib.Seq.{drop-drop, drop-at}
 use Rattle.integers.specs.Bits.{bit}
@@ -15,7 +15,7 @@ use Rattle.integers.specs.Positional.{wordsValue}
 use Rattle.integers.specs.Tabulate.{tabulate}
 use Rattle.integers.proofs.Bits.{bit-small, bit-of-element}
 use Rattle.integers.proofs.Positional.{Below}
-use Rattle.integers.proofs.Tabulate.{length-tabulate, tabulate-same, tabulate-join}
+use Rattle.integers.proofs.Tabulate.{length-tabulate, tabulate-same, tabulate-join, getD-tabulate}
 use Rattle.signed_digits.specs.Naf.{canonical}
 use Rattle.signed_digits.proofs.Triple.{digit-byte-at}
 use Rattle.digit_strings.specs.Places.{placeByte}
@@ -29,6 +29,10 @@ unfolding bit
 half-bit v i =
     let s : 1 + i ≡ i + 1 = omega arith in
     ap (λ (n : ℕ). n % 2) (shr-shr v 1 i ∙ rw s)
+
+half-difference : (more less i : ℕ) → difference (more / 2) (less / 2) i ≡ difference more less (i + 1)
+unfolding difference
+half-difference more less i = rw (half-bit more i, half-bit less i)
 
 -- a number below 2 ^ 64 has no bit above
 no-bit : (v i : ℕ) → v < 2 ^ 64 → 64 ≤ i → bit v i ≡ 0
@@ -66,19 +70,32 @@ module _ (words triple : List ℕ) (hw : Below (2 ^ 64) words) (ht : Below (2 ^ 
   unfolding bit
   less-bit k j h = bit-of-element 64 words k j h hw
 
-  -- the digits of a word above the lowest
-  pub word-digit : (k j : ℕ) → 0 < k → j < 64 → difference (getD triple k 0) (getD words k 0) j ≡ digit (64 * k - 1 + j)
+  -- the digit that is raised to a place, where its bit is
+  abbrev pub raised : ℕ → ℕ
+  raised = difference (3 * wordsValue words) (wordsValue words)
+
+  pub digit-raised : (i : ℕ) → raised (i + 1) ≡ digit i
   unfolding difference
+  digit-raised i = sym (digit-is i)
+
+  pub word-raised : (k j : ℕ) → j < 64 → difference (getD triple k 0) (getD words k 0) j ≡ raised (64 * k + j)
+  unfolding difference
+  word-raised k j h = rw (more-bit k j h, less-bit k j h)
+
+  -- the digits of a word above the lowest
+  word-digit : (k j : ℕ) → 0 < k → j < 64 → difference (getD triple k 0) (getD words k 0) j ≡ digit (64 * k - 1 + j)
   word-digit k j some h =
-      let u : 64 * k - 1 + j + 1 ≡ 64 * k + j = omega arith in
-      rw (more-bit k j h, less-bit k j h, digit-is (64 * k - 1 + j), u)
+      let u : 64 * k + j ≡ 64 * k - 1 + j + 1 = omega arith in
+      word-raised k j h ∙ ap raised u ∙ digit-raised (64 * k - 1 + j)
 
   -- those of the lowest
-  pub low-digit : (j : ℕ) → j < 63 → difference (getD triple 0 0 / 2) (getD words 0 0 / 2) j ≡ digit j
-  unfolding difference
+  low-digit : (j : ℕ) → j < 63 → difference (getD triple 0 0 / 2) (getD words 0 0 / 2) j ≡ digit j
   low-digit j h =
       let u : 64 * 0 + (j + 1) ≡ j + 1 = omega arith in
-      rw (half-bit (getD triple 0 0) j, half-bit (getD words 0 0) j, more-bit 0 (j + 1) (omega arith), less-bit 0 (j + 1) (omega arith), u, digit-is j)
+      halved ∙ word-raised 0 (j + 1) (omega arith) ∙ ap raised u ∙ digit-raised j
+    where
+      halved : difference (getD triple 0 0 / 2) (getD words 0 0 / 2) j ≡ difference (getD triple 0 0) (getD words 0 0) (j + 1)
+      halved = half-difference (getD triple 0 0) (getD words 0 0) j
 
   -- of two neighbouring places one is 0
   pub word-apart : (k : ℕ) → Apart (bitXor (getD triple k 0) (getD words k 0))
@@ -114,3 +131,14 @@ module _ (words triple : List ℕ) (hw : Below (2 ^ 64) words) (ht : Below (2 ^ 
       → after ≡ tabulate digit (64 * k - 1 + n) ++ drop (64 * k - 1 + n) lent
   word-written k n lent out after some h fits o w =
       w ∙ rw (tabulate-same (difference (getD triple k 0) (getD words k 0)) (λ j. digit (64 * k - 1 + j)) n (λ j l. word-digit k j some (omega arith)), o) (tabulate-join digit lent (64 * k - 1) n fits)
+
+  -- word k, raised, above the words below
+  pub raised-written : (k : ℕ) (lent out after : List ℕ) → 64 * k ≤ length lent → out ≡ tabulate raised (64 * k) ++ drop (64 * k) lent
+      → after ≡ take (64 * k) out ++ (tabulate (difference (getD triple k 0) (getD words k 0)) 64 ++ drop (64 * k + 64) out)
+      → after ≡ tabulate raised (64 * k + 64) ++ drop (64 * k + 64) lent
+  raised-written k lent out after fits o w =
+      w ∙ rw (tabulate-same (difference (getD triple k 0) (getD words k 0)) (λ j. raised (64 * k + j)) 64 (λ j l. word-raised k j l), o) (tabulate-join raised lent (64 * k) 64 fits)
+
+  pub raised-at : (n : ℕ) (lent out : List ℕ) → out ≡ tabulate raised n ++ drop n lent → (i : ℕ) → i + 1 < n → getD out (i + 1) 0 ≡ digit i
+  raised-at n lent out o i h =
+      rw (o, List·getD-append (tabulate raised n) (drop n lent) 0 (i + 1) (rw (length-tabulate raised n) h), getD-tabulate raised n (i + 1) h) (digit-raised i)

@@ -7,10 +7,10 @@ use words::store_word;
 use words::word_in;
 ghost use mathlib.Core.Path.{_≡_};
 ghost use mathlib.Core.List.{_++_};
-ghost use Prim.Native.Nat.{_+_, _*_, _<_, _≤_};
+ghost use Prim.Native.Nat.{ℕ, _+_, _*_, _<_, _≤_};
 ghost use lib.Bits.{bitXor};
 ghost use lib.IntN.{pos};
-ghost use lib.ListN.{length, take, drop};
+ghost use lib.ListN.{length, take, drop, getD};
 ghost use Rattle.integers.specs.Positional.{bytesValue, wordsValue};
 ghost use Rattle.integers.specs.Tabulate.{tabulate};
 ghost use Rattle.signed_digits.specs.Naf.{canonical};
@@ -141,4 +141,26 @@ pub fn write(words: &[u64], triple: &[u64], out: &mut [u8], count: usize)
         word_in(triple, k),
         word_in(words, k),
     );
+}
+
+// Writes the digits of whole words, up to place `count` or more, each one place up, where its bit is: byte 0 is
+// 0, and the digit at place i is byte i + 1.
+pub fn write_raised(words: &[u64], triple: &[u64], out: &mut [u8], count: usize)
+    requires { ⌜ wordsValue (now triple) ≡ 3 * wordsValue (now words) ⌝ }
+    requires { ⌜ count + 64 ≤ length (now out) ⌝ }
+    ensures { λ _. ⌜ ((i : ℕ) → i < count → getD (now (out .exit)) (i + 1) 0 ≡ placeByte (canonical (pos (wordsValue (now (words .entry))))) i) ⌝ }
+{
+    let fours = FOUR_DIGITS;
+    let mut k = 0;
+    while 64 * k <= count {
+        write_word(
+            out,
+            64 * k,
+            64,
+            &fours,
+            word_in(triple, k),
+            word_in(words, k),
+        );
+        k += 1;
+    }
 }

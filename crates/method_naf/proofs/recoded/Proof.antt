@@ -29,14 +29,14 @@ count-requires c κs =
     let t : tie.After-tripled = search in
     (w .before .before .pre, t .tripled .ensures ∙ rw (held w))
 
-slice-aggregate-write : tie.Need-slice-aggregate-write
-slice-aggregate-write c = search needs
+slice-aggregate-write-raised : tie.Need-slice-aggregate-write-raised
+slice-aggregate-write-raised c = search needs
 
-slice-aggregate-write-2 : tie.Need-slice-aggregate-write-2
-slice-aggregate-write-2 c = search needs
+slice-aggregate-write-raised-2 : tie.Need-slice-aggregate-write-raised-2
+slice-aggregate-write-raised-2 c = search needs
 
-write-requires : tie.Need-write-requires
-write-requires c κs =
+write-raised-requires : tie.Need-write-raised-requires
+write-raised-requires c κs =
     let known : tie.After-shared-slice-known = search in
     let t : tie.After-tripled = search in
     let found : tie.After-count = search in
@@ -47,7 +47,7 @@ returns c =
     let known : tie.After-shared-slice-known = search in
     let w : tie.After-words-of = search in
     let found : tie.After-count = search in
-    recoded-there (known .before .args .number .now) (known .before .args .digits .now) _ (found .count .result) (λ i. known .shared-slice-known .given i .fits) (known .before .pre) (found .count .ensures) (rw (held w) at (c .write .ensures))
+    recoded-there (known .before .args .number .now) _ (found .count .result) (λ i. known .shared-slice-known .given i .fits) (known .before .pre) (found .count .ensures) (λ i l. rw (held w) at (c .write-raised .ensures i l))
 
 pub recoded-spec : {M : Type 1} → statement M
 recoded-spec =
@@ -57,7 +57,7 @@ recoded-spec =
     tripled-requires
     slice-aggregate-count
     count-requires
-    slice-aggregate-write
-    slice-aggregate-write-2
-    write-requires
+    slice-aggregate-write-raised
+    slice-aggregate-write-raised-2
+    write-raised-requires
     returns)

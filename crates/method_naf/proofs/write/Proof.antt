@@ -50,6 +50,9 @@ loop-holds c =
 sub-i-2 : tie.Need-sub-i-2 Inv-loop μ-loop
 sub-i-2 c = search needs
 
+add-at-digit : tie.Need-add-at-digit Inv-loop μ-loop
+add-at-digit c = search needs
+
 array-read-at-digit : tie.Need-array-read-at-digit Inv-loop μ-loop
 array-read-at-digit c = search needs
 
@@ -99,6 +102,7 @@ write-spec =
     sub-i
     loop-holds
     sub-i-2
+    add-at-digit
     array-read-at-digit
     at-digit-requires
     loop-less

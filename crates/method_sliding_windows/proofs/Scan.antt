@@ -9,7 +9,6 @@ use native.Mathlib.Nat.{zero-add, add-zero, suc-add, lt-of-lt-of-le}
 use native.Mathlib.Omega.{arith}
 use lib.ListN.{length, take, drop}
 use lib.Pow.{pow-mono}
-use lib.Seq.{take-all}
 use Rattle.rules.specs.Limits.{numberBytes}
 use Rattle.integers.specs.Positional.{bytesValue, wordsValue}
 use Rattle.integers.proofs.Positional.{Below}
@@ -17,6 +16,7 @@ use Rattle.integers.specs.Bits.{bit, bitLength}
 use Rattle.integers.proofs.Bits.{quotient-none, bit-length-iff, bytes-length}
 use Rattle.rules.specs.declared.Counts.{Counts}
 use Rattle.numbers.specs.Admission.{Positive}
+use Rattle.numbers.proofs.Tests.{admitted-value}
 use Rattle.chains.specs.Steps.{Step, planBytesOf}
 use Rattle.chains.specs.Counts.{counts, countsOf, total}
 use Rattle.methods.specs.PartialPlan.{PartialPlan, none, double, doubled, addAt}
@@ -49,7 +49,7 @@ pub record InWords (number words : List ℕ) (n : ℕ) : Type 0 where
 
 pub in-words : (number words : List ℕ) (k : ℕ) → Below 256 number → Positive number → wordsValue words ≡ bytesValue (take numberBytes number) → k ≡ bitLength (bytesValue number) → InWords number words (k - 1)
 in-words number words k b p e l =
-    let same : wordsValue words ≡ bytesValue number = e ∙ ap bytesValue (take-all numberBytes number (p .admitted .short)) in
+    let same : wordsValue words ≡ bytesValue number = e ∙ admitted-value number (p .admitted) in
     record {
       same = same;
       some = omega (arith, p .nonzero);

@@ -1,5 +1,5 @@
 -- Each verdict on a number with what it is given for, and no other. Assumes nothing.
-use mathlib.Core.Path.{_≡_}
+use mathlib.Core.Path.{_≡_, ap}
 use mathlib.Core.Logic.{_↔_, _≢_, _⊎_, inl, inr}
 use mathlib.Core.Bool.{true, false}
 use mathlib.Core.List.{List, []}
@@ -7,7 +7,8 @@ use Prim.Native.Nat.{ℕ, _-_, _<_, _≤_}
 use borrow.Author.Tests.{lt-ltb, le-ltb, eq-eqb, ne-eqb}
 use native.Mathlib.Decide.{decLt, ℕ-discrete}
 use native.Mathlib.Omega.{arith}
-use lib.ListN.{length, getD}
+use lib.ListN.{length, getD, take}
+use lib.Seq.{take-all}
 use Rattle.rules.specs.Limits.{numberBytes}
 use Rattle.rules.specs.declared.Refusal.{Refusal}
 use Rattle.rules.specs.declared.Refusal.the-variants.{NumberTooLong, NumberIsZero, HighestByteIsZero}
@@ -89,6 +90,10 @@ module _ (number : List ℕ) where
       go Passed (admitted a) (no n) = let p = positive (record { admitted = a; nonzero = n }) in rw (positive-only p) p
 
 -- ---- the empty number is admitted, and zero; no other admitted number is zero
+
+-- no byte of it stands above the limit
+pub admitted-value : (number : List ℕ) → Admitted number → bytesValue (take numberBytes number) ≡ bytesValue number
+admitted-value number a = ap bytesValue (take-all numberBytes number (a .short))
 
 pub empty-admitted : Admitted []
 empty-admitted = record { short = omega arith; top = λ h. absurd (omega arith) }

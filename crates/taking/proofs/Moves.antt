@@ -8,7 +8,6 @@ use borrow.Author.Tests.{ne-eqb}
 use native.Mathlib.Omega.{arith}
 use lib.Dec.{leb, eqb}
 use lib.ListN.{getD, take}
-use lib.Seq.{take-all}
 use mir.Val.{boolByte}
 use Rattle.rules.specs.Limits.{numberBytes}
 use Rattle.rules.specs.declared.Refusal.{Refusal}
@@ -17,7 +16,7 @@ use Rattle.integers.specs.Positional.{bytesValue, wordsValue}
 use Rattle.integers.proofs.Bits.{bool-small}
 use Rattle.integers.proofs.Positional.{positional-drop}
 use Rattle.numbers.specs.Admission.{numberVerdict, Admitted}
-use Rattle.numbers.proofs.Tests.{number-only, admitted}
+use Rattle.numbers.proofs.Tests.{number-only, admitted, admitted-value}
 use Rattle.signed_digits.specs.Naf.{residue, lowDigit, rest}
 use Rattle.signed_digits.specs.Bytes.{digitByte}
 use Rattle.signed_digits.proofs.Steps.{low-digit-2, rest-2, by-four}
@@ -128,4 +127,4 @@ pub ready-is : (number words : List ℕ) → Admitted number → wordsValue word
 unfolding standsFor
 ready-is number words a e =
     let t = number-only number (admitted a) in
-    record { answer = rw t; recoder = rw t (omega (arith, e, ap bytesValue (take-all numberBytes number (a .short)))) }
+    record { answer = rw t; recoder = rw t (omega (arith, e, admitted-value number a)) }

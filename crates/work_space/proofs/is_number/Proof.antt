@@ -1,16 +1,16 @@
 -- `work_space::is_number` meets its contract: the words below k are the same. Assumes nothing.
-use mathlib.Core.Path.{_≡_, sym, ap, _∙_}
+use mathlib.Core.Path.{_≡_, sym, _∙_}
 use Prim.Native.Nat.{ℕ, _≤_, _<_, _-_, _^_}
 use borrow.Author.Count.{below-more}
 use borrow.Author.Tests.{ne-eqb}
 use native.Mathlib.Omega.{arith}
 use lib.ListN.{getD}
-use lib.Seq.{take-all}
 use mir.Syntax.{w64}
 use mir.Val.{Fits}
-use Rattle.rules.specs.Limits.{numberBytes, numberWords}
+use Rattle.rules.specs.Limits.{numberWords}
 use Rattle.integers.specs.Positional.{bytesValue, wordsValue}
 use Rattle.integers.proofs.Positional.{Below}
+use Rattle.numbers.proofs.Tests.{admitted-value}
 use Rattle.work_space.proofs.SameWords.{words-differ, top-decides, same-size, below-zero}
 use borrow.Author.Needs.{needs}
 use Rattle.work_space.proofs.is_number.Statement.{statement}
@@ -39,7 +39,7 @@ own-fit c i = let f : Fits w64 (getD (c .words-of .result) i 0) = search needs i
 own-value : (c : tie.After-words-of Inv-loop μ-loop) → wordsValue (c .words-of .result) ≡ bytesValue (c .before .before .before .before .args .number .now)
 own-value c =
     let start = c .before .before .before .before in
-    c .words-of .ensures ∙ ap bytesValue (take-all numberBytes (start .args .number .now) (start .pre .admitted .short))
+    c .words-of .ensures ∙ admitted-value (start .args .number .now) (start .pre .admitted)
 
 loop-holds : tie.Need-loop-holds Inv-loop μ-loop
 loop-holds c = (search needs, λ i h. absurd (omega arith))

@@ -1,18 +1,18 @@
 -- `method_naf::words::tally_of` meets its contract: the words below k are in the tally. Assumes nothing.
-use mathlib.Core.Path.{_≡_, _∙_, ap}
+use mathlib.Core.Path.{_≡_, _∙_}
 use mathlib.Core.List.{List}
 use Prim.Native.Nat.{ℕ, _+_, _*_, _-_, _^_, _≤_}
 use native.Mathlib.Nat.{div-eq-of-lt}
 use native.Mathlib.Numerals.{add-one}
 use native.Mathlib.Omega.{arith}
 use lib.ListN.{length, getD, drop}
-use lib.Seq.{take-all}
 use mir.Syntax.{w64}
 use mir.Val.{Fits}
 use Rattle.rules.specs.Limits.{numberBytes, numberWords}
 use Rattle.integers.specs.Positional.{bytesValue, wordsValue}
 use Rattle.integers.proofs.Powers.{power-of-power}
 use Rattle.integers.proofs.Positional.{Below, positional-drop, positional-lt, positional-div}
+use Rattle.numbers.proofs.Tests.{admitted-value}
 use Rattle.method_naf.specs.Tally.{Within, Tallied}
 use Rattle.method_naf.proofs.Tally.{nothing-tallied, all-tallied}
 use borrow.Author.Needs.{needs}
@@ -75,7 +75,7 @@ returns c =
     let words = c .before .before .before .before .before .words-of in
     let loop = c .before .before .before .before .loop in
     let last = c .before .with-word2 .ensures in
-    let whole : wordsValue (words .result) ≡ bytesValue number = words .ensures ∙ ap bytesValue (take-all numberBytes number (search needs)) in
+    let whole : wordsValue (words .result) ≡ bytesValue number = words .ensures ∙ admitted-value number (search needs) in
     let fits : Below (2 ^ 64) (words .result) = λ i. let f : Fits w64 (getD (words .result) i 0) = search needs in f .fits in
     let none = none-above (words .result) number (loop .k) fits (λ i. c .before .before .before .before .before .before .shared-slice-known .given i .fits) whole (search needs) in
     rw (← whole, c .length .ensures) (all-tallied (wordsValue (words .result)) (c .before .with-word2 .result) (omega (arith, last .2, loop .inv .2)) (last .3 (wordsValue (words .result)) 0 (rw none at (loop .inv .3))))

@@ -4,6 +4,8 @@ use recoding::recode;
 use recoding_words::recode_words;
 use rules::Written;
 ghost use mathlib.Core.Path.{_≡_};
+ghost use lib.ListN.{length};
+ghost use Rattle.recoding.specs.Recode.{recodeAnswer, recodeBuffer};
 
 // The answers of two calls.
 pub struct Both {
@@ -15,8 +17,8 @@ pub struct Both {
 // included, and so is every byte.
 pub fn recode_both(number: &[u8], one: &mut [u8], other: &mut [u8]) -> Both
     requires { ⌜ now one ≡ now other ⌝ }
-    ensures answers { λ r. ⌜ r .one ≡ r .other ⌝ }
-    ensures buffers { λ r. ⌜ now (one .exit) ≡ now (other .exit) ⌝ }
+    ensures answers { λ r. ⌜ (r .one ≡ recodeAnswer (now (number .entry)) (length (now (one .entry)))) × (r .one ≡ r .other) ⌝ }
+    ensures buffers { λ r. ⌜ (now (one .exit) ≡ recodeBuffer (now (number .entry)) (now (one .entry))) × (now (one .exit) ≡ now (other .exit)) ⌝ }
 {
     Both {
         one: recode(number, one),

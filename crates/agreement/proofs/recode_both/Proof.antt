@@ -28,7 +28,7 @@ returns c =
     let number = start .args .number .now in
     let one = recoded .recode .ensures in
     let other = by-words .recode-words .ensures in
-    (one .0 ∙ ap (λ (l : List ℕ). recodeAnswer number (length l)) (start .pre) ∙ sym (other .0), one .1 ∙ ap (recodeBuffer number) (start .pre) ∙ sym (other .1))
+    ((one .0, one .0 ∙ ap (λ (l : List ℕ). recodeAnswer number (length l)) (start .pre) ∙ sym (other .0)), (one .1, one .1 ∙ ap (recodeBuffer number) (start .pre) ∙ sym (other .1)))
 
 pub recode-both-spec : {M : Type 1} → statement M
 recode-both-spec =

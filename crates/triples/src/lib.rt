@@ -21,8 +21,8 @@ pub struct TripleWord {
     pub carry: u64,
 }
 
-// A word of 3 e: that of e and that of 2 e, added, with what is carried in. A carry is seen because the
-// sum has wrapped. The bit that is shifted out of the word of 2 e is carried too.
+// A word of 3 e: that of e and its double, added, with what is carried in. A carry is seen because the sum
+// has wrapped. The bit that doubling shifts out is carried with it, into the next word of 2 e.
 pub fn triple_word(word: u64, carry: u64) -> TripleWord
     requires { ⌜ carry ≤ 2 ⌝ }
     ensures { λ r. ⌜ r .word + 2 ^ 64 * r .carry ≡ 3 * word + carry ⌝ }

@@ -5,7 +5,7 @@ use integers::words_of;
 use plan_writing::Cursor;
 use recoding_words_digits::write_raised;
 use rules::Counts;
-use rules::NUMBER_BYTES;
+use triples::TRIPLE_WORDS;
 use triples::count;
 use triples::tripled;
 ghost use mathlib.Core.Path.{_≡_};
@@ -26,9 +26,8 @@ ghost use Rattle.methods.specs.NonAdjacentForm.{nafSteps};
 ghost use Rattle.plan_writing.specs.Writing.{Writing};
 ghost use Rattle.method_naf.specs.Digits.{Digit, Recoded};
 
-// Room for the most canonical digits of a number within the limit, one more than it has bits, and a word more,
-// since whole words of them are written.
-const DIGIT_ROOM: usize = 8 * NUMBER_BYTES + 1 + 64;
+// Room for the canonical digits of every number, in whole words: the last carry makes one word more.
+const DIGIT_ROOM: usize = 64 * TRIPLE_WORDS;
 
 // Puts the canonical digit at each place i of a number into an array at i + 1; answers how many there are.
 fn recoded(number: &[u8], digits: &mut [u8; DIGIT_ROOM]) -> usize

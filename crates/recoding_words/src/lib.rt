@@ -1,4 +1,4 @@
-// Recoding a number word by word: the same as recode in every answer and byte, and quicker.
+// Recoding a number by words: the same as recode in every answer and byte.
 use integers::words_of;
 use numbers::number_verdict;
 use recoding_words_digits::write;

@@ -1,4 +1,2 @@
 pub mod Places
-mod Lookup
-mod Fours
 mod Words

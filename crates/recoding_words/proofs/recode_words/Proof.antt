@@ -1,18 +1,15 @@
 -- `recoding_words::recode_words` meets its contract. Assumes nothing.
-use mathlib.Core.Path.{_≡_, sym, ap, _∙_}
+use mathlib.Core.Path.{_≡_, sym, _∙_}
 use mathlib.Core.List.{_++_}
 use Prim.Native.Nat.{_*_}
-use native.Mathlib.Omega.{arith}
 use lib.IntN.{pos}
-use lib.ListN.{length, drop}
-use lib.Seq.{take-all}
-use Rattle.rules.specs.Limits.{numberBytes}
+use lib.ListN.{drop}
 use Rattle.rules.specs.declared.Verdict.the-variants.{Passed}
 use Rattle.rules.proofs.Returns.{returns-refused, returns-written}
 use Rattle.integers.specs.Positional.{bytesValue, wordsValue}
 use Rattle.integers.specs.Tabulate.{tabulate}
-use Rattle.numbers.specs.Admission.{numberVerdict, Admitted}
-use Rattle.numbers.proofs.Tests.{admitted-is}
+use Rattle.numbers.specs.Admission.{numberVerdict}
+use Rattle.numbers.proofs.Tests.{admitted-is, admitted-value}
 use Rattle.signed_digits.specs.Naf.{canonical}
 use Rattle.digit_strings.specs.Places.{placeByte}
 use Rattle.recoding.specs.Recode.{recoding}
@@ -29,7 +26,7 @@ passed c = sym (c .before .before .number-verdict .ensures) ∙ c .enum-told .gi
 held : (c : tie.After-words-of) → wordsValue (c .words-of .result) ≡ bytesValue (c .before .before .before .before .before .before .args .number .now)
 held c =
     let number = c .before .before .before .before .before .before .args .number .now in
-    c .words-of .ensures ∙ ap bytesValue (take-all numberBytes number (admitted-is number .0 (passed (c .before)) .short))
+    c .words-of .ensures ∙ admitted-value number (admitted-is number .0 (passed (c .before)))
 
 three : (c : tie.After-tripled) → wordsValue (c .tripled .result) ≡ 3 * bytesValue (c .before .before .before .before .before .before .before .before .args .number .now)
 three c = c .tripled .ensures ∙ rw (held (c .before .before))

@@ -1,5 +1,5 @@
 -- `recoding_words_digits::write` meets its contract: after k turns the digits of the k low words stand. Assumes nothing.
-use mathlib.Core.Path.{_≡_, refl, sym, _∙_}
+use mathlib.Core.Path.{_≡_, refl}
 use mathlib.Core.List.{List, _++_}
 use Prim.Native.Nat.{ℕ, _<_, _≤_, _-_, _+_, _*_, _/_, _^_}
 use native.Mathlib.Omega.{arith}
@@ -12,7 +12,7 @@ use Rattle.integers.proofs.Positional.{Below}
 use Rattle.signed_digits.specs.Naf.{canonical}
 use Rattle.digit_strings.specs.Places.{placeByte}
 use Rattle.recoding_digits.specs.Internal.{difference}
-use Rattle.recoding_words_digits.specs.Internal.{Apart, fourDigits}
+use Rattle.word_digits.specs.Internal.{Apart, fourDigits}
 use Rattle.recoding_words_digits.proofs.Words.{above-written, written-again, word-apart, low-apart, low-written, word-written}
 use borrow.Author.Needs.{needs}
 use Rattle.recoding_words_digits.proofs.write.Statement.{statement}

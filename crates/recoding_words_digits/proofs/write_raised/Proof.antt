@@ -1,14 +1,14 @@
 -- `recoding_words_digits::write_raised` meets its contract: after k turns the digits of the k low words stand. Assumes nothing.
 use mathlib.Core.Path.{_≡_, refl}
-use mathlib.Core.List.{List, _++_}
-use Prim.Native.Nat.{ℕ, _≤_, _-_, _+_, _*_, _^_}
+use mathlib.Core.List.{_++_}
+use Prim.Native.Nat.{_≤_, _-_, _+_, _*_, _/_, _^_}
 use native.Mathlib.Omega.{arith}
-use lib.ListN.{length, drop, getD}
+use lib.ListN.{length, drop}
 use Rattle.integers.specs.Positional.{wordsValue}
 use Rattle.integers.specs.Tabulate.{tabulate}
 use Rattle.integers.proofs.Positional.{Below}
 use Rattle.recoding_digits.specs.Internal.{difference}
-use Rattle.recoding_words_digits.specs.Internal.{fourDigits}
+use Rattle.word_digits.specs.Internal.{fourDigits}
 use Rattle.recoding_words_digits.proofs.Words.{word-apart, raised-written, raised-at}
 use borrow.Author.Needs.{needs}
 use Rattle.recoding_words_digits.proofs.write_raised.Statement.{statement}
@@ -16,7 +16,7 @@ use Rattle.recoding_words_digits.proofs.write_raised.Tie as tie
 
 abbrev Inv-loop : tie.InvT-loop
 Inv-loop words triple out₀ count fours k₀ out k =
-    (64 * k ≤ count + 64) × (length out ≡ length out₀) × (out ≡ tabulate (difference (3 * wordsValue words) (wordsValue words)) (64 * k) ++ drop (64 * k) out₀)
+    (64 * k ≤ 64 * (count / 64 + 1)) × (length out ≡ length out₀) × (out ≡ tabulate (difference (3 * wordsValue words) (wordsValue words)) (64 * k) ++ drop (64 * k) out₀)
 
 abbrev μ-loop : tie.MeasureT-loop
 μ-loop words triple out₀ count fours k₀ out k = count + 64 - 64 * k

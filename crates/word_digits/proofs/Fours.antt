@@ -1,8 +1,8 @@
 -- Four digits by their number in the table, and eight by two such. Assumes nothing.
 use mathlib.Core.Path.{_≡_, refl, sym, ap, _∙_}
 use mathlib.Core.Bool.{Bool, true, false, _&&_, _||_, and-eq-true-iff}
-use mathlib.Core.List.{List, _++_}
-use Prim.Native.Nat.{ℕ, zero, suc, _+_, _*_, _-_, _/_, _%_, _^_, _<_, _≤_}
+use mathlib.Core.List.{List}
+use Prim.Native.Nat.{ℕ, _+_, _*_, _-_, _/_, _%_, _^_, _<_, _≤_}
 use borrow.Author.Tests.{eqb-true, ltb-true}
 use native.Mathlib.Omega.{arith}
 use lib.Bits.{bitXor, xor-shr, xor-mod}
@@ -18,8 +18,8 @@ use Rattle.integers.proofs.Positional.{positional-append}
 use Rattle.integers.proofs.Tabulate.{tabulate-same, tabulate-add, length-tabulate, below-tabulate}
 use Rattle.recoding_digits.specs.Internal.{difference}
 use Rattle.recoding_digits.proofs.SpreadBits.{all, all-below}
-use Rattle.recoding_words_digits.specs.Internal.{Apart, indexOf, indexByte, fourDigits, entries}
-use Rattle.recoding_words_digits.proofs.Lookup.{index-at}
+use Rattle.word_digits.specs.Internal.{Apart, indexOf, indexByte, fourDigits, entries}
+use Rattle.word_digits.proofs.Lookup.{index-at}
 
 -- ---- the table, for all four bits of two words
 

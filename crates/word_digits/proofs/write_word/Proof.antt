@@ -1,4 +1,4 @@
--- `recoding_words_digits::write_word` meets its contract: after j turns the digits of the j low bytes stand. Assumes nothing.
+-- `word_digits::write_word` meets its contract: after j turns the digits of the j low bytes stand. Assumes nothing.
 use mathlib.Core.Path.{_≡_, refl, sym}
 use Prim.Native.Nat.{ℕ, _≤_, _+_, _-_, _*_}
 use native.Mathlib.Nat.{add-zero}
@@ -7,10 +7,10 @@ use lib.ListN.{length, take-append-drop}
 use Rattle.integers.specs.Tabulate.{tabulate}
 use Rattle.integers.proofs.Blocks.{placed}
 use Rattle.recoding_digits.specs.Internal.{difference}
-use Rattle.recoding_words_digits.proofs.Fours.{eight-digits, digits-more}
+use Rattle.word_digits.proofs.Fours.{eight-digits, digits-more}
 use borrow.Author.Needs.{needs}
-use Rattle.recoding_words_digits.proofs.write_word.Statement.{statement}
-use Rattle.recoding_words_digits.proofs.write_word.Tie as tie
+use Rattle.word_digits.proofs.write_word.Statement.{statement}
+use Rattle.word_digits.proofs.write_word.Tie as tie
 
 abbrev Inv-loop : tie.InvT-loop
 Inv-loop out₀ at count fours more less low high j₀ out j =

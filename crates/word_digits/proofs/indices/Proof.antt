@@ -1,9 +1,8 @@
--- `recoding_words_digits::indices` meets its contract. Assumes nothing.
+-- `word_digits::indices` meets its contract. Assumes nothing.
 use native.Mathlib.Omega.{arith}
-use Rattle.recoding_words_digits.proofs.Lookup.{indices-are, indices-fit}
-use borrow.Author.Needs.{needs}
-use Rattle.recoding_words_digits.proofs.indices.Statement.{statement}
-use Rattle.recoding_words_digits.proofs.indices.Tie as tie
+use Rattle.word_digits.proofs.Lookup.{indices-are, indices-fit}
+use Rattle.word_digits.proofs.indices.Statement.{statement}
+use Rattle.word_digits.proofs.indices.Tie as tie
 
 mul-result : tie.Need-mul-result
 mul-result c = omega (arith, indices-fit (c .args .more) (c .args .less))

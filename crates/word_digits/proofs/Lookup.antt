@@ -11,7 +11,7 @@ use Rattle.integers.proofs.Bits.{power-of-bytes}
 use Rattle.integers.proofs.Positional.{positional-at}
 use Rattle.integers.proofs.Tabulate.{tabulate-same, getD-tabulate, below-tabulate}
 use Rattle.recoding_digits.proofs.SpreadBits.{value-small, value-none, value-more, value-add, value-each, value-xor}
-use Rattle.recoding_words_digits.specs.Internal.{indexOf, indexByte}
+use Rattle.word_digits.specs.Internal.{indexByte}
 
 -- ---- the low four bits of each byte
 

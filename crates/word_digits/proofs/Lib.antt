@@ -1,0 +1,2 @@
+mod Lookup
+mod Fours

@@ -298,8 +298,7 @@ typedef struct {
 lesmutka_length lesmutka_recode(const uint8_t *number, size_t number_length, uint8_t *out,
                                 size_t out_length);
 
-/** Recode by words: the same as lesmutka_recode in every answer and every byte, and quicker for
- *  numbers of three bytes and more.
+/** Recode by words: the same as lesmutka_recode in every answer and every byte.
  *
  *  Returns: the length of the string, the bytes written.
  *           Refused: 1, then 13, then 6; nothing is written.

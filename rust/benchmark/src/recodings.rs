@@ -358,13 +358,18 @@ const PLAIN: [Recode; 7] = [
     by_words_in_use,
 ];
 
-/// What is timed is done: all ways answer as the reference does, and the plain programs write the same.
+/// What is timed is done: all ways answer as the reference does, and write the same.
 fn agree(inputs: &Inputs) {
     ways::agree(&mut all(inputs), inputs.canonicals.iter().map(Vec::len).sum());
     for (number, canonical) in inputs.numbers.iter().zip(&inputs.canonicals) {
         for recode in PLAIN {
             let mut out = [7; RECODE_ROOM];
             assert_eq!(recode(number, &mut out), Ok(canonical.len()));
+            assert_eq!(out[..canonical.len()], canonical[..]);
+        }
+        for recode in [sys::recode_words, sys::recode] {
+            let mut out = [7; RECODE_ROOM];
+            assert_eq!(recode(number, &mut out).length, canonical.len());
             assert_eq!(out[..canonical.len()], canonical[..]);
         }
         let mut out = [7; RECODE_ROOM];

@@ -137,7 +137,7 @@ pub fn recode<'a>(number: &[u8], out: &'a mut [i8]) -> Result<&'a [i8], Refusal>
 }
 
 /// Writes the canonical string of a number by words: the same as [`recode`] in every answer and every
-/// byte, and quicker for numbers of three bytes and more.
+/// byte.
 ///
 /// # Errors
 ///

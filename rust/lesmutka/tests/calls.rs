@@ -321,14 +321,15 @@ fn limits_by_number() {
     );
     assert_eq!(std::mem::size_of::<sys::Recoder>(), 7 * 8);
 
-    let mut room = [7; 1000];
     for recode in RECODES {
+        let mut room = [7; 1000];
         let ones = recode(&[0xff; 48], &mut room).unwrap();
         assert_eq!((ones.len(), ones[0], ones[384]), (385, -1, 1));
         assert!(ones[1..384].iter().all(|&digit| digit == 0));
         let small = Err(Refusal::RoomTooSmall { needed: 385 });
         assert_eq!(recode(&[0xff; 48], &mut room[..384]), small);
     }
+    let mut room = [7; 1000];
     for number in [[0; 49], [0xff; 49]] {
         assert_eq!(recode(&number, &mut room), Err(Refusal::NumberTooLong));
         assert_eq!(recode_words(&number, &mut room), Err(Refusal::NumberTooLong));

@@ -404,7 +404,7 @@ impl Requests {
                 self.recode_fitted(&number);
             }
         }
-        self.title(BYTES_ABOVE);
+        self.title(NO_WHOLE_WORDS);
         for bytes in [1, 7, 9, NUMBER_BYTES - 1] {
             for number in corners(bytes) {
                 self.recode(RECODE_ROOM, &number);
@@ -871,7 +871,7 @@ pub const EDGES: [usize; 8] = [8, 9, 63, 64, 65, NUMBER_BITS, NUMBER_BITS + 1, V
 /// The titles of twelve sections.
 pub const WHOLE_WORDS: &str =
     "Whole words: three times the number has no bit above them, one or two; carries through all of them";
-pub const BYTES_ABOVE: &str = "The same for a byte more or less than whole words";
+pub const NO_WHOLE_WORDS: &str = "The same for a byte more or less than whole words";
 pub const HIDDEN: &str = "Equal values added and opposite ones subtracted, at two positions, and what is near";
 pub const NEAR: &str = "Values that differ in the lowest bit, in a middle byte, in the highest byte, and not at all";
 pub const LARGEST: &str = "The largest size: of the empty plan, at the end, on the way, below zero";

@@ -136,7 +136,7 @@ fn both_recodings_are_stored() {
         }
     }
     assert_eq!(section(WHOLE_WORDS).len(), 6 * 10 * NUMBER_BYTES / 8);
-    assert_eq!(section(BYTES_ABOVE).len(), 2 * 10 * 4);
+    assert_eq!(section(NO_WHOLE_WORDS).len(), 2 * 10 * 4);
 }
 
 /// A doubling adds equal values or subtracts opposite ones, whatever its positions are (docs/RULES.md, 3.7).

@@ -37,7 +37,7 @@ pub extern "C" fn lesmutka_recode(number: &[u8], out: &mut [u8]) -> Length
     c_answers::of_written(recoding::recode(number, out))
 }
 
-// The same word by word.
+// The same by words.
 #[no_mangle]
 pub extern "C" fn lesmutka_recode_words(number: &[u8], out: &mut [u8]) -> Length
     ensures answer { λ r. ⌜ r ≡ writtenFields (recodeAnswer (now (number .entry)) (length (now (out .entry)))) ⌝ }

@@ -1,4 +1,4 @@
--- Three times a number, word by word. Assumes nothing.
+-- Three times a number, by words. Assumes nothing.
 use mathlib.Core.Path.{_≡_, refl, sym}
 use mathlib.Core.List.{List}
 use Prim.Native.Nat.{ℕ, suc, _+_, _*_, _/_, _%_, _^_, _<_, _≤_}

@@ -54,7 +54,7 @@ module _ (f : ℕ → ℕ) (n : ℕ) (lent out : List ℕ) (written : out ≡ ta
 
 module _ (words triple : List ℕ) (hw : Below (2 ^ 64) words) (ht : Below (2 ^ 64) triple) (three : wordsValue triple ≡ 3 * wordsValue words) where
   -- the digit at a place
-  abbrev pub digit : ℕ → ℕ
+  abbrev digit : ℕ → ℕ
   digit = placeByte (canonical (pos (wordsValue words)))
 
   digit-is : (i : ℕ) → digit i ≡ (bit (3 * wordsValue words) (i + 1) + 255 * bit (wordsValue words) (i + 1)) % 256
@@ -71,14 +71,14 @@ module _ (words triple : List ℕ) (hw : Below (2 ^ 64) words) (ht : Below (2 ^ 
   less-bit k j h = bit-of-element 64 words k j h hw
 
   -- the digit that is raised to a place, where its bit is
-  abbrev pub raised : ℕ → ℕ
+  abbrev raised : ℕ → ℕ
   raised = difference (3 * wordsValue words) (wordsValue words)
 
-  pub digit-raised : (i : ℕ) → raised (i + 1) ≡ digit i
+  digit-raised : (i : ℕ) → raised (i + 1) ≡ digit i
   unfolding difference
   digit-raised i = sym (digit-is i)
 
-  pub word-raised : (k j : ℕ) → j < 64 → difference (getD triple k 0) (getD words k 0) j ≡ raised (64 * k + j)
+  word-raised : (k j : ℕ) → j < 64 → difference (getD triple k 0) (getD words k 0) j ≡ raised (64 * k + j)
   unfolding difference
   word-raised k j h = rw (more-bit k j h, less-bit k j h)
 

@@ -6,7 +6,7 @@ use Prim.Native.Nat.{ℕ}
 use Rattle.integers.specs.Positional.{positional}
 use Rattle.signed_digits.specs.Strings.{value}
 use Rattle.signed_digits.specs.Naf.{residue, lowDigit, rest, digitsOf, naf}
-use Rattle.recoding.specs.Recode.{recoding}
+use Rattle.recoding.specs.Recode.{recodingOf, recoding}
 use Rattle.cleaning.specs.Clean.{cleaning}
 
 -- what is handed in: a number's bytes, or the bytes of a digit string
@@ -50,5 +50,5 @@ worked =
 
 -- what is written for each is what stands beside it
 pub worked-examples : map (λ c. written (c .0)) worked ≡ map (λ c. c .1) worked
-unfolding residue lowDigit rest digitsOf naf value positional recoding cleaning written worked
+unfolding residue lowDigit rest digitsOf naf value positional recodingOf cleaning written worked
 worked-examples = refl

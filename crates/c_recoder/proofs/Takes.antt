@@ -9,7 +9,7 @@ use Rattle.numbers.specs.Admission.{Admitted}
 use Rattle.signed_digits.specs.Naf.{lowDigit, canonical}
 use Rattle.signed_digits.specs.Bytes.{digitByte, digitBytes}
 use Rattle.signed_digits.proofs.Steps.{naf-zero, low-digit-2, by-four}
-use Rattle.recoding.specs.Recode.{recoding}
+use Rattle.recoding.specs.Recode.{recodingOf, recoding}
 use Rattle.taking.specs.Take.{startAnswer, startNumber, startOutcome, takeAnswer, takeOutcome, digitOutcome}
 use Rattle.taking.proofs.Takes.{digits-of, digits-after}
 use Rattle.taking.proofs.Promises.{start-number, refused-number}
@@ -39,7 +39,7 @@ kept-takes w a run (suc k) =
 module _ (number : List ℕ) (w : ℕ → List ℕ) (a : ℕ → ℕ) (start : keptNumber (w 0) ≡ startNumber number) (run : (k : ℕ) → IsKeptTake (w k) (w (suc k)) (a k)) where
   -- from lesmutka_start on: the number's digits, then done
   pub kept-takes-number : Admitted number → (k : ℕ) → takenOutcome (a k) ≡ digitOutcome (recoding number) k
-  unfolding recoding
+  unfolding recodingOf
   kept-takes-number h k = kept-takes w a run k ∙ ap (λ (n : ℕ). outcomeAt n k) (start ∙ start-number number h)
 
   -- after its refusal: done, and nothing else

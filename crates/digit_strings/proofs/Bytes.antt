@@ -8,20 +8,20 @@ use borrow.Author.Tests.{lt-ltb, le-ltb}
 use native.Mathlib.Omega.{arith}
 use lib.IntN.{ℤ, pos, negsuc, natAbs, ℤ-discrete}
 use lib.ListN.{length, List·getD-map}
-use Rattle.rules.specs.Limits.{stringDigits}
+use Rattle.rules.specs.Limits.{stringDigits, largestWidth}
 use Rattle.signed_digits.specs.Strings.{value, digitAt}
 use Rattle.signed_digits.specs.Form.{OddDigit}
 use Rattle.signed_digits.specs.Naf.{naf}
 use Rattle.signed_digits.specs.Bytes.{digitByte, digitBytes, byteDigit, stringOf}
 use Rattle.signed_digits.proofs.Exists.{naf-form, naf-value}
-use Rattle.digit_strings.specs.Admission.{widthLimit, isDigit, stringValue, DigitString}
+use Rattle.digit_strings.specs.Admission.{isDigit, stringValue, DigitString}
 use Rattle.digit_strings.proofs.Digits.{digit-is, zero-digit, bound-fits}
 
 back : (d : ℤ) → natAbs d ≤ 127 → (digitByte d < 256) × (byteDigit (digitByte d) ≡ d)
 back (pos n) h = (omega arith, rw (lt-ltb n 128 (omega arith)))
 back (negsuc n) h = let e : 255 - (255 - n) ≡ n = omega arith in (omega arith, rw (le-ltb (255 - n) 128 (omega arith), e))
 
-module _ (w : ℕ) (h : w ≤ widthLimit) where
+module _ (w : ℕ) (h : w ≤ largestWidth) where
   -- 0, or an odd digit of the width
   abbrev Digit : ℤ → Type 0
   Digit d = d ≢ pos 0 → OddDigit w d

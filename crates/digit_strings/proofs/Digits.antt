@@ -9,10 +9,11 @@ use native.Mathlib.Omega.{arith}
 use lib.Dec.{ltb, leb, eqb}
 use lib.IntN.{natAbs}
 use lib.Pow.{pow-pos, pow-mono}
+use Rattle.rules.specs.Limits.{largestWidth}
 use Rattle.signed_digits.specs.Form.{OddDigit}
 use Rattle.signed_digits.specs.Bytes.{byteDigit}
 use Rattle.signed_digits.specs.Naf.{canonicalWidth}
-use Rattle.digit_strings.specs.Admission.{widthLimit, largestDigit, digitUpTo, isDigit}
+use Rattle.digit_strings.specs.Admission.{largestDigit, digitUpTo, isDigit}
 
 -- an odd digit of at most this size
 abbrev pub OddUpTo : ℕ → ℕ → Type 0
@@ -95,5 +96,5 @@ module _ (size b : ℕ) (m : size ≤ 127) (h : b < 256) where
           (by-size (suc (255 - b)) (rw (le-ltb b 128 (omega arith))) (omega arith) (λ e. omega arith, λ e. omega arith))
 
 -- the bound on the sizes of a width within the limit
-pub bound-fits : (w : ℕ) → w ≤ widthLimit → (1 ≤ 2 ^ (w - 1)) × (2 ^ (w - 1) ≤ 128)
+pub bound-fits : (w : ℕ) → w ≤ largestWidth → (1 ≤ 2 ^ (w - 1)) × (2 ^ (w - 1) ≤ 128)
 bound-fits w h = (pow-pos (w - 1), pow-mono {i = w - 1} {j = 7} (omega arith))

@@ -6,13 +6,14 @@ use Prim.Native.Nat.{ℕ, _+_, _*_, _<_, _≤_}
 use borrow.Author.Tests.{lt-ltb, le-ltb}
 use native.Mathlib.Decide.{decLt}
 use native.Mathlib.Omega.{arith}
+use Rattle.rules.specs.Limits.{largestWidth}
 use Rattle.signed_digits.specs.Bytes.{byteDigit}
 use Rattle.signed_digits.proofs.Parts.{positivePart, negativePart}
-use Rattle.digit_strings.specs.Admission.{widthLimit, largestDigit, isDigit}
+use Rattle.digit_strings.specs.Admission.{largestDigit, isDigit}
 use Rattle.digit_strings.specs.Raised.{raised}
 use Rattle.digit_strings.proofs.Digits.{OddUpTo, up-to-is, bound-fits}
 
-pub raised-is : (w b : ℕ) → w ≤ widthLimit → isDigit w b ≡ true
+pub raised-is : (w b : ℕ) → w ≤ largestWidth → isDigit w b ≡ true
     → (positivePart (byteDigit b) + largestDigit w ≡ raised w b + negativePart (byteDigit b)) × (raised w b ≤ 2 * largestDigit w)
 raised-is w b h e = go (up-to-is (largestDigit w) b .0 e .1) (decLt b 128)
   where

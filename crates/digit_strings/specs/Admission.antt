@@ -14,10 +14,6 @@ use Rattle.rules.specs.declared.Verdict.the-variants.{Passed, Failed}
 use Rattle.signed_digits.specs.Strings.{value}
 use Rattle.signed_digits.specs.Bytes.{byteDigit, stringOf}
 
--- the largest width whose digits all have a byte: their sizes are below 2 ^ 7
-abbrev pub widthLimit : ℕ
-widthLimit = 8
-
 -- the largest digit of a width: sizes are below 2 ^ (w - 1)
 abbrev pub largestDigit : ℕ → ℕ
 largestDigit w = 2 ^ (w - 1) - 1

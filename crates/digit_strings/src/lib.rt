@@ -1,5 +1,6 @@
 // The tests that every call makes of the digit string that it is handed (docs/RULES.md, "Digit
 // strings"), over the width of its digits.
+use rules::LEAST_WIDTH;
 use rules::Refusal;
 use rules::STRING_DIGITS;
 use rules::Verdict;
@@ -7,11 +8,12 @@ ghost use mathlib.Core.Path.{_≡_};
 ghost use mathlib.Core.Bool.{true};
 ghost use Prim.Native.Nat.{_+_, _≤_};
 ghost use lib.ListN.{length};
-ghost use Rattle.digit_strings.specs.Admission.{widthLimit, digitUpTo, firstFailing, stringVerdict};
+ghost use Rattle.rules.specs.Limits.{leastWidth, largestWidth};
+ghost use Rattle.digit_strings.specs.Admission.{digitUpTo, firstFailing, stringVerdict};
 ghost use Rattle.digit_strings.specs.Internal.{PassFor};
 
 // The width of the canonical string, whose digits are 0, 1 and -1.
-pub const CANONICAL_WIDTH: usize = 2;
+pub const CANONICAL_WIDTH: usize = LEAST_WIDTH;
 
 // Whether a byte is 0, or an odd digit of at most the size of the largest. Branch-free.
 // Up to the size 1 only 0 is even, so at width 2 the second test falls away.
@@ -71,7 +73,7 @@ fn first_bad(digits: &[u8], largest: u8) -> usize
 
 // Refusal 5, then 4, for digits of this width.
 pub fn string_verdict(digits: &[u8], width: usize) -> Verdict
-    requires { ⌜ (2 ≤ width) × (width ≤ widthLimit) ⌝ }
+    requires { ⌜ (leastWidth ≤ width) × (width ≤ largestWidth) ⌝ }
     ensures { λ r. ⌜ r ≡ stringVerdict width (now (digits .entry)) ⌝ }
 {
     if STRING_DIGITS < digits.len() {

@@ -22,7 +22,7 @@ use Rattle.signed_digits.specs.Naf.{canonicalWidth}
 use Rattle.digit_strings.specs.Admission.{stringVerdict, stringValue, DigitString, LowestBad}
 use Rattle.digit_strings.proofs.Bytes.{naf-digits, naf-bytes-value}
 use Rattle.digit_strings.proofs.Given as string
-use Rattle.recoding.specs.Recode.{recoding}
+use Rattle.recoding.specs.Recode.{recodingOf, recoding}
 use Rattle.recoding.proofs.Promises.{recoding-length}
 use Rattle.reading.specs.ReadBack.{sizeBytes, readLength, withSign, readBackAnswer, readBackBuffer, readBackOutcome}
 
@@ -137,7 +137,7 @@ reads-zero digits z = (rw z, rw (z, bytes-zero))
 module _ (number : List ℕ) (admitted : Admitted number) (bytes : Below 256 number) where
   -- a digit string of the number's value
   pub recoding-reads : DigitString canonicalWidth (recoding number) × (stringValue (recoding number) ≡ pos (bytesValue number))
-  unfolding recoding
+  unfolding recodingOf
   recoding-reads =
       let z : ℤ = pos (bytesValue number) in
       (naf-digits canonicalWidth (omega arith) z (omega arith) (omega (arith, recoding-length number bytes, admitted .short)), naf-bytes-value canonicalWidth (omega arith) z (omega arith))

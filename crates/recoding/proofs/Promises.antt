@@ -21,7 +21,7 @@ use Rattle.signed_digits.specs.Naf.{canonical, naf, digitsOf}
 use Rattle.signed_digits.specs.Bytes.{digitBytes}
 use Rattle.signed_digits.proofs.Canonical.{canonical-form, canonical-value, canonical-only}
 use Rattle.recoding_digits.proofs.TopByte.{most-digits}
-use Rattle.recoding.specs.Recode.{recoding, recodeAnswer, recodeBuffer}
+use Rattle.recoding.specs.Recode.{recodingOf, recoding, recodeAnswer, recodeBuffer}
 use Rattle.recoding.proofs.Outcomes.{length-recoding}
 
 -- ---- each refusal is given exactly when the rules say, and no other
@@ -83,18 +83,18 @@ module _ (number : List ℕ) (room : ℕ) where
 
 -- the canonical string of the number: the form, the value, and no other string has both
 pub recoding-canonical : (number : List ℕ) → (ds : List ℤ) × (recoding number ≡ digitBytes ds) × Canonical ds × (value ds ≡ pos (bytesValue number))
-unfolding recoding
+unfolding recodingOf
 recoding-canonical number =
     let e : ℕ = bytesValue number in
     (canonical (pos e), refl, canonical-form (pos e), canonical-value (pos e))
 
 pub recoding-only : (number : List ℕ) (ds : List ℤ) → Canonical ds → value ds ≡ pos (bytesValue number) → digitBytes ds ≡ recoding number
-unfolding recoding
+unfolding recodingOf
 recoding-only number ds c v = ap digitBytes (canonical-only ds c ∙ ap canonical v)
 
 -- no bytes mean zero, which is the empty string
 pub recoding-empty : recoding [] ≡ []
-unfolding recoding positional naf digitsOf
+unfolding recodingOf positional naf digitsOf
 recoding-empty = refl
 
 -- n bytes have at most 8 n + 1 digits

@@ -7,12 +7,16 @@ use Rattle.rules.specs.Memory.{written, leaves}
 use Rattle.rules.specs.declared.Written.{Written}
 use Rattle.integers.specs.Positional.{bytesValue}
 use Rattle.numbers.specs.Admission.{numberVerdict}
-use Rattle.signed_digits.specs.Naf.{canonical}
+use Rattle.signed_digits.specs.Naf.{naf, canonicalWidth}
 use Rattle.signed_digits.specs.Bytes.{digitBytes}
 
--- the canonical string of a number's bytes, one byte a digit
-unfoldable pub recoding : List ℕ → List ℕ
-recoding number = digitBytes (canonical (pos (bytesValue number)))
+-- the non-adjacent form of width w of a number's bytes, one byte a digit
+unfoldable pub recodingOf : ℕ → List ℕ → List ℕ
+recodingOf w number = digitBytes (naf w (pos (bytesValue number)))
+
+-- the canonical string
+abbrev pub recoding : List ℕ → List ℕ
+recoding number = recodingOf canonicalWidth number
 
 -- the answer, by the number and the bytes lent
 abbrev pub recodeAnswer : List ℕ → ℕ → Written

@@ -18,6 +18,13 @@ numberWords = numberBytes / 8
 abbrev pub stringDigits : ℕ
 stringDigits = 768
 
+-- the widths of a non-adjacent form: digits of the largest width have sizes below 2 ^ 7, so each has a byte
+abbrev pub leastWidth : ℕ
+leastWidth = 2
+
+abbrev pub largestWidth : ℕ
+largestWidth = 8
+
 -- a step of a plan has this many bytes
 abbrev pub stepBytes : ℕ
 stepBytes = 5

@@ -18,6 +18,11 @@ pub const NUMBER_WORDS: usize = NUMBER_BYTES / 8;
 // The most digits of a digit string that is handed in.
 pub const STRING_DIGITS: usize = 768;
 
+// The least and the largest width of a non-adjacent form: up to the largest, every digit has a byte.
+pub const LEAST_WIDTH: usize = 2;
+
+pub const LARGEST_WIDTH: usize = 8;
+
 // The bytes of a step of a plan, and the most steps of a plan.
 pub const STEP_BYTES: usize = 5;
 

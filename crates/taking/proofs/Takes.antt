@@ -14,7 +14,7 @@ use Rattle.signed_digits.proofs.Steps.{naf-zero, naf-step}
 use Rattle.taking.specs.declared.Recoder.{Recoder}
 use Rattle.taking.specs.declared.Started.{Started}
 use Rattle.taking.specs.declared.Taken.{Taken}
-use Rattle.recoding.specs.Recode.{recoding}
+use Rattle.recoding.specs.Recode.{recodingOf, recoding}
 use Rattle.taking.specs.Take.{standsFor, startNumber, startOutcome, takeAnswer, takeLeaves, takeOutcome, IsStart, Run, before, digitOutcome, digitsToCome}
 use Rattle.taking.proofs.Promises.{start-number, refused-number}
 
@@ -83,7 +83,7 @@ module _ (number : List ℕ) (s : Started) (t : ℕ → Taken) (start : IsStart 
 
   -- the canonical digits of the number, as recode writes them
   pub takes-number : Admitted number → (k : ℕ) → takeOutcome (t k .answer) ≡ digitOutcome (recoding number) k
-  unfolding recoding
+  unfolding recodingOf
   takes-number a k = takes-from _ (start-number number a) k
 
   -- those of zero after a refusal: done from the first take on

@@ -2,7 +2,8 @@
 use mathlib.Core.Path.{_≡_, sym, ap, _∙_}
 use Prim.Native.Nat.{ℕ, _-_, _*_, _%_, _^_, _≤_}
 use native.Mathlib.Omega.{arith}
-use Rattle.digit_strings.specs.Admission.{widthLimit, largestDigit, digitUpTo, firstFailing, firstBad}
+use Rattle.rules.specs.Limits.{largestWidth}
+use Rattle.digit_strings.specs.Admission.{largestDigit, digitUpTo, firstFailing, firstBad}
 use Rattle.digit_strings.proofs.Digits.{bound-fits}
 use Rattle.digit_strings.proofs.Scan.{bad-is, all-digits}
 use Rattle.digit_strings.proofs.Tests.{too-long, bad-digit, digits, string-only}
@@ -11,7 +12,7 @@ use Rattle.digit_strings.proofs.string_verdict.Statement.{statement}
 use Rattle.digit_strings.proofs.string_verdict.Tie as tie
 
 -- the shifted 1, less 1
-shifted : (w : ℕ) → w ≤ widthLimit → 1 * 2 ^ (w - 1) % 2 ^ 64 - 1 ≡ largestDigit w
+shifted : (w : ℕ) → w ≤ largestWidth → 1 * 2 ^ (w - 1) % 2 ^ 64 - 1 ≡ largestDigit w
 shifted w h = omega (arith, bound-fits w h)
 
 found : (c : tie.After-first-bad) → c .first-bad .result ≡ firstBad (c .before .before .before .args .width) (c .before .before .before .args .digits .now)

@@ -18,7 +18,7 @@ use Rattle.signed_digits.proofs.Parts.{cond-cases, Multiple, positivePa
 use Rattle.signed_digits.proofs.Spaced.{Spaced, empty, blank, digit, form-of-spaced}
 
 -- ---- powers of two
-even-power : (k : ℕ) → 1 ≤ k → 2 ^ k ≡ 2 * 2 ^ (k - 1)
+pub even-power : (k : ℕ) → 1 ≤ k → 2 ^ k ≡ 2 * 2 ^ (k - 1)
 even-power zero h = absurd (omega arith)
 even-power (suc k) h = simp sub-one (omega arith)
 

@@ -10,4 +10,5 @@ pub mod Places
 pub mod Steps
 pub mod Left
 pub mod Length
+pub mod Width
 pub mod Triple

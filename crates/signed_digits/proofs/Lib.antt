@@ -11,4 +11,5 @@ pub mod Steps
 pub mod Left
 pub mod Length
 pub mod Width
+pub mod Runs
 pub mod Triple

@@ -1,0 +1,4 @@
+pub mod Load
+pub mod Digit
+pub mod Scan
+pub mod Padded

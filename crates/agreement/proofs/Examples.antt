@@ -7,7 +7,7 @@ use Rattle.integers.specs.Positional.{positional}
 use Rattle.signed_digits.specs.Strings.{value}
 use Rattle.signed_digits.specs.Naf.{residue, lowDigit, rest, digitsOf, naf}
 use Rattle.recoding.specs.Recode.{recodingOf, recoding}
-use Rattle.cleaning.specs.Clean.{cleaning}
+use Rattle.cleaning.specs.Clean.{cleaningOf, cleaning}
 
 -- what is handed in: a number's bytes, or the bytes of a digit string
 pub data Input : Type 0 where
@@ -50,5 +50,5 @@ worked =
 
 -- what is written for each is what stands beside it
 pub worked-examples : map (λ c. written (c .0)) worked ≡ map (λ c. c .1) worked
-unfolding residue lowDigit rest digitsOf naf value positional recodingOf cleaning written worked
+unfolding residue lowDigit rest digitsOf naf value positional recodingOf cleaningOf written worked
 worked-examples = refl

@@ -12,4 +12,5 @@ pub mod Left
 pub mod Length
 pub mod Width
 pub mod Runs
+pub mod Longest
 pub mod Triple

@@ -1,6 +1,6 @@
 -- What is left of a natural number after some digits of width w: the digits from there on are its own.
 use mathlib.Core.Path.{_≡_, refl, sym, ap, _∙_}
-use Prim.Native.Nat.{ℕ, zero, suc, _-_, _<_, _≤_}
+use Prim.Native.Nat.{ℕ, zero, suc, _+_, _-_, _<_, _≤_}
 use native.Mathlib.Numerals.{add-one}
 use native.Mathlib.Omega.{arith}
 use lib.IntN.{pos}
@@ -9,7 +9,9 @@ use lib.Seq.{drop-drop}
 use Rattle.signed_digits.specs.Strings.{value, digitAt}
 use Rattle.signed_digits.specs.Naf.{lowDigit, rest, naf}
 use Rattle.signed_digits.proofs.Steps.{rest-less, naf-zero, naf-step}
-use Rattle.signed_digits.proofs.Exists.{naf-value}
+use Rattle.signed_digits.proofs.Parts.{negativePart}
+use Rattle.signed_digits.proofs.Exists.{step, naf-value}
+use Rattle.signed_digits.proofs.Width.{low-minus}
 
 unfoldable pub rests : ℕ → ℕ → ℕ → ℕ
 rests w zero n = n
@@ -36,6 +38,12 @@ module _ (w : ℕ) (wide : 2 ≤ w) where
       go : (m : ℕ) → m ≤ n → rest w m ≤ n
       go zero h = rw rest-none (omega arith)
       go (suc m) h = omega (arith, rest-less w (suc m) wide (omega arith))
+
+  -- what a digit below zero is subtracted from, or else what is left there, is largest at the lowest place
+  pub before-le : (i n : ℕ) → rests w i n + negativePart (lowDigit w (rests w i n)) ≤ n + negativePart (lowDigit w n)
+  unfolding rests
+  before-le zero n = omega arith
+  before-le (suc i) n = omega (arith, before-le i n, step w wide (rests w i n) .sum, low-minus w wide (rest w (rests w i n)))
 
   -- the digits from place i on
   pub digits-left : (i n : ℕ) → drop i (naf w (pos n)) ≡ naf w (pos (rests w i n))

@@ -8,9 +8,10 @@ pub mod Cons
 pub mod Fewest
 pub mod Places
 pub mod Steps
-pub mod Left
-pub mod Length
 pub mod Width
+pub mod Left
+pub mod Single
+pub mod Length
 pub mod Runs
 pub mod Longest
 pub mod Triple

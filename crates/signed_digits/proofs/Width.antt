@@ -1,5 +1,5 @@
 -- One digit of width w and what it leaves, for every w from 2 on; and how long the form and how large the value of a string can be. Assumes nothing.
-use mathlib.Core.Path.{_≡_, refl, sym, _∙_, ap}
+use mathlib.Core.Path.{_≡_, refl, _∙_, ap}
 use mathlib.Core.Logic.{_≢_}
 use mathlib.Core.List.{List, [], _∷_}
 use Prim.Native.Nat.{ℕ, zero, suc, _+_, _*_, _-_, _<_, _≤_, _^_, _%_, _/_}
@@ -31,6 +31,47 @@ module _ (w : ℕ) (wide : 2 ≤ w) where
   pub rest-even : (n : ℕ) → n % 2 ≡ 0 → rest w n ≡ n / 2
   rest-even n e = omega (arith, step w wide n .sum, zero-parts (lowDigit w n) (low-even n e))
 
+  pub low-small : (n : ℕ) → natAbs (lowDigit w n) < 2 ^ (w - 1)
+  low-small n = go (step w wide n .shape)
+    where
+      go : Shape w (lowDigit w n) (rest w n) → natAbs (lowDigit w n) < 2 ^ (w - 1)
+      go (even z) = rw z (pow-pos (w - 1))
+      go (odd o m) = o .small
+
+  -- a digit below zero is no larger than the number
+  pub low-minus : (n : ℕ) → negativePart (lowDigit w n) ≤ n
+  low-minus zero = omega (arith, zero-parts (lowDigit w 0) (low-even 0 refl))
+  low-minus (suc n) = go (lowDigit w (suc n)) (step w wide (suc n) .sum) (step w wide (suc n) .less (omega arith))
+    where
+      go : (d : ℤ) → positivePart d + 2 * rest w (suc n) ≡ suc n + negativePart d → rest w (suc n) < suc n → negativePart d ≤ suc n
+      go (pos k) e l = omega arith
+      go (negsuc k) e l = omega arith
+
+  -- a power of two from 2 ^ w on is a multiple of 2 ^ w
+  power-whole : (n : ℕ) → w ≤ n → 2 ^ n ≡ 2 * (2 ^ (w - 1) * 2 ^ (n - w))
+  power-whole n l =
+      let s : n ≡ w + (n - w) = omega arith in
+      let p : 2 ^ n ≡ 2 ^ w * 2 ^ (n - w) = ap (λ (x : ℕ). 2 ^ x) s ∙ pow-add 2 w (n - w) in
+      omega (arith, p, ap (λ (x : ℕ). x * 2 ^ (n - w)) (even-power w (omega arith)))
+
+  -- an odd number less than 2 ^ (w - 1) below such a power has its lowest digit subtracted from no less than it
+  pub low-near : (n e : ℕ) → w ≤ n → e % 2 ≢ 0 → 2 ^ n < e + 2 ^ (w - 1) → 2 ^ n ≤ e + negativePart (lowDigit w e)
+  low-near n e l o near = go (step w wide e .shape)
+    where
+      half : ℕ
+      half = 2 ^ (w - 1)
+
+      d : ℤ
+      d = lowDigit w e
+
+      go : Shape w d (rest w e) → 2 ^ n ≤ e + negativePart d
+      go (even z) = absurd (low-odd e o z)
+      go (odd p (k, f)) =
+          let t : ℕ = 2 ^ (n - w) in
+          let b : half * t < half * (k + 1) = omega (arith, power-whole n l, step w wide e .sum, p .small, size-parts d) in
+          let c : t ≤ k = omega (arith, lt-of-mul-lt-mul-left half b) in
+          omega (arith, power-whole n l, step w wide e .sum, mul-le-mul-left half c)
+
   -- ---- how long the form is
 
   -- what is left of e is at most half of a power of two that e is at most
@@ -52,9 +93,7 @@ module _ (w : ℕ) (wide : 2 ≤ w) where
           omega (arith, f, ap (λ (x : ℕ). half * x) z)
       go (odd o (k, f)) (no m) =
           let t : ℕ = 2 ^ (n - w) in
-          let s : n ≡ w + (n - w) = omega arith in
-          let p : 2 ^ n ≡ 2 ^ w * t = ap (λ (x : ℕ). 2 ^ x) s ∙ pow-add 2 w (n - w) in
-          let q : 2 ^ n ≡ 2 * (half * t) = omega (arith, p, ap (λ (x : ℕ). x * t) (even-power w (omega arith))) in
+          let q : 2 ^ n ≡ 2 * (half * t) = power-whole n (omega arith) in
           let b : half * (2 * k) < half * (2 * t + 1) = omega (arith, step w wide e .sum, o .small, size-parts d) in
           let c : k ≤ t = omega (arith, lt-of-mul-lt-mul-left half b) in
           omega (arith, mul-le-mul-left half c)

@@ -1,5 +1,5 @@
 -- The steps of a signed digit string over a table of odd multiples: sound, with the string's value at the end, how many there are, their counts,
--- and a size that the largest one is not below. Assumes nothing.
+-- and sizes that the largest one is not below. Assumes nothing.
 use mathlib.Core.Path.{_≡_, refl, sym, ap, _∙_}
 use mathlib.Core.Logic.{_≢_}
 use mathlib.Core.List.{List, [], _∷_}
@@ -191,6 +191,11 @@ module _ {limit : ℕ} (n : ℕ) (ds : List ℤ) (suited : Suited limit n ds) wh
   pub digits-before : {k : ℕ} → 0 < negativePart (digitAt ds 0) → 2 ^ k ≤ positivePart (value ds) + negativePart (digitAt ds 0) → k < largestBits (digitSteps n ds)
   unfolding digitSteps
   digits-before s h = let (p, t) = all .before s in stands-bits _ p _ t h
+
+  -- and so is each entry of the table
+  pub digits-entry : {k : ℕ} (v : ℕ) → InTable n v → 2 ^ k ≤ v → k < largestBits (digitSteps n ds)
+  unfolding digitSteps
+  digits-entry v t h = stands-bits _ (oddPosition v) v (all .stands v t) h
 
   digits-positions : positionCounts (digitSteps n ds) ≡ counts (tableCounts n .doublings + (length ds - 1)) (tableCounts n .additions + (plusDigits ds - 1)) (minusDigits ds)
   unfolding digitSteps

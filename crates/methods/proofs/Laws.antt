@@ -10,7 +10,7 @@ use native.Mathlib.Numerals.{add-one}
 use native.Mathlib.Omega.{arith}
 use lib.IntN.{ℤ, pos, negℤ}
 use lib.ListN.{length, length-append, List·getD-append}
-use lib.Pow.{pow-pos, pow-mono}
+use lib.Pow.{pow-pos, pow-mono, pow-lt, add-lt-pow}
 use lib.Seq.{getD-at}
 use Rattle.rules.specs.Limits.{numberBytes, planSteps, valueBytes, valueBound}
 use Rattle.integers.specs.Bits.{bitLength}
@@ -279,11 +279,13 @@ power-small d h =
     let more : 2 ^ d < 2 ^ suc d = rw (pow-succ' 2 d) (omega (arith, pow-pos d)) in
     lt-of-lt-of-le more (pow-mono h)
 
--- and so is a number, with one to spare
+-- and so is a number, with a power of two to spare that the bytes of a number hold
+pub plannable-near : {e : ℕ} → Plannable e → (k : ℕ) → k < 8 * numberBytes → e + 2 ^ k < valueBound
+plannable-near {e} p k h =
+    lt-of-lt-of-le (add-lt-pow (8 * numberBytes) (bit-length-iff e (8 * numberBytes) .0 (p .bits)) (pow-lt h)) (pow-mono {i = suc (8 * numberBytes)} {j = 8 * valueBytes} (omega arith))
+
 pub plannable-small : {e : ℕ} → Plannable e → e + 1 < valueBound
-plannable-small {e} p =
-    let h : e < 2 ^ (8 * numberBytes) = bit-length-iff e (8 * numberBytes) .0 (p .bits) in
-    lt-of-le-of-lt (rw add-one h) (power-small (8 * numberBytes) (omega arith))
+plannable-small p = plannable-near p 0 (omega arith)
 
 pub plannable-below : {e : ℕ} → Plannable e → e < valueBound
 plannable-below {e} p = lt-of-le-of-lt (le-add-right e 1) (plannable-small p)

@@ -215,6 +215,17 @@ module _ (e d : ℕ) (wide : 1 ≤ d) where
     scan-reached (window n b o s) r = scan-reached s (at-window n b o r)
     scan-reached (zero-bit n b z s) r = scan-reached s (at-zero n b z r)
 
+-- the whole table's bits, where they are more, or the number's own
+pub largest-cases : (e d : ℕ) (P : ℕ → Type 0) → (e % 2 ≡ 0 → bitLength e < d → P d) → ((bitLength e < d → e % 2 ≡ 1) → P (bitLength e)) → P (slidingLargestBits e d)
+largest-cases e d P table own =
+    elim (ℕ-discrete (e % 2) 0) [
+      | yes z ↦ rw (eq-eqb (e % 2) 0 z) (elim (decLt (bitLength e) d) [
+        | yes l ↦ rw (lt-ltb (bitLength e) d l) (table z l)
+        | no m ↦ rw (le-ltb (bitLength e) d (omega arith)) (own (λ l. absurd (m l)))
+      ])
+      | no o ↦ rw (ne-eqb (e % 2) 0 o) (own (λ l. omega arith))
+    ]
+
 -- ---- from the top bit
 
 abbrev pub top : ℕ → ℕ
@@ -340,14 +351,7 @@ module _ (e d : ℕ) (some : 0 < e) (wide : 1 ≤ d) where
       no-less = entry-or-scan (λ s c. d - 1 < largestBits s) (λ t. absurd (omega (arith, t .odd))) last-stands
 
   pub sliding-largest : largestBits (slidingWindowSteps e d) ≡ slidingLargestBits e d
-  sliding-largest =
-      elim (ℕ-discrete (e % 2) 0) [
-        | yes z ↦ rw (eq-eqb (e % 2) 0 z) (elim (decLt (bitLength e) d) [
-          | yes l ↦ rw (lt-ltb (bitLength e) d l) (table-largest z l)
-          | no m ↦ rw (le-ltb (bitLength e) d (omega arith)) (own-largest (λ l. absurd (m l)))
-        ])
-        | no o ↦ rw (ne-eqb (e % 2) 0 o) (own-largest (λ l. omega arith))
-      ]
+  sliding-largest = largest-cases e d (λ bits. largestBits (slidingWindowSteps e d) ≡ bits) table-largest own-largest
 
 module _ (e d : ℕ) (plannable : Plannable e) (wide : 1 ≤ d) (narrow : d ≤ slidingWindowBits) where
   pub sliding-few : length (slidingWindowSteps e d) ≤ planSteps

@@ -9,14 +9,14 @@ use native.Mathlib.Decide.{decLt, ℕ-discrete}
 use native.Mathlib.Omega.{arith}
 use lib.ListN.{length}
 use lib.Pow.{pow-mono}
-use Rattle.rules.specs.Limits.{planSteps}
+use Rattle.rules.specs.Limits.{planSteps, leastWidth, largestWidth}
 use Rattle.rules.specs.declared.Refusal.{Refusal}
 use Rattle.rules.specs.declared.Refusal.the-variants.{MethodOrWidth}
 use Rattle.integers.specs.Bits.{bitLength}
 use Rattle.chains.specs.Counts.{NoHiddenDoubling}
 use Rattle.chains.specs.Largest.{largestBits}
 use Rattle.methods.specs.declared.Method.{Method}
-use Rattle.methods.specs.declared.Method.the-variants.{Binary, FixedWindows, SlidingWindows, Naf}
+use Rattle.methods.specs.declared.Method.the-variants.{Binary, FixedWindows, SlidingWindows, Naf, WideNaf}
 use Rattle.methods.specs.declared.Chosen.{Chosen}
 use Rattle.methods.specs.Widths.{fixedWindowBits, slidingWindowBits}
 use Rattle.methods.specs.Method.{stepsBy, methodNumber, methodWidth, Entry, methods, within, numbered, methodOf, Allowed, countFrom, everyWidth, choices}
@@ -26,6 +26,7 @@ use Rattle.methods.proofs.Binary.{binary-fit, binary-short, binary-unhi
 use Rattle.methods.proofs.FixedWindows.{fixed-fit, fixed-short, fixed-unhidden, fixed-largest}
 use Rattle.methods.proofs.SlidingWindows.{sliding-fit, sliding-short, sliding-unhidden, sliding-largest}
 use Rattle.methods.proofs.NonAdjacentForm.{naf-fit, naf-short, naf-bits, naf-unhidden, naf-largest}
+use Rattle.methods.proofs.WideNaf.{wide-fit, wide-short, wide-unhidden, wide-largest}
 
 -- ---- what two numbers ask for
 
@@ -64,7 +65,8 @@ asked (suc zero) width e = let w = within-is Binary width 0 0 e in rw (w .0) (re
 asked (suc (suc zero)) width e = let w = within-is (FixedWindows width) width 1 fixedWindowBits e in rw (w .0) (refl, refl)
 asked (suc (suc (suc zero))) width e = let w = within-is (SlidingWindows width) width 1 slidingWindowBits e in rw (w .0) (refl, refl)
 asked (suc (suc (suc (suc zero)))) width e = let w = within-is Naf width 0 0 e in rw (w .0) (refl, omega arith)
-asked (suc (suc (suc (suc (suc n))))) width e = let z : _≡_ {A = ℕ} 0 1 = cc in absurd (omega arith)
+asked (suc (suc (suc (suc (suc zero))))) width e = let w = within-is (WideNaf width) width leastWidth largestWidth e in rw (w .0) (refl, refl)
+asked (suc (suc (suc (suc (suc (suc n)))))) width e = let z : _≡_ {A = ℕ} 0 1 = cc in absurd (omega arith)
 
 pub is-allowed : (method width : ℕ) {m : Method} → methodOf method width ≡ Chosen.Method m → Allowed m
 is-allowed method width e = let a = asked method width e in rw (a .0, a .1) e
@@ -126,7 +128,7 @@ unfolding methodOf
 listed m =
     (λ h. let w = from-list methods h in is-allowed (suc (w .0)) (w .1) (w .2), λ e. choice (methodNumber m) (methodWidth m) e)
 
--- ---- the widths of windows
+-- ---- the widths of windows, and of a non-adjacent form
 
 pub fixed-widths : {d : ℕ} → Allowed (FixedWindows d) → (1 ≤ d) × (d ≤ fixedWindowBits)
 unfolding methodOf numbered
@@ -136,6 +138,10 @@ pub sliding-widths : {d : ℕ} → Allowed (SlidingWindows d) → (1 ≤ d) × (
 unfolding methodOf numbered
 sliding-widths {d} e = let w = within-is (SlidingWindows d) d 1 slidingWindowBits e in (w .1, w .2)
 
+pub wide-widths : {w : ℕ} → Allowed (WideNaf w) → (leastWidth ≤ w) × (w ≤ largestWidth)
+unfolding methodOf numbered
+wide-widths {w} e = let v = within-is (WideNaf w) w leastWidth largestWidth e in (v .1, v .2)
+
 -- ---- the steps
 
 -- a line a method
@@ -144,21 +150,32 @@ every-fit Binary e a p = binary-fit e p
 every-fit (FixedWindows d) e a p = let w = fixed-widths a in fixed-fit e d p (w .0) (w .1)
 every-fit (SlidingWindows d) e a p = let w = sliding-widths a in sliding-fit e d p (w .0) (w .1)
 every-fit Naf e a p = naf-fit e p
+every-fit (WideNaf w) e a p = let v = wide-widths a in wide-fit e w p (v .0) (v .1)
 
 -- ---- how many there are, over the bit length, however large the number
 
-pub every-short : (m : Method) (e : ℕ) → Allowed m → 0 < e → length (stepsBy m e) ≤ 2 ^ methodWidth m + 2 * bitLength e
+-- a method's table has at most two to this many steps: method 5 has method 3's table for w - 1
+abbrev pub tableBits : Method → ℕ
+tableBits Binary = 0
+tableBits (FixedWindows d) = d
+tableBits (SlidingWindows d) = d
+tableBits Naf = 0
+tableBits (WideNaf w) = w - 1
+
+pub every-short : (m : Method) (e : ℕ) → Allowed m → 0 < e → length (stepsBy m e) ≤ 2 ^ tableBits m + 2 * bitLength e
 every-short Binary e a some = omega (arith, binary-short e some)
 every-short (FixedWindows d) e a some = omega (arith, fixed-short e d some (fixed-widths a .0))
 every-short (SlidingWindows d) e a some = omega (arith, sliding-short e d some (sliding-widths a .0))
 every-short Naf e a some = omega (arith, naf-short e some, naf-bits e)
+every-short (WideNaf w) e a some = omega (arith, wide-short e w some (wide-widths a .0))
 
 -- and that is below the limit
-pub every-below : (m : Method) (e : ℕ) → Allowed m → Plannable e → 2 ^ methodWidth m + 2 * bitLength e < planSteps
+pub every-below : (m : Method) (e : ℕ) → Allowed m → Plannable e → 2 ^ tableBits m + 2 * bitLength e < planSteps
 every-below Binary e a p = omega (arith, p .bits)
 every-below (FixedWindows d) e a p = omega (arith, p .bits, pow-mono {i = d} {j = fixedWindowBits} (fixed-widths a .1))
 every-below (SlidingWindows d) e a p = omega (arith, p .bits, pow-mono {i = d} {j = slidingWindowBits} (sliding-widths a .1))
 every-below Naf e a p = omega (arith, p .bits)
+every-below (WideNaf w) e a p = omega (arith, p .bits, pow-mono {i = w - 1} {j = largestWidth - 1} (omega (arith, wide-widths a .1)))
 
 -- ---- no doubling is hidden, whatever the method and however large the number
 
@@ -167,6 +184,7 @@ every-unhidden Binary e a some = binary-unhidden e some
 every-unhidden (FixedWindows d) e a some = fixed-unhidden e d
 every-unhidden (SlidingWindows d) e a some = sliding-unhidden e d some (sliding-widths a .0)
 every-unhidden Naf e a some = naf-unhidden e some
+every-unhidden (WideNaf w) e a some = wide-unhidden e w some (wide-widths a .0)
 
 -- ---- the bits of the largest size, however large the number
 
@@ -175,3 +193,4 @@ every-largest Binary e a some = binary-largest e some
 every-largest (FixedWindows d) e a some = fixed-largest e d some (fixed-widths a .0)
 every-largest (SlidingWindows d) e a some = sliding-largest e d some (sliding-widths a .0)
 every-largest Naf e a some = naf-largest e some
+every-largest (WideNaf w) e a some = wide-largest e w some (wide-widths a .0)

@@ -6,6 +6,7 @@ pub mod DigitSteps
 pub mod Binary
 pub mod FixedWindows
 pub mod SlidingWindows
+pub mod WideNaf
 pub mod NonAdjacentForm
 pub mod Every
 pub mod Examples

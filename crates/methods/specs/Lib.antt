@@ -8,6 +8,7 @@ pub mod Binary
 pub mod FixedWindows
 pub mod SlidingWindows
 pub mod NonAdjacentForm
+pub mod WideNaf
 pub mod Method
 pub mod Forecast
 pub mod Largest

@@ -4,16 +4,18 @@ use mathlib.Core.Path.{_≡_}
 use mathlib.Core.Bool.{cond}
 use mathlib.Core.List.{List, [], _∷_, _++_, map}
 use lib.Dec.{leb}
+use Rattle.rules.specs.Limits.{leastWidth, largestWidth}
 use Rattle.rules.specs.declared.Refusal.the-variants.{MethodOrWidth}
 use Rattle.chains.specs.Steps.{Step}
 use Rattle.methods.specs.declared.Method.{Method}
-use Rattle.methods.specs.declared.Method.the-variants.{Binary, FixedWindows, SlidingWindows, Naf}
+use Rattle.methods.specs.declared.Method.the-variants.{Binary, FixedWindows, SlidingWindows, Naf, WideNaf}
 use Rattle.methods.specs.declared.Chosen.{Chosen}
 use Rattle.methods.specs.Widths.{fixedWindowBits, slidingWindowBits}
 use Rattle.methods.specs.Binary.{binarySteps}
 use Rattle.methods.specs.FixedWindows.{fixedWindowSteps}
 use Rattle.methods.specs.SlidingWindows.{slidingWindowSteps}
 use Rattle.methods.specs.NonAdjacentForm.{nafSteps}
+use Rattle.methods.specs.WideNaf.{wideNafSteps}
 
 -- the steps that a method gives for e
 abbrev pub stepsBy : Method → ℕ → List Step
@@ -21,6 +23,7 @@ stepsBy Binary e = binarySteps e
 stepsBy (FixedWindows d) e = fixedWindowSteps e d
 stepsBy (SlidingWindows d) e = slidingWindowSteps e d
 stepsBy Naf e = nafSteps e
+stepsBy (WideNaf w) e = wideNafSteps e w
 
 -- the two numbers that ask for it
 abbrev pub methodNumber : Method → ℕ
@@ -28,12 +31,14 @@ methodNumber Binary = 1
 methodNumber (FixedWindows d) = 2
 methodNumber (SlidingWindows d) = 3
 methodNumber Naf = 4
+methodNumber (WideNaf w) = 5
 
 abbrev pub methodWidth : Method → ℕ
 methodWidth Binary = 0
 methodWidth (FixedWindows d) = d
 methodWidth (SlidingWindows d) = d
 methodWidth Naf = 0
+methodWidth (WideNaf w) = w
 
 -- a method by its width, from the least to the most that it allows
 pub record Entry : Type 0 where
@@ -44,14 +49,15 @@ pub record Entry : Type 0 where
 abbrev pub entry : (ℕ → Method) → ℕ → ℕ → Entry
 entry method least most = record { method = method; least = least; most = most }
 
--- methods 1, 2, 3 and 4: width is 0 for methods 1 and 4, and from 1 on for methods 2 and 3
+-- methods 1 to 5: width is 0 for methods 1 and 4, from 1 on for methods 2 and 3, and that of a non-adjacent form for method 5
 abbrev pub methods : List Entry
 methods =
     entry (λ width. Binary) 0 0
     ∷ (entry FixedWindows 1 fixedWindowBits
     ∷ (entry SlidingWindows 1 slidingWindowBits
     ∷ (entry (λ width. Naf) 0 0
-    ∷ [])))
+    ∷ (entry WideNaf leastWidth largestWidth
+    ∷ []))))
 
 -- the method, if its width is one that it allows
 unfoldable pub within : Method → ℕ → ℕ → ℕ → Chosen

@@ -1,4 +1,5 @@
--- The widths that methods allow, by name. src/lib.rt has the same for the code; the contracts show that the two agree.
+-- The widths that windows allow, by name; those of a non-adjacent form are limits of the rules. src/lib.rt has the same for the code; the contracts show
+-- that the two agree.
 use Prim.Native.Nat.{ℕ}
 
 -- a fixed window has from 1 to this many bits

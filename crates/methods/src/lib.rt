@@ -1,5 +1,5 @@
 // The planning methods: definitions in specs/, theorems in proofs/, and no code but the type of a
-// method and the widths that each allows. The code that writes and counts a method's steps cites
+// method and the widths that windows allow. The code that writes and counts a method's steps cites
 // them.
 use rules::Refusal;
 
@@ -14,6 +14,7 @@ pub enum Method {
     FixedWindows(usize),
     SlidingWindows(usize),
     Naf,
+    WideNaf(usize),
 }
 
 // The method that is asked for, or why there is none.

@@ -4,6 +4,7 @@ use mathlib.Core.List.{[], _∷_, map}
 use Prim.Native.Nat.{_^_, _-_}
 use lib.IntN.{pos}
 use lib.ListN.{length}
+use Rattle.rules.specs.Limits.{largestWidth}
 use Rattle.signed_digits.specs.Naf.{residue, lowDigit, rest, digitsOf, naf}
 use Rattle.chains.specs.Steps.{planBytesOf, stepBytesOf}
 use Rattle.chains.specs.Values.{valuesOf, extend, stepValue, endOf}
@@ -16,6 +17,7 @@ use Rattle.methods.specs.DigitSteps.{digitSteps}
 use Rattle.methods.specs.FixedWindows.{windowSteps, fixedWindowSteps}
 use Rattle.methods.specs.SlidingWindows.{longest, slide, slidingWindowSteps}
 use Rattle.methods.specs.NonAdjacentForm.{nafSteps}
+use Rattle.methods.specs.WideNaf.{wideTable, wideNafSteps}
 
 pub steps-for-43 : (length (binarySteps 43) ≡ 8) × (length (fixedWindowSteps 43 2) ≡ 8) × (length (slidingWindowSteps 43 3) ≡ 8) × (length (nafSteps 43) ≡ 9)
 unfolding binarySteps fixedWindowSteps slidingWindowSteps nafSteps windowSteps tableBy longest slide digitSteps followed doubled downFrom lengthUpTo bitLength bit residue lowDigit rest digitsOf naf
@@ -33,3 +35,13 @@ plan-for-3 = refl
 pub corner-ends : (endOf (fixedWindowSteps 6 3) ≡ pos 6) × (endOf (slidingWindowSteps 5 3) ≡ pos 5) × (endOf (slidingWindowSteps 6 3) ≡ pos 6) × (endOf (fixedWindowSteps 77 1) ≡ pos 77) × (endOf (slidingWindowSteps 77 1) ≡ pos 77) × (endOf (fixedWindowSteps (2 ^ 255 - 19) fixedWindowBits) ≡ pos (2 ^ 255 - 19)) × (endOf (slidingWindowSteps (2 ^ 255 - 19) 5) ≡ pos (2 ^ 255 - 19)) × (endOf (digitSteps 2 (naf 3 (pos 43))) ≡ pos 43)
 unfolding binarySteps fixedWindowSteps slidingWindowSteps nafSteps windowSteps tableBy longest slide digitSteps followed doubled downFrom lengthUpTo bitLength bit residue lowDigit rest digitsOf naf valuesOf extend stepValue
 corner-ends = (refl, refl, refl, refl, refl, refl, refl, refl)
+
+-- method 5: the table 1, 2, 3, then the digits 1 0 0 -3 0 0 3 from the top
+pub wide-values-for-43 : valuesOf (wideNafSteps 43 3) ≡ map pos (1 ∷ 2 ∷ 3 ∷ 2 ∷ 4 ∷ 8 ∷ 5 ∷ 10 ∷ 20 ∷ 40 ∷ 43 ∷ [])
+unfolding wideNafSteps wideTable digitSteps tableBy followed downFrom residue lowDigit rest digitsOf naf valuesOf extend stepValue
+wide-values-for-43 = refl
+
+-- the table is cut at 5, and whole for 6; 15 is made from 16; a number of 255 bits
+pub wide-corners : (valuesOf (wideNafSteps 5 4) ≡ map pos (1 ∷ 2 ∷ 3 ∷ 5 ∷ [])) × (valuesOf (wideNafSteps 6 4) ≡ map pos (1 ∷ 2 ∷ 3 ∷ 5 ∷ 7 ∷ 6 ∷ [])) × (valuesOf (wideNafSteps 15 3) ≡ map pos (1 ∷ 2 ∷ 3 ∷ 2 ∷ 4 ∷ 8 ∷ 16 ∷ 15 ∷ [])) × (endOf (wideNafSteps (2 ^ 255 - 19) largestWidth) ≡ pos (2 ^ 255 - 19))
+unfolding wideNafSteps wideTable digitSteps tableBy followed downFrom residue lowDigit rest digitsOf naf valuesOf extend stepValue
+wide-corners = (refl, refl, refl, refl)

@@ -4,6 +4,8 @@ use methods::FIXED_WINDOW_BITS;
 use methods::Method;
 use methods::SLIDING_WINDOW_BITS;
 use numbers::positive_verdict;
+use rules::LARGEST_WIDTH;
+use rules::LEAST_WIDTH;
 use rules::Refusal;
 use rules::Verdict;
 ghost use mathlib.Core.Path.{_≡_};
@@ -33,6 +35,7 @@ fn method_of(method: u32, width: u32) -> Chosen
         2 => within(Method::FixedWindows(d), d, 1, FIXED_WINDOW_BITS),
         3 => within(Method::SlidingWindows(d), d, 1, SLIDING_WINDOW_BITS),
         4 => within(Method::Naf, d, 0, 0),
+        5 => within(Method::WideNaf(d), d, LEAST_WIDTH, LARGEST_WIDTH),
         _ => Chosen::Refused(Refusal::MethodOrWidth),
     }
 }

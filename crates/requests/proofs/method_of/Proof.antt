@@ -21,6 +21,9 @@ within-requires-3 c κs = search needs
 within-requires-4 : tie.Need-within-requires-4
 within-requires-4 c κs = search needs
 
+within-requires-5 : tie.Need-within-requires-5
+within-requires-5 c κs = search needs
+
 returns : tie.Need-returns
 unfolding numbered methodOf
 returns c = rw (c .before .match .keys1) (c .within .ensures)
@@ -37,20 +40,25 @@ returns-4 : tie.Need-returns-4
 unfolding numbered methodOf
 returns-4 c = rw (c .before .match .keys4) (c .within4 .ensures)
 
--- no method has any other number
-no-method : (method width : ℕ) → method ≢ 1 → method ≢ 2 → method ≢ 3 → method ≢ 4 → methodOf method width ≡ Chosen.Refused MethodOrWidth
-unfolding numbered methodOf
-no-method zero width one two three four = refl
-no-method (suc zero) width one two three four = absurd (one refl)
-no-method (suc (suc zero)) width one two three four = absurd (two refl)
-no-method (suc (suc (suc zero))) width one two three four = absurd (three refl)
-no-method (suc (suc (suc (suc zero)))) width one two three four = absurd (four refl)
-no-method (suc (suc (suc (suc (suc n))))) width one two three four = refl
-
 returns-5 : tie.Need-returns-5
-returns-5 c =
+unfolding numbered methodOf
+returns-5 c = rw (c .before .match .keys5) (c .within5 .ensures)
+
+-- no method has any other number
+no-method : (method width : ℕ) → method ≢ 1 → method ≢ 2 → method ≢ 3 → method ≢ 4 → method ≢ 5 → methodOf method width ≡ Chosen.Refused MethodOrWidth
+unfolding numbered methodOf
+no-method zero width one two three four five = refl
+no-method (suc zero) width one two three four five = absurd (one refl)
+no-method (suc (suc zero)) width one two three four five = absurd (two refl)
+no-method (suc (suc (suc zero))) width one two three four five = absurd (three refl)
+no-method (suc (suc (suc (suc zero)))) width one two three four five = absurd (four refl)
+no-method (suc (suc (suc (suc (suc zero))))) width one two three four five = absurd (five refl)
+no-method (suc (suc (suc (suc (suc (suc n)))))) width one two three four five = refl
+
+returns-6 : tie.Need-returns-6
+returns-6 c =
     let no = c .match .rest in
-    sym (no-method (c .before .args .method) (c .before .args .width) (no .0 .0 .0 .1) (no .0 .0 .1) (no .0 .1) (no .1))
+    sym (no-method (c .before .args .method) (c .before .args .width) (no .0 .0 .0 .0 .1) (no .0 .0 .0 .1) (no .0 .0 .1) (no .0 .1) (no .1))
 
 pub method-of-spec : {M : Type 1} → statement M
 method-of-spec =
@@ -60,8 +68,10 @@ method-of-spec =
     within-requires-2
     within-requires-3
     within-requires-4
+    within-requires-5
     returns
     returns-2
     returns-3
     returns-4
-    returns-5)
+    returns-5
+    returns-6)

@@ -25,6 +25,7 @@ pub fn recode_wide(number: &[u8], width: u32, out: &mut [u8]) -> Written
         return Written::Refused(refusal);
     }
     let mut digits = [0u8; DIGIT_ROOM];
-    let length = recoded(number, width as usize, &mut digits);
+    let w = width as usize;
+    let length = recoded(number, w, &mut digits);
     put(&digits[..length], out)
 }

@@ -11,7 +11,7 @@ use Rattle.integers.specs.Positional.{bytesValue}
 use Rattle.numbers.specs.Admission.{numberVerdict}
 use Rattle.numbers.proofs.Tests.{admitted-is}
 use Rattle.widths.specs.Width.{AllowedWidth, widthVerdict}
-use Rattle.widths.proofs.Tests.{passed-allowed}
+use Rattle.widths.proofs.Tests.{allowed-is}
 use Rattle.recoding.specs.Recode.{recodingOf}
 use Rattle.wide_digits.proofs.Padded.{zeros-blank}
 use Rattle.wide_digits.proofs.Form.{form-bytes}
@@ -61,7 +61,7 @@ slice-aggregate-recoded c = search needs
 
 recoded-requires : tie.Need-recoded-requires
 recoded-requires c κs =
-    let a = passed-allowed _ (width-passed (c .before)) in
+    let a = allowed-is _ .0 (width-passed (c .before)) in
     let short = admitted-is _ .0 (number-passed (c .before .before .before .before)) .short in
     ((a .least, a .most), (short, (omega arith, zeros-blank (8 * numberBytes + 1))))
 

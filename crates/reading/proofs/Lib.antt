@@ -1,2 +1,3 @@
 pub mod Outcomes
+pub mod OfWidth
 pub mod Promises

@@ -8,31 +8,23 @@ use lib.IntN.{ℤ, pos, negsuc, negℤ, natAbs}
 use lib.ListN.{length, take, drop}
 use lib.Seq.{take-append-seam}
 use Rattle.rules.specs.Limits.{stringDigits}
-use Rattle.rules.specs.Outcome.{Outcome, refused, answered, outcomeOf}
-use Rattle.rules.specs.declared.Written.{Written}
-use Rattle.rules.specs.declared.Written.the-variants.{Length, Refused}
+use Rattle.rules.specs.Memory.{written, leaves}
+use Rattle.rules.specs.Outcome.{Outcome, refused, answered}
+use Rattle.rules.specs.declared.Verdict.{Verdict}
 use Rattle.rules.proofs.Memory as memory
+use Rattle.rules.proofs.Memory.{Writes, stopped, no-room, all-fits}
 use Rattle.integers.specs.Positional.{bytesValue, Unpadded, bytesOf}
 use Rattle.integers.specs.Signed.{signOf}
 use Rattle.integers.proofs.Positional.{Below}
 use Rattle.integers.proofs.Shortest.{bytes-zero, bytes-value, bytes-below, bytes-top, bytes-only}
 use Rattle.numbers.specs.Admission.{Admitted}
-use Rattle.numbers.proofs.Spelling.{own-bytes}
 use Rattle.signed_digits.specs.Naf.{canonicalWidth}
 use Rattle.digit_strings.specs.Admission.{stringVerdict, stringValue, DigitString, LowestBad}
-use Rattle.digit_strings.proofs.Bytes.{naf-digits, naf-bytes-value}
 use Rattle.digit_strings.proofs.Given as string
-use Rattle.recoding.specs.Recode.{recodingOf, recoding}
-use Rattle.recoding.proofs.Promises.{recoding-length}
-use Rattle.reading.specs.ReadBack.{sizeBytes, readLength, withSign, readBackAnswer, readBackBuffer, readBackOutcome}
-
--- the sign goes with the length
-abbrev values : List ℕ → ℕ → List ℕ
-values digits n = signOf (stringValue digits) ∷ n ∷ []
-
-with-sign : (sign : ℕ) (w : Written) → readBackOutcome (withSign sign w) ≡ outcomeOf (λ n. sign ∷ n ∷ []) w
-with-sign sign (Length n) = refl
-with-sign sign (Refused r) = refl
+use Rattle.recoding.specs.Recode.{recoding}
+use Rattle.reading.specs.ReadBack.{sizeBytes, withSign, readBackAnswer, readBackBuffer, readBackOutcome}
+use Rattle.reading.proofs.OfWidth as of-width
+use Rattle.reading.proofs.OfWidth.{values, with-sign}
 
 -- ---- each refusal is given exactly when the rules say, and no other
 
@@ -42,7 +34,7 @@ module _ (digits : List ℕ) (room : ℕ) where
   outcome = readBackOutcome (readBackAnswer digits room)
 
   outcome-is : outcome ≡ string.outcome (values digits) canonicalWidth digits (sizeBytes digits) room
-  outcome-is = with-sign (signOf (stringValue digits)) (readLength digits room)
+  outcome-is = of-width.outcome-is canonicalWidth digits room
 
   -- each outcome, with what it is given for
   abbrev pub Given : Outcome → Type 0
@@ -103,13 +95,28 @@ reads-value digits = go (stringValue digits)
         let e = bytes-value (suc n) in
         record { signed = inr (refl, ap (λ (m : ℕ). negℤ (pos m)) (sym e), omega (arith, e)); below = bytes-below (suc n); top = bytes-top (suc n) }
 
--- so does what it answers and writes
-pub reads-back : (digits out : List ℕ) (sign n : ℕ) → outcome digits (length out) ≡ answered (sign ∷ n ∷ []) → Gives (stringValue digits) sign (take n (readBackBuffer digits out))
-reads-back digits out sign n e =
-    let a = answers digits (length out) (sign ∷ n ∷ []) .0 e .2 in
+answered-is : (values : ℕ → List ℕ) (tests : Verdict) (bytes : List ℕ) (room : ℕ) (vs : List ℕ) → memory.writes values tests bytes room ≡ answered vs → vs ≡ values (length bytes)
+answered-is values tests bytes room vs = go (memory.writes-one values tests bytes room)
+  where
+    go : {o : Outcome} → Writes values tests bytes room o → o ≡ answered vs → vs ≡ values (length bytes)
+    go (stopped t) e = cc
+    go (no-room t h) e = cc
+    go (all-fits t h) e = cc
+
+-- so does what it answers and writes, whatever it tests before
+pub reads-back-after : (tests : Verdict) (digits out : List ℕ) (sign n : ℕ)
+    → readBackOutcome (withSign (signOf (stringValue digits)) (written tests (sizeBytes digits) (length out))) ≡ answered (sign ∷ n ∷ [])
+    → Gives (stringValue digits) sign (take n (leaves (written tests (sizeBytes digits) (length out)) (sizeBytes digits) out))
+reads-back-after tests digits out sign n e =
+    let bytes : List ℕ = sizeBytes digits in
+    let o = sym (with-sign (signOf (stringValue digits)) (written tests bytes (length out))) ∙ e in
+    let a : sign ∷ n ∷ [] ≡ values digits (length bytes) = answered-is (values digits) tests bytes (length out) (sign ∷ n ∷ []) o in
     let s : sign ≡ signOf (stringValue digits) = cc in
-    let l : n ≡ length (sizeBytes digits) = cc in
-    rw (answered-leaves digits out (sign ∷ n ∷ []) e, s, l, take-append-seam (sizeBytes digits) (drop (length (sizeBytes digits)) out)) (reads-value digits)
+    let l : n ≡ length bytes = cc in
+    rw (memory.answered-leaves (values digits) tests bytes out (sign ∷ n ∷ []) o, s, l, take-append-seam bytes (drop (length bytes) out)) (reads-value digits)
+
+pub reads-back : (digits out : List ℕ) (sign n : ℕ) → outcome digits (length out) ≡ answered (sign ∷ n ∷ []) → Gives (stringValue digits) sign (take n (readBackBuffer digits out))
+reads-back digits = reads-back-after (stringVerdict canonicalWidth digits) digits
 
 -- and no other sign and bytes do
 pub reads-only : (digits : List ℕ) (sign : ℕ) (bytes : List ℕ) → Gives (stringValue digits) sign bytes → (sign ≡ signOf (stringValue digits)) × (bytes ≡ sizeBytes digits)
@@ -137,20 +144,9 @@ reads-zero digits z = (rw z, rw (z, bytes-zero))
 module _ (number : List ℕ) (admitted : Admitted number) (bytes : Below 256 number) where
   -- a digit string of the number's value
   pub recoding-reads : DigitString canonicalWidth (recoding number) × (stringValue (recoding number) ≡ pos (bytesValue number))
-  unfolding recodingOf
-  recoding-reads =
-      let z : ℤ = pos (bytesValue number) in
-      (naf-digits canonicalWidth (omega arith) z (omega arith) (omega (arith, recoding-length number bytes, admitted .short)), naf-bytes-value canonicalWidth (omega arith) z (omega arith))
+  recoding-reads = of-width.recoding-reads canonicalWidth (omega arith) number bytes (omega arith) admitted
 
   -- read back with room enough, it gives the number's own bytes
   pub reads-recoding : (out : List ℕ) → length number ≤ length out
       → (outcome (recoding number) (length out) ≡ answered (0 ∷ length number ∷ [])) × (readBackBuffer (recoding number) out ≡ number ++ drop (length number) out)
-  unfolding sizeBytes
-  reads-recoding out = go number (own-bytes number bytes admitted)
-    where
-      go : (own : List ℕ) → own ≡ bytesOf (bytesValue number) → length own ≤ length out
-          → (outcome (recoding number) (length out) ≡ answered (0 ∷ length own ∷ [])) × (readBackBuffer (recoding number) out ≡ own ++ drop (length own) out)
-      go own e h =
-          let v = recoding-reads .1 in
-          let o = answers (recoding number) (length out) (0 ∷ length own ∷ []) .1 (recoding-reads .0, rw (v, ← e) h, rw (v, e)) in
-          (o, answered-leaves (recoding number) out _ o ∙ rw (v, e))
+  reads-recoding = of-width.reads-recoding canonicalWidth (omega arith) number bytes (omega arith) admitted

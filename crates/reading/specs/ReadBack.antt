@@ -18,21 +18,31 @@ use Rattle.reading.specs.declared.ReadBack.the-variants.{Value, Refused}
 unfoldable pub sizeBytes : List ℕ → List ℕ
 sizeBytes digits = bytesOf (natAbs (stringValue digits))
 
--- how many bytes are written, or why none
-abbrev pub readLength : List ℕ → ℕ → Written
-readLength digits room = written (stringVerdict canonicalWidth digits) (sizeBytes digits) room
+-- how many bytes are written, or why none, over the width of the digits
+abbrev pub readLengthOf : ℕ → List ℕ → ℕ → Written
+readLengthOf w digits room = written (stringVerdict w digits) (sizeBytes digits) room
 
 -- the answer: the sign and how many bytes
 abbrev pub withSign : ℕ → Written → ReadBack
 withSign sign (Length n) = Value sign n
 withSign sign (NotWritten r) = Refused r
 
-abbrev pub readBackAnswer : List ℕ → ℕ → ReadBack
-readBackAnswer digits room = withSign (signOf (stringValue digits)) (readLength digits room)
+abbrev pub readAnswerOf : ℕ → List ℕ → ℕ → ReadBack
+readAnswerOf w digits room = withSign (signOf (stringValue digits)) (readLengthOf w digits room)
 
 -- the buffer afterwards
+abbrev pub readBufferOf : ℕ → List ℕ → List ℕ → List ℕ
+readBufferOf w digits out = leaves (readLengthOf w digits (length out)) (sizeBytes digits) out
+
+-- read back itself: the digits 0, 1 and -1
+abbrev pub readLength : List ℕ → ℕ → Written
+readLength digits room = readLengthOf canonicalWidth digits room
+
+abbrev pub readBackAnswer : List ℕ → ℕ → ReadBack
+readBackAnswer digits room = readAnswerOf canonicalWidth digits room
+
 abbrev pub readBackBuffer : List ℕ → List ℕ → List ℕ
-readBackBuffer digits out = leaves (readLength digits (length out)) (sizeBytes digits) out
+readBackBuffer digits out = readBufferOf canonicalWidth digits out
 
 -- the answer in the rules' numbers
 abbrev pub readBackOutcome : ReadBack → Outcome

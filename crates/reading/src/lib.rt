@@ -8,8 +8,10 @@ use reading_digits::size_of;
 use rules::Refusal;
 use rules::Verdict;
 ghost use mathlib.Core.Path.{_≡_};
+ghost use Prim.Native.Nat.{_≤_};
 ghost use lib.ListN.{length};
-ghost use Rattle.reading.specs.ReadBack.{readBackAnswer, readBackBuffer};
+ghost use Rattle.rules.specs.Limits.{leastWidth, largestWidth};
+ghost use Rattle.reading.specs.ReadBack.{readAnswerOf, readBufferOf, readBackAnswer, readBackBuffer};
 
 // What read back answers: the sign, 1 below zero, and how many bytes of size it wrote.
 pub enum ReadBack {
@@ -18,21 +20,30 @@ pub enum ReadBack {
 }
 
 // Writes the size of a digit string's value, with no high zero byte, least significant first;
-// answers the sign and how many bytes.
-pub fn read_back(digits: &[u8], out: &mut [u8]) -> ReadBack
-    ensures answer { λ r. ⌜ r ≡ readBackAnswer (now (digits .entry)) (length (now (out .entry))) ⌝ }
-    ensures buffer { λ r. ⌜ now (out .exit) ≡ readBackBuffer (now (digits .entry)) (now (out .entry)) ⌝ }
+// answers the sign and how many bytes. The digits are of this width.
+pub fn read_of_width(digits: &[u8], width: usize, out: &mut [u8]) -> ReadBack
+    requires { ⌜ (leastWidth ≤ width) × (width ≤ largestWidth) ⌝ }
+    ensures answer { λ r. ⌜ r ≡ readAnswerOf width (now (digits .entry)) (length (now (out .entry))) ⌝ }
+    ensures buffer { λ r. ⌜ now (out .exit) ≡ readBufferOf width (now (digits .entry)) (now (out .entry)) ⌝ }
 {
-    if let Verdict::Failed(refusal) = string_verdict(digits, CANONICAL_WIDTH) {
+    if let Verdict::Failed(refusal) = string_verdict(digits, width) {
         return ReadBack::Refused(refusal);
     }
     let count = significant(digits);
-    let sign = sign_of(digits, count);
-    let size = size_of(digits, count, sign);
+    let sign = sign_of(digits, count, width);
+    let size = size_of(digits, count, width, sign);
     let length = significant(&size);
     if out.len() < length {
         return ReadBack::Refused(Refusal::RoomTooSmall(length));
     }
     copy(&size, length, out);
     ReadBack::Value { sign, length }
+}
+
+// The same of a string of the digits 0, 1 and -1.
+pub fn read_back(digits: &[u8], out: &mut [u8]) -> ReadBack
+    ensures answer { λ r. ⌜ r ≡ readBackAnswer (now (digits .entry)) (length (now (out .entry))) ⌝ }
+    ensures buffer { λ r. ⌜ now (out .exit) ≡ readBackBuffer (now (digits .entry)) (now (out .entry)) ⌝ }
+{
+    read_of_width(digits, CANONICAL_WIDTH, out)
 }

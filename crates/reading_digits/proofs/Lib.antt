@@ -1,2 +1,3 @@
 pub mod Raised
+pub mod Sign
 pub mod Size

@@ -1,127 +1,134 @@
--- A digit string with each digit raised by one: its value by that sum, and its sign by the highest digit. Assumes nothing.
-use mathlib.Core.Path.{_≡_, refl, sym, ap, _∙_}
-use mathlib.Core.Logic.{⊎-elim}
+-- A digit string with each digit raised by the largest of its width: its value by that sum. Assumes nothing.
+use mathlib.Core.Path.{_≡_, refl, ap, _∙_}
 use mathlib.Core.Bool.{true}
 use mathlib.Core.List.{List, [], _∷_}
-use Prim.Native.Nat.{ℕ, zero, suc, _+_, _-_, _*_, _/_, _^_, _<_, _≤_}
-use native.Mathlib.Nat.{pow-suc}
-use native.Mathlib.Numerals.{add-one}
+use Prim.Native.Nat.{ℕ, zero, suc, _+_, _-_, _*_, _%_, _^_, _<_, _≤_}
+use native.Mathlib.Nat.{pow-suc, mul-add, mul-le-mul}
 use native.Mathlib.Omega.{arith}
-use lib.IntN.{ℤ, pos, negsuc}
 use lib.ListN.{length, getD, take, drop, length-take, length-map}
-use lib.Pow.{pow-pos, pow-mono}
+use lib.Pow.{pow-add, pow-pos, pow-mono}
 use lib.Seq.{take-add, drop-cons, length-take-le}
+use Rattle.rules.specs.Limits.{leastWidth, largestWidth}
 use Rattle.integers.specs.Positional.{positional, bytesValue, Significant}
-use Rattle.integers.specs.Signed.{signOf}
 use Rattle.integers.proofs.Positional.{Below, below-take, below-drop, positional-append}
 use Rattle.signed_digits.specs.Bytes.{stringOf}
 use Rattle.signed_digits.proofs.Parts.{positivePart, negativePart, positiveSum, negativeSum, value-parts}
-use Rattle.signed_digits.specs.Naf.{canonicalWidth}
-use Rattle.digit_strings.specs.Admission.{isDigit, stringValue, DigitString}
-use Rattle.digit_strings.specs.Raised.{raised}
-use Rattle.digit_strings.proofs.Digits.{digit-2}
+use Rattle.digit_strings.specs.Admission.{largestDigit, isDigit, stringValue, DigitString}
 use Rattle.digit_strings.proofs.Raised.{raised-is}
-use Rattle.reading_digits.specs.Sums.{raisedDigits, raisedSum, raisedZeros}
+use Rattle.reading_digits.specs.Sums.{raisedDigits, SizesUpTo, raisedSum, raisedZeros, carryZero}
 
-abbrev Digits : List ℕ → Type 0
-Digits l = (i : ℕ) → i < length l → isDigit canonicalWidth (getD l i 0) ≡ true
+-- ---- zeros
 
-raised-at : (l : List ℕ) (i : ℕ) → i < length l → getD (raisedDigits l) i 0 ≡ raised canonicalWidth (getD l i 0)
-raised-at [] i h = absurd (omega arith)
-raised-at (x ∷ l) zero h = refl
-raised-at (x ∷ l) (suc i) h = raised-at l i (omega arith)
+pub zeros-none : (t : ℕ) → raisedZeros t 0 ≡ 0
+unfolding raisedZeros
+zeros-none t = omega arith
 
-raised-below : (l : List ℕ) → Digits l → Below 3 (raisedDigits l)
-raised-below [] d i = omega arith
-raised-below (x ∷ l) d zero = omega (arith, raised-is canonicalWidth x (omega arith) (d 0 (omega arith)))
-raised-below (x ∷ l) d (suc i) = raised-below l (λ k h. d (suc k) (omega arith)) i
+-- the lowest of them, and those above it
+pub zeros-low : (t n : ℕ) → raisedZeros t (suc n) ≡ t + 2 * raisedZeros t n
+unfolding raisedZeros
+zeros-low t n =
+    let e : 2 ^ suc n - 1 ≡ 1 + 2 * (2 ^ n - 1) = omega (arith, pow-suc 2 n, pow-pos n) in
+    rw e (omega arith)
 
--- k raised digits come to at most 2 ^ (k + 1) - 2
-raised-most : (k : ℕ) (l : List ℕ) → length l ≤ k → Below 3 l → positional 2 l + 2 ≤ 2 * 2 ^ k
-unfolding positional
-raised-most k [] h b = omega (arith, pow-pos k)
-raised-most zero (x ∷ l) h b = absurd (omega arith)
-raised-most (suc k) (x ∷ l) h b = rw pow-suc (omega (arith, b 0, raised-most k l (omega arith) (λ i. b (suc i))))
+pub zeros-add : (t m c : ℕ) → raisedZeros t (m + c) ≡ raisedZeros t m + 2 ^ m * raisedZeros t c
+unfolding raisedZeros
+zeros-add t m c =
+    let p : ℕ = 2 ^ m in
+    let q : ℕ = 2 ^ c - 1 in
+    let e : 2 ^ (m + c) ≡ p * (1 + q) = pow-add 2 m c ∙ ap (λ (x : ℕ). p * x) (omega (arith, pow-pos c)) in
+    let f : 2 ^ (m + c) - 1 ≡ (p - 1) + p * q = omega (arith, e, pow-pos m) in
+    rw (f, mul-add) (omega arith)
 
--- the sums of the digits above and below zero, by the n significant digits
-sums : (l : List ℕ) (n : ℕ) → Digits l → n ≤ length l → bytesValue (drop n l) ≡ 0
-    → positiveSum (stringOf l) + (2 ^ n - 1) ≡ positional 2 (take n (raisedDigits l)) + negativeSum (stringOf l)
-unfolding positional positiveSum negativeSum
-sums [] zero d h z = refl
-sums [] (suc n) d h z = absurd (omega arith)
-sums (x ∷ l) zero d h z =
-    let e : x ≡ 0 = omega arith in
-    rw e (omega (arith, sums l zero (λ k p. d (suc k) (omega arith)) (omega arith) (omega arith)))
-sums (x ∷ l) (suc n) d h z =
-    rw pow-suc
-    (omega (arith, raised-is canonicalWidth x (omega arith) (d 0 (omega arith)), pow-pos n, sums l n (λ k p. d (suc k) (omega arith)) (omega arith) z))
+-- those of a byte
+pub zeros-byte : (t c : ℕ) → t < carryZero → c ≤ 8 → raisedZeros t c ≤ 127 * 255
+unfolding raisedZeros
+zeros-byte t c h l = mul-le-mul {n₁ = t} {m₁ = 2 ^ c - 1} {n₂ = 127} {m₂ = 255} (omega arith) (omega (arith, pow-mono {i = c} {j = 8} l))
 
--- the sum of m digits and of the c above them
-pub raised-add : (l : List ℕ) (m c : ℕ) → m + c ≤ length l → raisedSum l 0 (m + c) ≡ raisedSum l 0 m + 2 ^ m * raisedSum l m c
-unfolding raisedSum
-raised-add l m c h =
-    let long : length (take m (raisedDigits l)) ≡ m = length-take-le m (raisedDigits l) (rw length-map (omega arith)) in
-    rw (take-add m c (raisedDigits l), positional-append 2 (take m (raisedDigits l)) (take c (drop m (raisedDigits l))), long)
+-- as the code makes them
+pub zeros-made : (t c : ℕ) → c ≤ 8 → t * (1 * 2 ^ c % 2 ^ 64 - 1) ≡ raisedZeros t c
+unfolding raisedZeros
+zeros-made t c h =
+    let e : 1 * 2 ^ c % 2 ^ 64 - 1 ≡ 2 ^ c - 1 = omega (arith, pow-mono {i = c} {j = 8} h) in
+    ap (λ (x : ℕ). t * x) e
 
-pub raised-none : (l : List ℕ) (m : ℕ) → raisedSum l m 0 ≡ 0
-unfolding raisedSum positional
-raised-none l m = refl
+-- ---- sums
 
--- the lowest digit and those above it
-raised-low : (l : List ℕ) (m c : ℕ) → m < length l → raisedSum l m (suc c) ≡ raised canonicalWidth (getD l m 0) + 2 * raisedSum l (suc m) c
-unfolding raisedSum positional
-raised-low l m c h =
-    let p : m < length (raisedDigits l) = rw length-map h in
-    rw (drop-cons (raisedDigits l) m 0 p, raised-at l m h)
+module _ (t : ℕ) where
+  raised-at : (l : List ℕ) (i : ℕ) → i < length l → getD (raisedDigits t l) i 0 ≡ (getD l i 0 + t) % 256
+  raised-at [] i h = absurd (omega arith)
+  raised-at (x ∷ l) zero h = refl
+  raised-at (x ∷ l) (suc i) h = raised-at l i (omega arith)
 
--- a sum from the top down, one digit more
-pub raised-down : (l : List ℕ) (from count i : ℕ) → from + count ≤ length l → 0 < i → i ≤ count
-    → raisedSum l (from + i) (count - i) * 2 + raised canonicalWidth (getD l (from + (i - 1)) 0) ≡ raisedSum l (from + (i - 1)) (count - (i - 1))
-raised-down l from count i h some k =
-    let place : from + i ≡ suc (from + (i - 1)) = omega arith in
-    let left : count - (i - 1) ≡ suc (count - i) = omega arith in
-    rw (left, place) (omega (arith, raised-low l (from + (i - 1)) (count - i) (omega arith)))
+  raised-below : (l : List ℕ) → SizesUpTo t l → Below (2 * t + 1) (raisedDigits t l)
+  raised-below [] d i = omega arith
+  raised-below (x ∷ l) d zero = omega (arith, d 0 (omega arith))
+  raised-below (x ∷ l) d (suc i) = raised-below l (λ k h. d (suc k) (omega arith)) i
 
--- c digits come to at most twice as much as c zeros
-raised-few : (l : List ℕ) (m c : ℕ) → Digits l → raisedSum l m c + 2 ≤ 2 * 2 ^ c
-unfolding raisedSum
-raised-few l m c d =
-    raised-most c (take c (drop m (raisedDigits l))) (omega (arith, length-take c (drop m (raisedDigits l))))
-    (below-take 3 c (drop m (raisedDigits l)) (omega arith) (below-drop 3 m (raisedDigits l) (omega arith) (raised-below l d)))
+  -- k raised digits come to at most twice as much as k zeros
+  raised-most : (k : ℕ) (l : List ℕ) → length l ≤ k → Below (2 * t + 1) l → positional 2 l ≤ 2 * raisedZeros t k
+  unfolding positional
+  raised-most k [] h b = omega arith
+  raised-most zero (x ∷ l) h b = absurd (omega arith)
+  raised-most (suc k) (x ∷ l) h b = omega (arith, zeros-low t k, b 0, raised-most k l (omega arith) (λ i. b (suc i)))
 
--- so those of a byte
-pub raised-byte : (l : List ℕ) (m c : ℕ) → DigitString canonicalWidth l → c ≤ 8 → (1 ≤ 2 ^ c) × (2 ^ c ≤ 256) × (raisedSum l m c + 2 ≤ 2 * 2 ^ c)
-raised-byte l m c d h = (pow-pos c, pow-mono {i = c} {j = 8} h, raised-few l m c (d .digits))
+  pub raised-few : (l : List ℕ) (m c : ℕ) → SizesUpTo t l → raisedSum t l m c ≤ 2 * raisedZeros t c
+  unfolding raisedSum
+  raised-few l m c d =
+      raised-most c (take c (drop m (raisedDigits t l))) (omega (arith, length-take c (drop m (raisedDigits t l))))
+      (below-take (2 * t + 1) c (drop m (raisedDigits t l)) (omega arith) (below-drop (2 * t + 1) m (raisedDigits t l) (omega arith) (raised-below l d)))
 
-sign-positive : (v : ℤ) → negativePart v ≤ positivePart v → signOf v ≡ 0
-sign-positive (pos n) h = refl
-sign-positive (negsuc n) h = absurd (omega arith)
+  -- the sum of m digits and of the c above them
+  pub raised-add : (l : List ℕ) (m c : ℕ) → m + c ≤ length l → raisedSum t l 0 (m + c) ≡ raisedSum t l 0 m + 2 ^ m * raisedSum t l m c
+  unfolding raisedSum
+  raised-add l m c h =
+      let long : length (take m (raisedDigits t l)) ≡ m = length-take-le m (raisedDigits t l) (rw length-map (omega arith)) in
+      rw (take-add m c (raisedDigits t l), positional-append 2 (take m (raisedDigits t l)) (take c (drop m (raisedDigits t l))), long)
 
-sign-negative : (v : ℤ) → positivePart v < negativePart v → signOf v ≡ 1
-sign-negative (pos n) h = absurd (omega arith)
-sign-negative (negsuc n) h = refl
+  pub raised-none : (l : List ℕ) (m : ℕ) → raisedSum t l m 0 ≡ 0
+  unfolding raisedSum positional
+  raised-none l m = refl
 
-module _ (l : List ℕ) (n : ℕ) (d : DigitString canonicalWidth l) (s : Significant l n) where
-  pub raised-value : positivePart (stringValue l) + raisedZeros n ≡ raisedSum l 0 n + negativePart (stringValue l)
-  unfolding raisedSum raisedZeros
-  raised-value = omega (arith, value-parts (stringOf l), sums l n (d .digits) (s .within) (s .whole))
+  -- the lowest digit and those above it
+  pub raised-low : (l : List ℕ) (m c : ℕ) → m < length l → raisedSum t l m (suc c) ≡ (getD l m 0 + t) % 256 + 2 * raisedSum t l (suc m) c
+  unfolding raisedSum positional
+  raised-low l m c h =
+      let p : m < length (raisedDigits t l) = rw length-map h in
+      rw (drop-cons (raisedDigits t l) m 0 p, raised-at l m h)
 
-  -- without a significant digit the value is 0
-  pub sign-none : n ≡ 0 → signOf (stringValue l) ≡ 0
-  unfolding raisedSum raisedZeros positional
-  sign-none e = sign-positive (stringValue l) (omega (arith, rw e at raised-value))
+  -- a sum from the top down, one digit more
+  pub raised-down : (l : List ℕ) (from count i : ℕ) → from + count ≤ length l → 0 < i → i ≤ count
+      → raisedSum t l (from + i) (count - i) * 2 + (getD l (from + (i - 1)) 0 + t) % 256 ≡ raisedSum t l (from + (i - 1)) (count - (i - 1))
+  raised-down l from count i h some k =
+      let place : from + i ≡ suc (from + (i - 1)) = omega arith in
+      let left : count - (i - 1) ≡ suc (count - i) = omega arith in
+      rw (left, place) (omega (arith, raised-low l (from + (i - 1)) (count - i) (omega arith)))
 
-  -- else its sign is that of the highest of them
-  pub sign-top : 0 < n → signOf (stringValue l) ≡ getD l (n - 1) 0 / 128
-  unfolding raisedZeros
-  sign-top h =
-      let m : ℕ = n - 1 in
-      let e : m + 1 ≡ n = omega arith in
-      let one : raisedSum l m 1 ≡ raised canonicalWidth (getD l m 0) = omega (arith, raised-low l m 0 (omega (arith, s .within)), raised-none l (suc m)) in
-      let sum : raisedSum l 0 n ≡ raisedSum l 0 m + 2 ^ m * raised canonicalWidth (getD l m 0) =
-      ap (raisedSum l 0) (sym e) ∙ raised-add l m 1 (omega (arith, s .within)) ∙ ap (λ (x : ℕ). raisedSum l 0 m + 2 ^ m * x) one in
-      let whole : 2 ^ n ≡ 2 ^ m * 2 = ap (λ (k : ℕ). 2 ^ k) (sym e) ∙ rw (add-one, pow-suc) in
-      let few : raisedSum l 0 m + 2 ≤ 2 * 2 ^ m = raised-few l 0 m (d .digits) in
-      ⊎-elim (λ z. absurd (s .top h z))
-      (⊎-elim (λ z. rw z (sign-positive (stringValue l) (omega (arith, raised-value, rw z at sum)))) (λ z. rw z (sign-negative (stringValue l) (omega (arith, raised-value, pow-pos m, rw z at sum)))))
-      (digit-2 (getD l m 0) .0 (d .digits m (omega (arith, s .within))))
+-- ---- the digits of a width
+
+-- a width from the least on has digits other than 0
+pub some-digit : (w : ℕ) → leastWidth ≤ w → 1 ≤ largestDigit w
+some-digit w h = omega (arith, pow-mono {i = 1} {j = w - 1} (omega arith))
+
+module _ (w : ℕ) (most : w ≤ largestWidth) where
+  abbrev Digits : List ℕ → Type 0
+  Digits l = (i : ℕ) → i < length l → isDigit w (getD l i 0) ≡ true
+
+  pub sizes-up-to : (l : List ℕ) → DigitString w l → SizesUpTo (largestDigit w) l
+  sizes-up-to l d i h = raised-is w (getD l i 0) most (d .digits i h) .1
+
+  -- the sums of the digits above and below zero, by the n significant digits
+  sums : (l : List ℕ) (n : ℕ) → Digits l → n ≤ length l → bytesValue (drop n l) ≡ 0
+      → positiveSum (stringOf l) + raisedZeros (largestDigit w) n ≡ positional 2 (take n (raisedDigits (largestDigit w) l)) + negativeSum (stringOf l)
+  unfolding positional positiveSum negativeSum
+  sums [] zero d h z = omega (arith, zeros-none (largestDigit w))
+  sums [] (suc n) d h z = absurd (omega arith)
+  sums (x ∷ l) zero d h z =
+      let e : x ≡ 0 = omega arith in
+      rw e (omega (arith, zeros-none (largestDigit w), sums l zero (λ k p. d (suc k) (omega arith)) (omega arith) (omega arith)))
+  sums (x ∷ l) (suc n) d h z =
+      omega (arith, raised-is w x most (d 0 (omega arith)), zeros-low (largestDigit w) n, sums l n (λ k p. d (suc k) (omega arith)) (omega arith) z)
+
+  pub raised-value : (l : List ℕ) (n : ℕ) → DigitString w l → Significant l n
+      → positivePart (stringValue l) + raisedZeros (largestDigit w) n ≡ raisedSum (largestDigit w) l 0 n + negativePart (stringValue l)
+  unfolding raisedSum
+  raised-value l n d s = omega (arith, value-parts (stringOf l), sums l n (d .digits) (s .within) (s .whole))

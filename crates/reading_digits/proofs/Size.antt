@@ -1,36 +1,36 @@
--- The size of a string's value, a byte at a time with a borrow. Assumes nothing.
-use mathlib.Core.Path.{_≡_, refl, sym, _∙_}
+-- The size of a string's value, a byte at a time with a carry. Assumes nothing.
+use mathlib.Core.Path.{_≡_, refl, sym, ap, _∙_}
 use mathlib.Core.Bool.{Bool, true, false, cond}
 use mathlib.Core.List.{List, [], _∷_}
 use Prim.Native.Nat.{ℕ, zero, suc, _+_, _-_, _*_, _/_, _%_, _^_, _<_, _≤_}
-use native.Mathlib.Nat.{pow-suc, add-comm, mul-add, mul-comm, mul-assoc, mul-zero, le-mul-of-pos-right}
+use native.Mathlib.Decide.{decLt}
+use native.Mathlib.Nat.{pow-suc, mul-zero, mul-le-mul-left}
 use native.Mathlib.Numerals.{add-one}
 use native.Mathlib.Omega.{arith}
 use lib.Dec.{eqb}
 use lib.IntN.{ℤ, pos, negsuc, natAbs}
 use lib.ListN.{length, getD, set, take, drop, length-take, replicate}
-use lib.Pow.{ones-split}
 use lib.Seq.{take-set-le, drop-set-lt, getD-set-same}
+use Rattle.rules.specs.Limits.{largestWidth}
 use Rattle.integers.specs.Positional.{positional, bytesValue, Significant}
+use Rattle.integers.specs.Signed.{signOf}
+use Rattle.integers.proofs.Bits.{power-of-bytes}
 use Rattle.integers.proofs.Positional.{Below, below-take, positional-drop, positional-split, positional-lt, positional-zeros}
 use Rattle.signed_digits.proofs.Parts.{positivePart, negativePart}
-use Rattle.signed_digits.specs.Naf.{canonicalWidth}
-use Rattle.digit_strings.specs.Admission.{stringValue, DigitString}
-use Rattle.integers.proofs.Bits.{power-of-bytes}
-use Rattle.integers.specs.Signed.{signOf}
-use Rattle.reading_digits.specs.Sums.{raisedSum, raisedZeros, bySign}
-use Rattle.reading_digits.proofs.Raised.{raised-add, raised-value}
+use Rattle.digit_strings.specs.Admission.{largestDigit, stringValue, DigitString}
+use Rattle.reading_digits.specs.Sums.{raisedSum, raisedZeros, bySign, carryZero}
+use Rattle.reading_digits.proofs.Raised.{zeros-none, zeros-add, raised-none, raised-add, raised-value}
 
 -- the larger of the two sums of m digits, the sign being right, and the smaller
-abbrev more : List ℕ → ℕ → ℕ → ℕ
-more l sign m = bySign sign (raisedSum l 0 m) (raisedZeros m)
+abbrev more : ℕ → List ℕ → ℕ → ℕ → ℕ
+more t l sign m = bySign sign (raisedSum t l 0 m) (raisedZeros t m)
 
-abbrev less : List ℕ → ℕ → ℕ → ℕ
-less l sign m = bySign sign (raisedZeros m) (raisedSum l 0 m)
+abbrev less : ℕ → List ℕ → ℕ → ℕ → ℕ
+less t l sign m = bySign sign (raisedZeros t m) (raisedSum t l 0 m)
 
--- the k low bytes hold the difference of the low m digits' sums, and the others are still 0
-pub record Subtracted (l : List ℕ) (sign : ℕ) (size : List ℕ) (m k borrow : ℕ) : Type 0 where
-  pub value : bytesValue size + less l sign m ≡ more l sign m + 256 ^ k * borrow
+-- the k low bytes and the carry above them hold the difference of the low m digits' sums, and the other bytes are still 0
+pub record Subtracted (t : ℕ) (l : List ℕ) (sign : ℕ) (size : List ℕ) (m k carry : ℕ) : Type 0 where
+  pub value : bytesValue size + 256 ^ k * carry + less t l sign m ≡ more t l sign m + 256 ^ k * carryZero
   pub rest : bytesValue (drop k size) ≡ 0
   pub bytes : Below 256 size
 
@@ -63,40 +63,38 @@ add-by-sign sign p a b x y = go (eqb sign 0)
     go true = refl
     go false = refl
 
-zeros-add : (m c : ℕ) → raisedZeros (m + c) ≡ raisedZeros m + 2 ^ m * raisedZeros c
-unfolding raisedZeros
-zeros-add m c = rw (add-comm m c, ones-split c m, mul-comm (2 ^ c - 1) (2 ^ m)) (omega arith)
-
 -- One byte more, at p = 256 ^ k: v is what the bytes below hold, m and l the larger and the smaller sum below, u and d those of the byte.
-byte-step : (p v l m u d t borrow : ℕ) → t < 512 → v + l ≡ m + p * borrow → t + (d + borrow) ≡ 256 + u
-    → v + p * (t % 256) + (l + p * d) ≡ m + p * u + p * 256 * (1 - t / 256)
-byte-step p v l m u d t borrow h e f =
-    let g : t % 256 + d + borrow ≡ u + 256 * (1 - t / 256) = omega arith in
-    let q : p * (t % 256) + p * d + p * borrow ≡ p * u + p * 256 * (1 - t / 256) =
-    rw (← mul-add p (t % 256) d, ← mul-add p (t % 256 + d) borrow, g, mul-add, mul-assoc) in
-    omega arith
+byte-step : (p v l m u d b carry : ℕ) → v + p * carry + l ≡ m + p * carryZero → b + d ≡ carry + 255 * carryZero + u
+    → v + p * (b % 256) + p * 256 * (b / 256) + (l + p * d) ≡ m + p * u + p * 256 * carryZero
+byte-step p v l m u d b carry e f =
+    let g : b % 256 + 256 * (b / 256) + d ≡ carry + 255 * carryZero + u = omega arith in
+    omega (arith, e, ap (λ (x : ℕ). p * x) g)
 
-pub subtracted-none : (l : List ℕ) (sign n : ℕ) → Subtracted l sign (replicate n 0) 0 0 0
-unfolding raisedSum raisedZeros positional
-subtracted-none l sign n =
+pub subtracted-none : (t : ℕ) (l : List ℕ) (sign n : ℕ) → Subtracted t l sign (replicate n 0) 0 0 carryZero
+unfolding positional bySign
+subtracted-none t l sign n =
     let z : bytesValue (replicate n 0) ≡ 0 = positional-zeros 256 n [] in
-    record { value = rw z (omega arith); rest = z; bytes = below-zeros 256 n (omega arith) }
+    record { value = rw (z, zeros-none t, raised-none t l 0) (go (eqb sign 0)); rest = z; bytes = below-zeros 256 n (omega arith) }
+  where
+    go : (b : Bool) → 0 + 256 ^ 0 * carryZero + cond b 0 0 ≡ cond b 0 0 + 256 ^ 0 * carryZero
+    go true = omega arith
+    go false = omega arith
 
-module _ (l : List ℕ) (sign : ℕ) (size : List ℕ) (k borrow : ℕ) (inv : Subtracted l sign size (8 * k) k borrow) where
-  pub subtracted-step : (c t : ℕ) → 8 * k + c ≤ length l → k < length size → t < 512
-      → t + (bySign sign (raisedZeros c) (raisedSum l (8 * k) c) + borrow) ≡ 256 + bySign sign (raisedSum l (8 * k) c) (raisedZeros c)
-      → Subtracted l sign (set size k (t % 256)) (8 * k + c) (k + 1) (1 - t / 256)
-  subtracted-step c t h fits small e =
+module _ (t : ℕ) (l : List ℕ) (sign : ℕ) (size : List ℕ) (k carry : ℕ) (inv : Subtracted t l sign size (8 * k) k carry) where
+  pub subtracted-step : (c b : ℕ) → 8 * k + c ≤ length l → k < length size
+      → b + bySign sign (raisedZeros t c) (raisedSum t l (8 * k) c) ≡ carry + 255 * carryZero + bySign sign (raisedSum t l (8 * k) c) (raisedZeros t c)
+      → Subtracted t l sign (set size k (b % 256)) (8 * k + c) (k + 1) (b / 256)
+  subtracted-step c b h fits e =
       let p : ℕ = 256 ^ k in
-      let x : ℕ = t % 256 in
-      let sum : raisedSum l 0 (8 * k + c) ≡ raisedSum l 0 (8 * k) + p * raisedSum l (8 * k) c = rw (raised-add l (8 * k) c h, power-of-bytes) in
-      let zeros : raisedZeros (8 * k + c) ≡ raisedZeros (8 * k) + p * raisedZeros c = rw (zeros-add (8 * k) c, power-of-bytes) in
+      let x : ℕ = b % 256 in
+      let sum : raisedSum t l 0 (8 * k + c) ≡ raisedSum t l 0 (8 * k) + p * raisedSum t l (8 * k) c = rw (raised-add t l (8 * k) c h, power-of-bytes) in
+      let zeros : raisedZeros t (8 * k + c) ≡ raisedZeros t (8 * k) + p * raisedZeros t c = rw (zeros-add t (8 * k) c, power-of-bytes) in
       let next : 256 ^ (k + 1) ≡ p * 256 = rw (add-one, pow-suc) in
       let low : getD size k 0 + 256 * bytesValue (drop (suc k) size) ≡ 0 = sym (positional-drop 256 size k) ∙ inv .rest in
       record {
         value =
-            rw (sum, zeros, add-by-sign, add-by-sign, next, store 256 size k x fits (inv .rest))
-            (byte-step p (bytesValue size) (less l sign (8 * k)) (more l sign (8 * k)) (bySign sign (raisedSum l (8 * k) c) (raisedZeros c)) (bySign sign (raisedZeros c) (raisedSum l (8 * k) c)) t borrow small (inv .value) e);
+            rw (sum, zeros, add-by-sign sign p (raisedZeros t (8 * k)), add-by-sign, next, store 256 size k x fits (inv .rest))
+            (byte-step p (bytesValue size) (less t l sign (8 * k)) (more t l sign (8 * k)) (bySign sign (raisedSum t l (8 * k) c) (raisedZeros t c)) (bySign sign (raisedZeros t c) (raisedSum t l (8 * k) c)) b carry (inv .value) e);
         rest = rw (add-one, drop-set-lt (suc k) size k x (omega arith)) (omega arith);
         bytes = below-set 256 size k x (omega arith) (inv .bytes);
       }
@@ -107,15 +105,30 @@ unfolding bySign
 size-by-sign (pos n) sum zeros e = omega arith
 size-by-sign (negsuc n) sum zeros e = omega arith
 
--- with the right sign no borrow is left
-pub subtracted-all : (l : List ℕ) (n : ℕ) → DigitString canonicalWidth l → Significant l n → (size : List ℕ) (k borrow : ℕ)
-    → Subtracted l (signOf (stringValue l)) size n k borrow → bytesValue size ≡ natAbs (stringValue l)
-subtracted-all l n d s size k borrow inv =
-    let low : bytesValue (take k size) < 256 ^ k = positional-lt 256 k (take k size) (omega (arith, length-take k size)) (below-take 256 k size (omega arith) (inv .bytes)) in
-    let bound : bytesValue size < 256 ^ k = rw (positional-split 256 k size, inv .rest, mul-zero) (omega arith) in
-    let difference = size-by-sign (stringValue l) (raisedSum l 0 n) (raisedZeros n) (raised-value l n d s) in
-    no-borrow borrow (omega (arith, inv .value)) bound
-  where
-    no-borrow : (borrow : ℕ) → bytesValue size ≡ natAbs (stringValue l) + 256 ^ k * borrow → bytesValue size < 256 ^ k → bytesValue size ≡ natAbs (stringValue l)
-    no-borrow zero e h = omega (arith, mul-zero (256 ^ k))
-    no-borrow (suc c) e h = absurd (omega (arith, le-mul-of-pos-right {m = suc c} (256 ^ k) (omega arith)))
+module _ (w : ℕ) (most : w ≤ largestWidth) (l : List ℕ) (n : ℕ) (d : DigitString w l) (s : Significant l n) (size : List ℕ) (k carry : ℕ) (inv : Subtracted (largestDigit w) l (signOf (stringValue l)) size n k carry) where
+  abbrev p : ℕ
+  p = 256 ^ k
+
+  whole : bytesValue size + p * carry ≡ natAbs (stringValue l) + p * carryZero
+  whole =
+      let difference = size-by-sign (stringValue l) (raisedSum (largestDigit w) l 0 n) (raisedZeros (largestDigit w) n) (raised-value w most l n d s) in
+      omega (arith, inv .value)
+
+  -- with the right sign the last carry is not below zero
+  pub carry-left : carryZero ≤ carry
+  carry-left =
+      let low : bytesValue (take k size) < p = positional-lt 256 k (take k size) (omega (arith, length-take k size)) (below-take 256 k size (omega arith) (inv .bytes)) in
+      let bound : bytesValue size < p = rw (positional-split 256 k size, inv .rest, mul-zero) (omega arith) in
+      go bound (decLt carry carryZero)
+    where
+      go : bytesValue size < p → Dec (carry < carryZero) → carryZero ≤ carry
+      go b (yes h) =
+          let c : suc carry ≤ carryZero = omega arith in
+          absurd (omega (arith, whole, mul-le-mul-left p c))
+      go b (no h) = omega arith
+
+  -- and is the highest byte
+  pub subtracted-all : k < length size → bytesValue (set size k (carry - carryZero)) ≡ natAbs (stringValue l)
+  subtracted-all fits =
+      let e : carry ≡ carry - carryZero + carryZero = omega (arith, carry-left) in
+      rw (store 256 size k (carry - carryZero) fits (inv .rest)) (omega (arith, whole, ap (λ (x : ℕ). p * x) e))

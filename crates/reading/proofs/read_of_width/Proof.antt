@@ -1,4 +1,4 @@
--- `reading::read_back` meets its contract: at each return the tests that led there say which outcome holds. Assumes nothing.
+-- `reading::read_of_width` meets its contract: at each return the tests that led there say which outcome holds. Assumes nothing.
 use mathlib.Core.Path.{_≡_, sym, _∙_}
 use mathlib.Core.List.{_++_}
 use lib.ListN.{length, getD, take, drop}
@@ -7,20 +7,19 @@ use mir.Val.{Fits}
 use Rattle.rules.specs.declared.Verdict.the-variants.{Passed}
 use Rattle.rules.proofs.Returns.{returns-refused, returns-written}
 use Rattle.integers.specs.Signed.{signOf}
-use Rattle.signed_digits.specs.Naf.{canonicalWidth}
 use Rattle.digit_strings.specs.Admission.{stringVerdict, stringValue, DigitString}
 use Rattle.digit_strings.proofs.Tests.{digit-string-is}
 use Rattle.reading.specs.ReadBack.{sizeBytes, withSign}
 use Rattle.reading.proofs.Outcomes.{size-is}
 use borrow.Author.Needs.{needs}
-use Rattle.reading.proofs.read_back.Statement.{statement}
-use Rattle.reading.proofs.read_back.Tie as tie
+use Rattle.reading.proofs.read_of_width.Statement.{statement}
+use Rattle.reading.proofs.read_of_width.Tie as tie
 
 -- past refusals 5 and 4
-passed : (c : tie.After-enum-told) → stringVerdict canonicalWidth (c .before .before .before .before .before .args .digits .now) ≡ Passed
+passed : (c : tie.After-enum-told) → stringVerdict (c .before .before .before .before .before .args .width) (c .before .before .before .before .before .args .digits .now) ≡ Passed
 passed c = sym (c .before .before .string-verdict .ensures) ∙ c .enum-told .given .1
 
-string : (c : tie.After-enum-told) → DigitString canonicalWidth (c .before .before .before .before .before .args .digits .now)
+string : (c : tie.After-enum-told) → DigitString (c .before .before .before .before .before .args .width) (c .before .before .before .before .before .args .digits .now)
 string c = digit-string-is _ _ .0 (passed c)
 
 -- the bytes of the size
@@ -47,10 +46,10 @@ significant-requires : tie.Need-significant-requires
 significant-requires c κs = search needs
 
 sign-of-requires : tie.Need-sign-of-requires
-sign-of-requires c κs = (string (c .before), c .significant .ensures)
+sign-of-requires c κs = (string (c .before), (c .before .before .before .before .before .before .pre, c .significant .ensures))
 
 size-of-requires : tie.Need-size-of-requires
-size-of-requires c κs = (string (c .before .before), (c .before .significant .ensures, c .sign-of .ensures))
+size-of-requires c κs = (string (c .before .before), (c .before .before .before .before .before .before .before .pre, (c .before .significant .ensures, c .sign-of .ensures)))
 
 slice-aggregate-significant : tie.Need-slice-aggregate-significant
 slice-aggregate-significant c = search needs
@@ -84,8 +83,8 @@ returns-3 c =
     let w : _ ≡ take (n .result) (found .before .before .size-of .result) ++ drop (n .result) (args .out .now) = c .before .before .copy .ensures in
     rw (sign .ensures) (returns-written (withSign (signOf (stringValue (args .digits .now)))) (sizeBytes (args .digits .now)) (args .out .now) (passed told) (sized found .1) (search needs) (rw (sized found .0) at w))
 
-pub read-back-spec : {M : Type 1} → statement M
-read-back-spec =
+pub read-of-width-spec : {M : Type 1} → statement M
+read-of-width-spec =
     tie.close
     (tie.spec
     string-verdict-requires

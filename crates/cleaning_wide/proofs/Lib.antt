@@ -1,1 +1,3 @@
 pub mod Value
+pub mod Promises
+pub mod Demand3

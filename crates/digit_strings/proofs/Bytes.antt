@@ -35,9 +35,13 @@ module _ (w : ℕ) (h : w ≤ largestWidth) where
           let b = back d (omega (arith, o n, bound-fits w h)) in
           (b .1, digit-is w (digitByte d) .1 (b .0, inr (rw (b .1) (o n))))
 
-  string-bytes : (ds : List ℤ) → ((i : ℕ) → Digit (digitAt ds i)) → stringOf (digitBytes ds) ≡ ds
+  -- a string of such digits, in bytes: it comes back, and is a digit string
+  pub string-bytes : (ds : List ℤ) → ((i : ℕ) → Digit (digitAt ds i)) → stringOf (digitBytes ds) ≡ ds
   string-bytes [] digit = refl
   string-bytes (d ∷ ds) digit = rw (digit-byte d (digit 0) .0, string-bytes ds (λ i. digit (suc i)))
+
+  pub digits-bytes : (ds : List ℤ) → ((i : ℕ) → Digit (digitAt ds i)) → length (digitBytes ds) ≤ stringDigits → DigitString w (digitBytes ds)
+  digits-bytes ds digit l = record { within = l; digits = λ i _. rw (List·getD-map digitByte ds i (pos 0)) (digit-byte (digitAt ds i) (digit i) .1) }
 
   -- the non-adjacent form of an integer, in bytes: a digit string, and the integer is its value
   module _ (z : ℤ) (least : 2 ≤ w) where
@@ -45,8 +49,7 @@ module _ (w : ℕ) (h : w ≤ largestWidth) where
     digit = naf-form w z least .digit
 
     pub naf-digits : length (digitBytes (naf w z)) ≤ stringDigits → DigitString w (digitBytes (naf w z))
-    naf-digits l =
-        record { within = l; digits = λ i _. rw (List·getD-map digitByte (naf w z) i (pos 0)) (digit-byte (digitAt (naf w z) i) (digit i) .1) }
+    naf-digits = digits-bytes (naf w z) digit
 
     pub naf-back : stringOf (digitBytes (naf w z)) ≡ naf w z
     naf-back = string-bytes (naf w z) digit

@@ -25,7 +25,7 @@ use Rattle.signed_digits.proofs.Exists.{naf-form, naf-value}
 use Rattle.signed_digits.proofs.Unique.{naf-only}
 use Rattle.signed_digits.proofs.Width.{form-length}
 use Rattle.widths.specs.Width.{AllowedWidth, widthVerdict}
-use Rattle.widths.proofs.Tests.{WidthTest, not-allowed, allowed, width-test, width-only, allowed-is}
+use Rattle.widths.proofs.Tests.{WidthTest, not-allowed, allowed, width-test, allowed-is, not-allowed-is}
 use Rattle.recoding.specs.Recode.{recodingOf, recodeAnswer, recodeBuffer}
 use Rattle.wide_digits.proofs.Padded.{bytes-bits}
 use Rattle.recoding_wide.specs.RecodeWide.{recodeWideVerdict, recodeWideAnswer, recodeWideBuffer}
@@ -78,7 +78,7 @@ module _ (w : ℕ) (number : List ℕ) (room : ℕ) where
   given-only : {o : Outcome} → Given o → outcome ≡ o
   given-only (one h) = only (stopped {r = NumberTooLong} (rw (number-only number (too-long h))))
   given-only (thirteen h p) = only (stopped {r = HighestByteIsZero} (rw (number-only number (padded h p))))
-  given-only (three a n) = only (stopped {r = MethodOrWidth} (rw (admitted-is number .1 a) (width-only w (not-allowed n))))
+  given-only (three a n) = only (stopped {r = MethodOrWidth} (rw (admitted-is number .1 a) (not-allowed-is w .1 n)))
   given-only (six t h e) = rw e (only (no-room (taken-is w number .1 t) h))
   given-only (fits t h e) = rw e (only (all-fits (taken-is w number .1 t) h))
 

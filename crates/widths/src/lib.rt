@@ -1,4 +1,4 @@
-// The test that every wide call makes of its width.
+// The test that a wide call makes of the width that it is given.
 use rules::LARGEST_WIDTH;
 use rules::LEAST_WIDTH;
 use rules::Refusal;
@@ -6,15 +6,12 @@ use rules::Verdict;
 ghost use mathlib.Core.Path.{_≡_};
 ghost use Rattle.widths.specs.Width.{widthVerdict};
 
-// Refusal 3.
+// Refusal 3, for every width outside the limits.
 pub fn width_verdict(width: u32) -> Verdict
     ensures { λ r. ⌜ r ≡ widthVerdict width ⌝ }
 {
-    let w = width as usize;
-    if w < LEAST_WIDTH {
-        return Verdict::Failed(Refusal::MethodOrWidth);
-    }
-    if LARGEST_WIDTH < w {
+    let width = width as usize;
+    if (width < LEAST_WIDTH) | (LARGEST_WIDTH < width) {
         return Verdict::Failed(Refusal::MethodOrWidth);
     }
     Verdict::Passed

@@ -9,7 +9,7 @@ use Rattle.integers.specs.Positional.{bytesValue}
 use Rattle.digit_strings.specs.Admission.{stringVerdict, DigitString}
 use Rattle.digit_strings.proofs.Tests.{digit-string-is}
 use Rattle.digit_strings.proofs.Sizes.{string-bits}
-use Rattle.widths.specs.Width.{AllowedWidth, widthVerdict, wideVerdict}
+use Rattle.widths.specs.Width.{AllowedWidth, widthVerdict}
 use Rattle.widths.proofs.Tests.{allowed-is}
 use Rattle.wide_digits.proofs.Padded.{zeros-blank}
 use Rattle.cleaning_wide.proofs.Value.{cleaned}
@@ -38,7 +38,6 @@ enum-known-refusal : tie.Need-enum-known-refusal
 enum-known-refusal c = search needs
 
 returns : tie.Need-returns
-unfolding wideVerdict
 returns c = let e = sym (c .before .before .before .width-verdict .ensures) ∙ c .before .refusal .given .1 in (rw e, rw e)
 
 enum-told : tie.Need-enum-told
@@ -51,7 +50,6 @@ enum-known-refusal-2 : tie.Need-enum-known-refusal-2
 enum-known-refusal-2 c = search needs
 
 returns-2 : tie.Need-returns-2
-unfolding wideVerdict
 returns-2 c =
     let n = width-passed (c .before .before .before .before) in
     let e = sym (c .before .before .before .string-verdict .ensures) ∙ c .before .refusal2 .given .1 in
@@ -102,7 +100,6 @@ same-length : tie.Need-same-length
 same-length c = search needs
 
 returns-3 : tie.Need-returns-3
-unfolding wideVerdict
 returns-3 c =
     let told : tie.After-enum-told2 = search in
     let sign : tie.After-sign-of = search in

@@ -1,3 +1,2 @@
 -- What the private functions of method 4 share.
 pub mod Digits
-pub mod Tally

@@ -1,7 +1,6 @@
 // Method 4, NAF: its steps counted, and written.
-mod words;
-
 use integers::words_of;
+use naf_tally::tally_of;
 use plan_writing::Cursor;
 use recoding_words_digits::write_raised;
 use rules::Counts;
@@ -48,7 +47,7 @@ pub fn counts(number: &[u8]) -> Counts
     requires { ⌜ Positive (now number) ⌝ }
     ensures { λ r. ⌜ r ≡ countsOf (nafSteps (bytesValue (now (number .entry)))) ⌝ }
 {
-    let digits = words::tally_of(number);
+    let digits = tally_of(number);
     Counts {
         doublings: digits.length - 2,
         additions: digits.plus - 1,

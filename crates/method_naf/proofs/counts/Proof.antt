@@ -10,7 +10,7 @@ use Rattle.signed_digits.specs.Naf.{canonical}
 use Rattle.signed_digits.proofs.Left.{some-digits}
 use Rattle.recoding_digits.proofs.Triple.{digit-count}
 use Rattle.methods.proofs.NonAdjacentForm.{top-digit, naf-counts}
-use Rattle.method_naf.proofs.Tally.{plus-digits, minus-digits, some-plus}
+use Rattle.method_naf.proofs.Signs.{plus-digits, minus-digits, some-plus}
 use borrow.Author.Needs.{needs}
 use Rattle.method_naf.proofs.counts.Statement.{statement}
 use Rattle.method_naf.proofs.counts.Tie as tie

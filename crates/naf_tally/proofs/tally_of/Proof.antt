@@ -1,4 +1,4 @@
--- `method_naf::words::tally_of` meets its contract: the words below k are in the tally. Assumes nothing.
+-- `naf_tally::tally_of` meets its contract: the words below k are in the tally. Assumes nothing.
 use mathlib.Core.Path.{_≡_, _∙_}
 use mathlib.Core.List.{List}
 use Prim.Native.Nat.{ℕ, _+_, _*_, _-_, _^_, _≤_}
@@ -13,11 +13,11 @@ use Rattle.integers.specs.Positional.{bytesValue, wordsValue}
 use Rattle.integers.proofs.Powers.{power-of-power}
 use Rattle.integers.proofs.Positional.{Below, positional-drop, positional-lt, positional-div}
 use Rattle.numbers.proofs.Tests.{admitted-value}
-use Rattle.method_naf.specs.Tally.{Within, Tallied}
-use Rattle.method_naf.proofs.Tally.{nothing-tallied, all-tallied}
+use Rattle.naf_tally.specs.Tally.{Within, Tallied}
+use Rattle.naf_tally.proofs.Tallied.{nothing-tallied, all-tallied}
 use borrow.Author.Needs.{needs}
-use Rattle.method_naf.proofs.words.tally_of.Statement.{statement}
-use Rattle.method_naf.proofs.words.tally_of.Tie as tie
+use Rattle.naf_tally.proofs.tally_of.Statement.{statement}
+use Rattle.naf_tally.proofs.tally_of.Tie as tie
 
 -- the words from k on are zero where the bytes end below them
 none-above : (words number : List ℕ) (k : ℕ) → Below (2 ^ 64) words → Below 256 number → wordsValue words ≡ bytesValue number → length number ≤ 8 * k → wordsValue (drop k words) ≡ 0

@@ -4,8 +4,8 @@ use Prim.Native.Nat.{ℕ, zero, suc, _+_, _-_, _*_, _≤_}
 use lib.Bits.{bitAnd}
 use lib.Count.{ones}
 use Rattle.integers.specs.Bits.{bitLength}
-use Rattle.method_naf.specs.declared.words.Tally.{Tally}
-use Rattle.method_naf.specs.declared.words.Top.{Top}
+use Rattle.naf_tally.specs.declared.Tally.{Tally}
+use Rattle.naf_tally.specs.declared.Top.{Top}
 
 -- how many places hold 1 in a and 0 in b
 unfoldable pub onlyIn : ℕ → ℕ → ℕ

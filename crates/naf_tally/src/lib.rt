@@ -8,7 +8,7 @@ ghost use Rattle.rules.specs.Limits.{numberBytes};
 ghost use Rattle.integers.specs.Bits.{bitLength};
 ghost use Rattle.integers.specs.Positional.{bytesValue};
 ghost use Rattle.numbers.specs.Admission.{Admitted};
-ghost use Rattle.method_naf.specs.Tally.{onlyIn, lengthTo, lengthAbove, Within, Tallied};
+ghost use Rattle.naf_tally.specs.Tally.{onlyIn, lengthTo, lengthAbove, Within, Tallied};
 
 const HALF: u64 = 0x1_0000_0000;
 

@@ -1,11 +1,11 @@
--- `method_naf::words::Tally::with_word` meets its contract. Assumes nothing.
+-- `naf_tally::Tally::with_word` meets its contract. Assumes nothing.
 use mathlib.Core.Path.{refl}
 use Prim.Native.Nat.{_^_, _<_}
 use native.Mathlib.Omega.{arith}
-use Rattle.method_naf.proofs.Tally.{next-carry, next-small, tallied-word}
+use Rattle.naf_tally.proofs.Tallied.{next-carry, next-small, tallied-word}
 use borrow.Author.Needs.{needs}
-use Rattle.method_naf.proofs.words.Tally.with_word.Statement.{statement}
-use Rattle.method_naf.proofs.words.Tally.with_word.Tie as tie
+use Rattle.naf_tally.proofs.Tally.with_word.Statement.{statement}
+use Rattle.naf_tally.proofs.Tally.with_word.Tie as tie
 
 tripled-requires : tie.Need-tripled-requires
 tripled-requires c κs = search needs

@@ -1,11 +1,11 @@
--- `method_naf::words::Top::with_word` meets its contract. Assumes nothing.
+-- `naf_tally::Top::with_word` meets its contract. Assumes nothing.
 use mathlib.Core.Path.{sym}
 use native.Mathlib.Omega.{arith}
-use Rattle.method_naf.specs.Tally.{lengthTo}
-use Rattle.method_naf.proofs.Tally.{length-none, length-some}
+use Rattle.naf_tally.specs.Tally.{lengthTo}
+use Rattle.naf_tally.proofs.Tallied.{length-none, length-some}
 use borrow.Author.Needs.{needs}
-use Rattle.method_naf.proofs.words.Top.with_word.Statement.{statement}
-use Rattle.method_naf.proofs.words.Top.with_word.Tie as tie
+use Rattle.naf_tally.proofs.Top.with_word.Statement.{statement}
+use Rattle.naf_tally.proofs.Top.with_word.Tie as tie
 
 returns : tie.Need-returns
 returns c =

@@ -1,12 +1,12 @@
--- `method_naf::words::only_in` meets its contract. Assumes nothing.
+-- `naf_tally::only_in` meets its contract. Assumes nothing.
 use mathlib.Core.Path.{refl}
 use Prim.Native.Nat.{ℕ, _-_, _^_, _<_, _≤_}
 use native.Mathlib.Omega.{arith}
 use lib.Bits.{bitAnd, and-le-l}
 use lib.Count.{ones, ones-le}
-use Rattle.method_naf.specs.Tally.{onlyIn}
-use Rattle.method_naf.proofs.words.only_in.Statement.{statement}
-use Rattle.method_naf.proofs.words.only_in.Tie as tie
+use Rattle.naf_tally.specs.Tally.{onlyIn}
+use Rattle.naf_tally.proofs.only_in.Statement.{statement}
+use Rattle.naf_tally.proofs.only_in.Tie as tie
 
 sub-result : tie.Need-sub-result
 sub-result c = and-le-l (c .args .a) (c .args .b)

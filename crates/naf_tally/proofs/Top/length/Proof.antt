@@ -1,10 +1,10 @@
--- `method_naf::words::Top::length` meets its contract. Assumes nothing.
+-- `naf_tally::Top::length` meets its contract. Assumes nothing.
 use native.Mathlib.Omega.{arith}
 use lib.Count.{leading-le}
-use Rattle.method_naf.proofs.Tally.{length-by-zeros}
+use Rattle.naf_tally.proofs.Tallied.{length-by-zeros}
 use borrow.Author.Needs.{needs}
-use Rattle.method_naf.proofs.words.Top.length.Statement.{statement}
-use Rattle.method_naf.proofs.words.Top.length.Tie as tie
+use Rattle.naf_tally.proofs.Top.length.Statement.{statement}
+use Rattle.naf_tally.proofs.Top.length.Tie as tie
 
 cast-result : tie.Need-cast-result
 cast-result c = omega (arith, leading-le 64 (c .before .args .self .word))

@@ -23,7 +23,8 @@ use Rattle.methods.proofs.Laws.{Fit, plannable}
 use Rattle.methods.proofs.Every.{is-allowed, every-fit, every-unhidden, every-largest}
 use Rattle.planning.specs.Plan.{forecastAnswer, planAnswer}
 use Rattle.planning.proofs.Promises.{forecast-answers, plan-answers}
-use Rattle.checking.specs.Check.{checkAnswer, roomFor}
+use Rattle.check_admission.specs.Admission.{roomFor}
+use Rattle.checking.specs.Check.{checkAnswer}
 use Rattle.checking.proofs.Promises.{accepts}
 
 module _ (number : List ℕ) (bytes : Below 256 number) (positive : Positive number) (method width : ℕ) (m : Method) (asked : methodOf method width ≡ Chosen.Method m) where

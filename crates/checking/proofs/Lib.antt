@@ -1,4 +1,3 @@
-pub mod Admission
 pub mod Judge
 pub mod Promises
 mod Tally

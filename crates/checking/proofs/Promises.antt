@@ -25,8 +25,9 @@ use Rattle.chains.specs.Largest.{largestBits}
 use Rattle.chains.proofs.Largest.{bits-none, bits-all, bits-few, bits-least, bits-end, bits-below}
 use Rattle.records.specs.Recording.{recorded}
 use Rattle.step_values.proofs.Tested.{Tested, malformed, value-is-zero, value-too-large}
-use Rattle.checking.specs.Check.{roomFor, admission, Judged, judge, judged, stepsVerdict, checkAnswer, checkSpace, endVerdict}
-use Rattle.checking.proofs.Admission.{Checkable, Admits, number-refused, plan-length, space-too-short, checkable, admits, admits-only}
+use Rattle.check_admission.specs.Admission.{roomFor, admission}
+use Rattle.check_admission.proofs.Admission.{Checkable, Admits, number-refused, plan-length, space-too-short, checkable, admits, admits-only}
+use Rattle.checking.specs.Check.{Judged, judge, judged, stepsVerdict, checkAnswer, checkSpace, endVerdict}
 use Rattle.checking.proofs.Judge.{SoundTo, Judges, sound, stops, judges, judges-only}
 
 -- step i is the first that is not sound: the steps before it are, and this is wrong with it

@@ -26,7 +26,8 @@ use Rattle.step_values.specs.Verdicts.{stepVerdict, grown, StepChecked}
 use Rattle.records.specs.Recording.{Recording}
 use Rattle.work_space.specs.Bits.{IsGrown}
 use Rattle.work_space.specs.End.{EndsAt}
-use Rattle.checking.specs.Check.{admission, judge, judged, stepsVerdict, checkAnswer, checkSpace}
+use Rattle.check_admission.specs.Admission.{admission}
+use Rattle.checking.specs.Check.{judge, judged, stepsVerdict, checkAnswer, checkSpace}
 use Rattle.checking.proofs.Judge.{step-formed, judge-next, judge-stop, judge-end}
 
 -- n steps are behind: judging goes on from there, and the values by then are recorded

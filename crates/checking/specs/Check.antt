@@ -1,43 +1,25 @@
 -- Check (docs/RULES.md, "Calls"): a plan for a number, with a lent work space. Refusals in the order 1, 13, 2, 7, 8, then the steps from the first, each
 -- tested for 9 before 10 or 11, then 12.
-use Prim.Native.Nat.{ℕ, _+_, _*_, _/_, _%_}
-use mathlib.Core.Bool.{Bool, not, _||_, cond}
+use Prim.Native.Nat.{ℕ}
+use mathlib.Core.Bool.{cond}
 use mathlib.Core.List.{List, [], _∷_, _++_}
-use lib.Dec.{ltb, eqb}
 use lib.IntN.{ℤ, pos}
 use lib.ListN.{length}
-use Rattle.rules.specs.Limits.{stepBytes, planSteps, recordBytes}
 use Rattle.rules.specs.Outcome.{andThen, unlessFailed}
-use Rattle.rules.specs.declared.Refusal.the-variants.{PlanLength, WorkSpaceTooShort, WrongEnd}
+use Rattle.rules.specs.declared.Refusal.the-variants.{WrongEnd}
 use Rattle.rules.specs.declared.Checked.{Checked}
 use Rattle.rules.specs.declared.Checked.the-variants.{Accepted, Refused}
 use Rattle.rules.specs.declared.Verdict.{Verdict}
 use Rattle.rules.specs.declared.Verdict.the-variants.{Passed, Failed}
 use Rattle.integers.specs.Positional.{bytesValue}
 use Rattle.integers.specs.Signed.{isSame}
-use Rattle.numbers.specs.Admission.{positiveVerdict}
+use Rattle.check_admission.specs.Admission.{admission}
 use Rattle.chains.specs.Steps.{Step, stepsOf}
 use Rattle.chains.specs.Values.{at, start, stepValue}
 use Rattle.chains.specs.Counts.{countsOf}
 use Rattle.chains.specs.Largest.{largestBits}
 use Rattle.step_values.specs.Verdicts.{stepVerdict}
 use Rattle.records.specs.Recording.{recorded}
-
--- ---- before the steps: 1, 13, 2, 7, 8
-
--- the room that the records of a plan of this many bytes take: record 0 and one for each step
-abbrev pub roomFor : ℕ → ℕ
-roomFor planLength = recordBytes * (planLength / stepBytes + 1)
-
--- the plan's bytes are no whole number of steps, or too many
-abbrev pub isWrongLength : ℕ → Bool
-isWrongLength planLength = not (eqb (planLength % stepBytes) 0) || ltb (stepBytes * planSteps) planLength
-
-unfoldable pub admission : List ℕ → ℕ → ℕ → Verdict
-admission number planLength room =
-    andThen (positiveVerdict number)
-    (cond (isWrongLength planLength) (Failed PlanLength)
-    (cond (ltb room (roomFor planLength)) (Failed WorkSpaceTooShort) Passed))
 
 -- ---- all steps: the first refusal, or none; with the values recorded by then
 pub record Judged : Type 0 where

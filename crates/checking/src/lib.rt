@@ -1,9 +1,7 @@
 // Checking a plan for a number.
-use numbers::positive_verdict;
+use check_admission::admit;
 use rules::Checked;
 use rules::Counts;
-use rules::PLAN_STEPS;
-use rules::RECORD_BYTES;
 use rules::Refusal;
 use rules::STEP_BYTES;
 use rules::Verdict;
@@ -14,26 +12,7 @@ use work_space::ends_at;
 use work_space::grown_bits;
 ghost use mathlib.Core.Path.{_≡_};
 ghost use lib.ListN.{length};
-ghost use Rattle.checking.specs.Check.{admission, checkAnswer, checkSpace};
-
-// The most bytes of a plan.
-const PLAN_BYTES: usize = STEP_BYTES * PLAN_STEPS;
-
-// The tests before the steps: refusals 1, 13, 2, 7 and 8.
-fn admit(number: &[u8], plan_length: usize, room: usize) -> Verdict
-    ensures { λ r. ⌜ r ≡ admission (now (number .entry)) «plan_length» room ⌝ }
-{
-    if let Verdict::Failed(refusal) = positive_verdict(number) {
-        return Verdict::Failed(refusal);
-    }
-    if (plan_length % STEP_BYTES != 0) | (PLAN_BYTES < plan_length) {
-        return Verdict::Failed(Refusal::PlanLength);
-    }
-    if room < RECORD_BYTES * (plan_length / STEP_BYTES) + RECORD_BYTES {
-        return Verdict::Failed(Refusal::WorkSpaceTooShort);
-    }
-    Verdict::Passed
-}
+ghost use Rattle.checking.specs.Check.{checkAnswer, checkSpace};
 
 // Checks a plan for a number, in a lent work space.
 pub fn check(number: &[u8], plan: &[u8], space: &mut [u8]) -> Checked

@@ -16,8 +16,8 @@ use Rattle.chains.specs.Values.{start}
 use Rattle.chains.proofs.Largest.{bitsAfter, bits-start}
 use Rattle.step_reading.specs.Fields.{asStep}
 use Rattle.records.specs.Recording.{Recording}
-use Rattle.checking.specs.Check.{roomFor, admission}
-use Rattle.checking.proofs.Admission.{Checkable, checkable-is}
+use Rattle.check_admission.specs.Admission.{roomFor, admission}
+use Rattle.check_admission.proofs.Admission.{Checkable, checkable-is}
 use Rattle.checking.proofs.Underway.{Underway, Done, done-answer, done-space, underway-none, underway-next, underway-stop, underway-counted, underway-end, underway-few, underway-bits, underway-largest}
 use Rattle.checking.proofs.Tally.{Holding, countsTo, holding-none, holding-few, holding-more, holding-all}
 use borrow.Author.Needs.{needs}

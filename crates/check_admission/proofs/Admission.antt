@@ -15,7 +15,7 @@ use Rattle.rules.specs.declared.Verdict.{Verdict}
 use Rattle.rules.specs.declared.Verdict.the-variants.{Passed, Failed}
 use Rattle.numbers.specs.Admission.{positiveVerdict, Positive}
 use Rattle.numbers.proofs.Tests.{PositiveTest, positive, positive-only, positive-test}
-use Rattle.checking.specs.Check.{roomFor, isWrongLength, admission}
+use Rattle.check_admission.specs.Admission.{roomFor, isWrongLength, admission}
 
 -- none of 1, 13, 2, 7 and 8
 pub record Checkable (number : List ℕ) (planLength room : ℕ) : Type 0 where

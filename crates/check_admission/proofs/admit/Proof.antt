@@ -1,4 +1,4 @@
--- `checking::admit` meets its contract. Assumes nothing.
+-- `check_admission::admit` meets its contract. Assumes nothing.
 use mathlib.Core.Path.{_≡_, sym, _∙_}
 use mathlib.Core.Bool.{true, false, not, _||_}
 use Prim.Native.Nat.{_*_, _%_, _≤_}
@@ -8,11 +8,11 @@ use lib.Dec.{ltb, eqb}
 use Rattle.rules.specs.Limits.{stepBytes, planSteps}
 use Rattle.rules.specs.declared.Verdict.the-variants.{Passed}
 use Rattle.numbers.specs.Admission.{positiveVerdict}
-use Rattle.checking.specs.Check.{roomFor, isWrongLength, admission}
-use Rattle.checking.proofs.Admission.{few-steps}
+use Rattle.check_admission.specs.Admission.{roomFor, isWrongLength, admission}
+use Rattle.check_admission.proofs.Admission.{few-steps}
 use borrow.Author.Needs.{needs}
-use Rattle.checking.proofs.admit.Statement.{statement}
-use Rattle.checking.proofs.admit.Tie as tie
+use Rattle.check_admission.proofs.admit.Statement.{statement}
+use Rattle.check_admission.proofs.admit.Tie as tie
 
 positive-verdict-requires : tie.Need-positive-verdict-requires
 positive-verdict-requires c κs = search needs

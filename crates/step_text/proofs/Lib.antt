@@ -1,5 +1,2 @@
-mod Positions
-mod Names
-mod Outcomes
 mod Written
 pub mod Promises

@@ -15,7 +15,8 @@ use Rattle.chains.specs.Steps.{Step, stepBytesOf, planBytesOf}
 use Rattle.chains.proofs.Bytes.{length-plan}
 use Rattle.text_words.specs.Words.{ended, textWords}
 use Rattle.text_words.proofs.Words.{next-is-first}
-use Rattle.step_text.specs.Steps.{wordStep, textSteps, countTest}
+use Rattle.step_words.specs.Word.{wordStep}
+use Rattle.step_text.specs.Steps.{textSteps, countTest}
 
 -- a step for each word
 pub length-steps : (text : List ℕ) → length (textSteps text) ≡ stepBytes * length (textWords text)

@@ -1,4 +1,4 @@
--- `step_text::position_before` meets its contract: the digits passed, and their number. Assumes nothing.
+-- `step_words::position_before` meets its contract: the digits passed, and their number. Assumes nothing.
 use mathlib.Core.Path.{_≡_, refl}
 use Prim.Native.Nat.{_≤_, _<_, _+_, _-_}
 use native.Mathlib.Omega.{arith}
@@ -6,11 +6,11 @@ use native.Mathlib.Nat.{zero-add}
 use lib.ListN.{length, take, drop}
 use Rattle.decimal.specs.Decimal.{leading, decimalValue}
 use Rattle.decimal.proofs.Digits.{digit-passed, below-digits, above-digits, all-passed}
-use Rattle.step_text.specs.Steps.{positionLimit}
-use Rattle.step_text.proofs.Positions.{value-more, position-ends, ends-otherwise, ends-nowhere, too-large}
+use Rattle.step_words.specs.Word.{positionLimit}
+use Rattle.step_words.proofs.Positions.{value-more, position-ends, ends-otherwise, ends-nowhere, too-large}
 use borrow.Author.Needs.{needs}
-use Rattle.step_text.proofs.position_before.Statement.{statement}
-use Rattle.step_text.proofs.position_before.Tie as tie
+use Rattle.step_words.proofs.position_before.Statement.{statement}
+use Rattle.step_words.proofs.position_before.Tie as tie
 
 abbrev Inv-loop : tie.InvT-loop
 Inv-loop text end value₀ i₀ value i = (i ≤ length text) × (leading text ≡ i + leading (drop i text)) × (value ≡ decimalValue (take i text)) × (value < positionLimit)

@@ -10,7 +10,7 @@ use lib.Dec.{eqb, ltb}
 use lib.ListN.{length, getD, take, List·getD-eq-default}
 use Rattle.decimal.specs.Decimal.{leading, decimalValue}
 use Rattle.decimal.proofs.Digits.{digit-more, part-more, leading-within}
-use Rattle.step_text.specs.Steps.{positionLimit, positionDigits}
+use Rattle.step_words.specs.Word.{positionLimit, positionDigits}
 
 -- one digit more
 pub value-more : (text : List ℕ) (i : ℕ) → i < length text → decimalValue (take (i + 1) text) ≡ decimalValue (take i text) * 10 + (getD text i 0 - 48)

@@ -1,12 +1,12 @@
--- `step_text::begins_with` meets its contract: what is left of both decides. Assumes nothing.
+-- `step_words::begins_with` meets its contract: what is left of both decides. Assumes nothing.
 use mathlib.Core.Path.{_≡_, sym, _∙_}
 use Prim.Native.Nat.{_≤_, _-_}
 use lib.ListN.{length, drop}
-use Rattle.step_text.specs.Steps.{begins}
-use Rattle.step_text.proofs.Names.{byte-passed, byte-differs, name-passed, begins-short}
+use Rattle.step_words.specs.Word.{begins}
+use Rattle.step_words.proofs.Names.{byte-passed, byte-differs, name-passed, begins-short}
 use borrow.Author.Needs.{needs}
-use Rattle.step_text.proofs.begins_with.Statement.{statement}
-use Rattle.step_text.proofs.begins_with.Tie as tie
+use Rattle.step_words.proofs.begins_with.Statement.{statement}
+use Rattle.step_words.proofs.begins_with.Tie as tie
 
 abbrev Inv-loop : tie.InvT-loop
 Inv-loop word name i₀ i = (length name ≤ length word) × (i ≤ length name) × (begins name word ≡ begins (drop i name) (drop i word))

@@ -9,7 +9,7 @@ use borrow.Author.Tests.{eq-eqb, ne-eqb, eqb-true}
 use lib.Dec.{eqb}
 use lib.ListN.{length, getD, drop, drop-of-length-le}
 use lib.Seq.{drop-cons}
-use Rattle.step_text.specs.Steps.{begins}
+use Rattle.step_words.specs.Word.{begins}
 
 module _ (name word : List ℕ) (i : ℕ) where
   pub byte-passed : i < length name → i < length word → getD name i 0 ≡ getD word i 0 → begins (drop i name) (drop i word) ≡ begins (drop (i + 1) name) (drop (i + 1) word)

@@ -1,12 +1,12 @@
--- `step_text::step_in` meets its contract: each answer goes by the tests that led to it. Assumes nothing.
+-- `step_words::step_in` meets its contract: each answer goes by the tests that led to it. Assumes nothing.
 use mathlib.Core.Path.{_∙_}
 use Prim.Native.Nat.{_+_}
 use native.Mathlib.Omega.{arith}
-use Rattle.step_text.proofs.Positions.{position-within}
-use Rattle.step_text.proofs.Outcomes.{all-behind, no-first, no-second, not-closed, is-step}
+use Rattle.step_words.proofs.Positions.{position-within}
+use Rattle.step_words.proofs.Outcomes.{all-behind, no-first, no-second, not-closed, is-step}
 use borrow.Author.Needs.{needs}
-use Rattle.step_text.proofs.step_in.Statement.{statement}
-use Rattle.step_text.proofs.step_in.Tie as tie
+use Rattle.step_words.proofs.step_in.Statement.{statement}
+use Rattle.step_words.proofs.step_in.Tie as tie
 
 position-before-requires : tie.Need-position-before-requires
 position-before-requires c κs = search needs

@@ -8,7 +8,7 @@ use lib.ListN.{length, take, drop, length-drop}
 use lib.Seq.{take-all}
 use Rattle.chains.specs.Steps.{Step}
 use Rattle.decimal.specs.Decimal.{decimalValue}
-use Rattle.step_text.specs.Steps.{noStep, positionDigits, stepBehind, stepIn}
+use Rattle.step_words.specs.Word.{noStep, positionDigits, stepBehind, stepIn}
 
 -- a part of a text up to its end
 pub all-behind : (n : ℕ) (text : List ℕ) → take (length text - n) (drop n text) ≡ drop n text

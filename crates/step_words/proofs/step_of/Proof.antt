@@ -1,13 +1,13 @@
--- `step_text::step_of` meets its contract: each name leads to its operation. Assumes nothing.
+-- `step_words::step_of` meets its contract: each name leads to its operation. Assumes nothing.
 use mathlib.Core.Path.{_≡_, sym, ap, _∙_}
 use mathlib.Core.Bool.{true, false}
 use native.Mathlib.Omega.{arith}
-use Rattle.step_text.specs.Steps.{stepIn, begins, addName, subtractName, wordStep}
-use Rattle.step_text.proofs.Names.{begins-long}
-use Rattle.step_text.proofs.Outcomes.{all-behind}
+use Rattle.step_words.specs.Word.{stepIn, begins, addName, subtractName, wordStep}
+use Rattle.step_words.proofs.Names.{begins-long}
+use Rattle.step_words.proofs.Outcomes.{all-behind}
 use borrow.Author.Needs.{needs}
-use Rattle.step_text.proofs.step_of.Statement.{statement}
-use Rattle.step_text.proofs.step_of.Tie as tie
+use Rattle.step_words.proofs.step_of.Statement.{statement}
+use Rattle.step_words.proofs.step_of.Tie as tie
 
 slice-aggregate-begins-with : tie.Need-slice-aggregate-begins-with
 slice-aggregate-begins-with c = search needs

@@ -1,0 +1,4 @@
+mod Positions
+mod Names
+mod Outcomes
+pub mod Promises

@@ -97,7 +97,7 @@
  *    1  LESMUTKA_NUMBER_TOO_LONG             number longer than LESMUTKA_NUMBER_BYTES  0
  *    2  LESMUTKA_NUMBER_IS_ZERO              number is zero (plan, forecast, check)    0
  *    3  LESMUTKA_METHOD_OR_WIDTH             no such method, or width not allowed      0
- *    4  LESMUTKA_NOT_A_DIGIT                 a digit byte other than 00, 01, FF        lowest such
+ *    4  LESMUTKA_NOT_A_DIGIT                 a byte of the digit string is no digit    lowest such
  *    5  LESMUTKA_STRING_TOO_LONG             digit string longer than                  0
  *                                            LESMUTKA_STRING_DIGITS
  *    6  LESMUTKA_ROOM_TOO_SMALL              output needs more bytes than lent         bytes needed
@@ -482,7 +482,7 @@ static inline const char *lesmutka_words(size_t refusal) {
         "the number is too long",
         "the number is zero",
         "no such method, or a width that it does not allow",
-        "the digit at this place is none of 0, 1, -1",
+        "the byte at this place is no digit",
         "the digit string is too long",
         "the output needs this many bytes",
         "the plan is no whole number of steps, or has too many",

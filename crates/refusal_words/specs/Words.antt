@@ -19,7 +19,7 @@ texts =
     ∷ᴸ "the number is too long"
     ∷ᴸ "the number is zero"
     ∷ᴸ "no such method, or a width that it does not allow"
-    ∷ᴸ "the digit at this place is none of 0, 1, -1"
+    ∷ᴸ "the byte at this place is no digit"
     ∷ᴸ "the digit string is too long"
     ∷ᴸ "the output needs this many bytes"
     ∷ᴸ "the plan is no whole number of steps, or has too many"

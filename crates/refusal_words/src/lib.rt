@@ -7,11 +7,11 @@ ghost use Rattle.rules.specs.Memory.{fitted, leaves};
 ghost use Rattle.refusal_words.specs.Words.{wordsAnswer, wordsBuffer};
 
 // What the refusals say, from 0, which is none, to 13, one text behind another.
-const TEXTS: [u8; 525] = *b"not refused\
+const TEXTS: [u8; 516] = *b"not refused\
     the number is too long\
     the number is zero\
     no such method, or a width that it does not allow\
-    the digit at this place is none of 0, 1, -1\
+    the byte at this place is no digit\
     the digit string is too long\
     the output needs this many bytes\
     the plan is no whole number of steps, or has too many\
@@ -29,16 +29,16 @@ const STARTS: [usize; 15] = [
     33,
     51,
     100,
-    143,
-    171,
-    203,
-    256,
-    296,
-    371,
-    401,
-    436,
-    487,
-    525,
+    134,
+    162,
+    194,
+    247,
+    287,
+    362,
+    392,
+    427,
+    478,
+    516,
 ];
 
 // Puts a text at the start of a buffer that has room for all of it.

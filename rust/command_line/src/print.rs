@@ -133,6 +133,7 @@ pub fn put_refusal(refused: &Refused, number: Option<&[u8]>, choice: Option<Choi
 pub fn reason(refused: &Refused, number: Option<&[u8]>, choice: Option<Choice>) -> String {
     let allowed = match refused.refusal {
         Refusal::NumberTooLong => Some(format!("a number has at most {} bytes", lesmutka::NUMBER_BYTES)),
+        Refusal::NotADigit { .. } => Some("the digits are 0, 1 and -1".to_string()),
         Refusal::StringTooLong => Some(format!("at most {} digits", lesmutka::STRING_DIGITS)),
         Refusal::PlanLength => Some(format!(
             "a step has {} bytes, and a plan at most {} steps",

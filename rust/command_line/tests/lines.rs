@@ -210,7 +210,7 @@ fn comments_blank_lines_and_line_ends() {
     assert_eq!(
         out,
         "3: 0x03: digits: 1 0 -1\n6: 0x01: digits: 1\n\
-         7: refused 4, place 0: the digit at this place is none of 0, 1, -1; it is `1#1`\n\
+         7: refused 4, place 0: the byte at this place is no digit; the digits are 0, 1 and -1; it is `1#1`\n\
          8: malformed: no such request (recode, clean, read-back, forecast, plan, check, show, methods, batch): \
          `\\u{feff}recode`\n\
          9: 0x01: digits: 1\n"

@@ -11,7 +11,7 @@ pub enum Refusal {
     NumberIsZero,
     /// 3: no such method, or a width that it does not allow.
     MethodOrWidth,
-    /// 4: a digit other than 0, 1 and -1.
+    /// 4: a byte of the digit string is no digit.
     NotADigit {
         /// The lowest such place.
         place: usize,
@@ -97,7 +97,7 @@ impl Refusal {
             Refusal::NumberTooLong => "the number is too long",
             Refusal::NumberIsZero => "the number is zero",
             Refusal::MethodOrWidth => "no such method, or a width that it does not allow",
-            Refusal::NotADigit { .. } => "the digit at this place is none of 0, 1, -1",
+            Refusal::NotADigit { .. } => "the byte at this place is no digit",
             Refusal::StringTooLong => "the digit string is too long",
             Refusal::RoomTooSmall { .. } => "the output needs this many bytes",
             Refusal::PlanLength => "the plan is no whole number of steps, or has too many",

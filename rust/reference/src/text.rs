@@ -130,7 +130,7 @@ const WORDS: [&str; 14] = [
     "the number is too long",
     "the number is zero",
     "no such method, or a width that it does not allow",
-    "the digit at this place is none of 0, 1, -1",
+    "the byte at this place is no digit",
     "the digit string is too long",
     "the output needs this many bytes",
     "the plan is no whole number of steps, or has too many",

@@ -264,15 +264,18 @@ fn refused_word(refusal: Refusal, method: Option<u32>, word: Option<&str>) -> St
         (3, Some(3)) => format!("sliding takes a width from 1 to {}", WINDOW_WIDTHS.end()),
         (3, Some(4)) => "naf takes no width".to_string(),
         (3, _) => "the methods are binary (1), fixed (2), sliding (3), naf (4)".to_string(),
+        (4, _) => "the digits are 0, 1 and -1".to_string(),
         (5, _) => format!("at most {} digits", STRING_DIGITS),
         (7, _) => format!(
             "a step has {} bytes, and a plan at most {} steps",
             STEP_BYTES, PLAN_STEPS
         ),
         (11, _) => format!("a size is below 2^{}", VALUE_BITS),
-        _ => return word.map_or(said.clone(), |word| format!("{}; it is `{}`", said, word)),
+        _ => String::new(),
     };
-    format!("{}; {}", said, hint)
+    let word = word.map_or(String::new(), |word| format!("it is `{}`", word));
+    let parts = [said, hint, word].into_iter().filter(|part| !part.is_empty());
+    parts.collect::<Vec<String>>().join("; ")
 }
 
 /// A refusal of digits, which names the word at its place.

@@ -13,6 +13,7 @@ mod number;
 mod plan;
 pub mod refusal;
 pub mod text;
+mod wide;
 mod words;
 
 pub use check::check;
@@ -20,6 +21,7 @@ pub use digits::read_back;
 pub use naf::{clean, recode, Recoder};
 pub use plan::{forecast, plan};
 pub use refusal::Refusal;
+pub use wide::{clean_wide, read_back_wide, recode_wide};
 
 /// How many steps of each kind a plan has.
 ///

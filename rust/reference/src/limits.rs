@@ -16,14 +16,22 @@ pub const STEP_BYTES: usize = 5;
 pub const VALUE_BYTES: usize = RECORD_BYTES - 1;
 /// "Width is 0 for methods 1 and 4, and 1 to 6 for methods 2 and 3."
 pub const WINDOW_WIDTHS: RangeInclusive<u32> = 1..=6;
+/// T-01: "the width-w NAF for w from 2 to 8".
+pub const NAF_WIDTHS: RangeInclusive<u32> = 2..=8;
 
 pub const NUMBER_BITS: usize = 8 * NUMBER_BYTES;
 
-/// Room for every answer of `recode`, `clean`, `read_back` and `plan`.
+/// Room for every answer of `recode` and `recode_wide`, and of `clean`, `read_back` and `plan`.
 pub const RECODE_ROOM: usize = NUMBER_BITS + 1;
 pub const CLEAN_ROOM: usize = STRING_DIGITS + 1;
 pub const READ_BACK_ROOM: usize = (STRING_DIGITS + 7) / 8;
 pub const PLAN_ROOM: usize = STEP_BYTES * PLAN_STEPS;
+
+/// The bits of the largest size of a wide digit string's value: each digit has a size below 2^(w-1).
+pub(crate) const WIDE_BITS: usize = STRING_DIGITS + *NAF_WIDTHS.end() as usize - 1;
+/// Room for every answer of `clean_wide` and `read_back_wide`.
+pub const CLEAN_WIDE_ROOM: usize = WIDE_BITS + 1;
+pub const READ_BACK_WIDE_ROOM: usize = (WIDE_BITS + 7) / 8;
 
 /// The work space that the check of a plan of this many steps takes.
 pub const fn work_space(steps: usize) -> usize {
@@ -36,5 +44,7 @@ pub(crate) const NUMBER_WORDS: usize = (NUMBER_BITS + 63) / 64;
 /// more, of which the top one stays 0.
 pub(crate) const RECODE_WORDS: usize = (NUMBER_BITS + 2) / 64 + 1;
 pub(crate) const CLEAN_WORDS: usize = (STRING_DIGITS + 2) / 64 + 1;
+/// Words for the size of a wide digit string's value, and for a digit that is taken off it: one bit more.
+pub(crate) const WIDE_WORDS: usize = (WIDE_BITS + 1) / 64 + 1;
 /// Words for the size of a sum of two values: one bit more.
 pub(crate) const VALUE_WORDS: usize = VALUE_BITS / 64 + 1;

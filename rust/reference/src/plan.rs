@@ -1,9 +1,10 @@
-//! Planning by the four methods, and the forecast of a plan's counts.
+//! Planning by the five methods, and the forecast of a plan's counts.
 
-use crate::limits::{RECODE_WORDS, STEP_BYTES, WINDOW_WIDTHS};
+use crate::limits::{NAF_WIDTHS, RECODE_WORDS, STEP_BYTES, WINDOW_WIDTHS};
 use crate::naf::Naf;
 use crate::number::Number;
 use crate::refusal::METHOD_OR_WIDTH;
+use crate::wide::WideNaf;
 use crate::{output, Counts, Refusal};
 
 pub(crate) const ADD: u8 = 0x00;
@@ -15,6 +16,7 @@ enum Method {
     FixedWindows(usize),
     SlidingWindows(usize),
     Naf,
+    WideNaf(u32),
 }
 
 impl Method {
@@ -25,6 +27,7 @@ impl Method {
             2 if WINDOW_WIDTHS.contains(&width) => Ok(Method::FixedWindows(width as usize)),
             3 if WINDOW_WIDTHS.contains(&width) => Ok(Method::SlidingWindows(width as usize)),
             4 if width == 0 => Ok(Method::Naf),
+            5 if NAF_WIDTHS.contains(&width) => Ok(Method::WideNaf(width)),
             _ => Err(Refusal::new(METHOD_OR_WIDTH, 0)),
         }
     }
@@ -43,6 +46,7 @@ pub fn plan(number: &[u8], method: u32, width: u32, out: &mut [u8]) -> Result<Co
         Method::FixedWindows(width) => fixed_windows(&number, width, &mut chain),
         Method::SlidingWindows(width) => sliding_windows(&number, width, &mut chain),
         Method::Naf => non_adjacent_form(&number, &mut chain),
+        Method::WideNaf(width) => wide_non_adjacent_form(&number, width, &mut chain),
     }
     debug_assert_eq!(chain.filled, counts.total());
     Ok(counts)
@@ -102,6 +106,7 @@ fn count(number: &Number, method: Method) -> Counts {
         Method::FixedWindows(width) => count_fixed_windows(number, width),
         Method::SlidingWindows(width) => count_sliding_windows(number, width),
         Method::Naf => count_non_adjacent_form(number),
+        Method::WideNaf(width) => count_wide_non_adjacent_form(number, width),
     }
 }
 
@@ -177,7 +182,7 @@ fn count_fixed_windows(number: &Number, width: usize) -> Counts {
     counts
 }
 
-// Method 3.
+// Method 3, and the table of odd multiples, which method 5 has too.
 
 /// Position in the table of an odd value.
 fn odd_position(value: usize) -> usize {
@@ -192,7 +197,7 @@ fn is_in_odd_table(number: &Number, width: usize) -> bool {
     number.bit_length() <= width && number.bit(0)
 }
 
-fn sliding_table_steps(number: &Number, width: usize) -> usize {
+fn odd_table_steps(number: &Number, width: usize) -> usize {
     if is_in_odd_table(number, width) {
         odd_position(number.window(0, width))
     } else if width == 1 {
@@ -231,14 +236,18 @@ fn next_window(number: &Number, below: usize, width: usize) -> Option<Window> {
     None
 }
 
-fn sliding_windows(number: &Number, width: usize, chain: &mut Chain) {
-    // Positions 1, 2, 3, ... hold 2, 3, 5, 7, 9, ...
-    for i in 1..=sliding_table_steps(number, width) {
+/// Positions 1, 2, 3, ... hold 2, 3, 5, 7, 9, ...
+fn odd_table(number: &Number, width: usize, chain: &mut Chain) {
+    for i in 1..=odd_table_steps(number, width) {
         match i {
             1 | 2 => chain.add(0),
             _ => chain.add(1),
         }
     }
+}
+
+fn sliding_windows(number: &Number, width: usize, chain: &mut Chain) {
+    odd_table(number, width, chain);
     if is_in_odd_table(number, width) {
         return;
     }
@@ -261,7 +270,7 @@ fn sliding_windows(number: &Number, width: usize, chain: &mut Chain) {
 }
 
 fn count_sliding_windows(number: &Number, width: usize) -> Counts {
-    let mut counts = count_table(sliding_table_steps(number, width));
+    let mut counts = count_table(odd_table_steps(number, width));
     if is_in_odd_table(number, width) {
         return counts;
     }
@@ -301,4 +310,42 @@ fn count_non_adjacent_form(number: &Number) -> Counts {
         additions: naf.count_ones() - 1,
         subtractions: naf.count_minus_ones(),
     }
+}
+
+// Method 5. Its table is method 3's for one bit less.
+
+fn wide_non_adjacent_form(number: &Number, width: u32, chain: &mut Chain) {
+    let table_width = width as usize - 1;
+    odd_table(number, table_width, chain);
+    if is_in_odd_table(number, table_width) {
+        return;
+    }
+    let naf = WideNaf::of(&number.widened::<RECODE_WORDS>(), width);
+    let position = |digit: i8| odd_position(usize::from(digit.unsigned_abs()));
+    if let [below @ .., top] = naf.digits() {
+        chain.latest = position(*top);
+        for &digit in below.iter().rev() {
+            chain.double();
+            match digit {
+                0 => {}
+                _ if digit > 0 => chain.add(position(digit)),
+                _ => chain.subtract(position(digit)),
+            }
+        }
+    }
+}
+
+fn count_wide_non_adjacent_form(number: &Number, width: u32) -> Counts {
+    let table_width = width as usize - 1;
+    let mut counts = count_table(odd_table_steps(number, table_width));
+    if is_in_odd_table(number, table_width) {
+        return counts;
+    }
+    let naf = WideNaf::of(&number.widened::<RECODE_WORDS>(), width);
+    if let [below @ .., _] = naf.digits() {
+        counts.doublings += below.len();
+        counts.additions += below.iter().filter(|&&digit| digit > 0).count();
+        counts.subtractions += below.iter().filter(|&&digit| digit < 0).count();
+    }
+    counts
 }

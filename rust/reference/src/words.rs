@@ -46,6 +46,18 @@ pub(crate) fn subtract<const N: usize>(a: &[u64; N], b: &[u64; N]) -> [u64; N] {
     difference
 }
 
+/// `a + small * 2^place`; the caller makes sure that the sum fits.
+pub(crate) fn add_at<const N: usize>(a: &mut [u64; N], small: u8, place: usize) {
+    let mut carry = u128::from(small) << (place % 64);
+    let mut i = place / 64;
+    while carry != 0 {
+        carry += u128::from(a[i]);
+        a[i] = carry as u64;
+        carry >>= 64;
+        i += 1;
+    }
+}
+
 /// `3 * a`; the caller makes sure that the product fits.
 pub(crate) fn triple<const N: usize>(a: &[u64; N]) -> [u64; N] {
     let mut product = [0; N];

@@ -28,6 +28,30 @@ fn cleaned(digits: &[u8]) -> Vec<u8> {
     out[..length].to_vec()
 }
 
+fn recoded_wide(number: &[u8], width: u32) -> Vec<u8> {
+    let mut out = [7; RECODE_ROOM + 40];
+    let length = recode_wide(number, width, &mut out).unwrap();
+    assert!(out[length..].iter().all(|&byte| byte == 7));
+    out[..length].to_vec()
+}
+
+fn cleaned_wide(digits: &[u8], width: u32) -> Vec<u8> {
+    let mut out = [7; CLEAN_WIDE_ROOM + 40];
+    let length = clean_wide(digits, width, &mut out).unwrap();
+    assert!(out[length..].iter().all(|&byte| byte == 7));
+    out[..length].to_vec()
+}
+
+/// The value of a wide digit string of few digits.
+fn value_wide(digits: &[u8], width: u32) -> i64 {
+    let mut out = [0; 8];
+    let (sign, _) = read_back_wide(digits, width, &mut out).unwrap();
+    match sign {
+        0 => i64::from_le_bytes(out),
+        _ => -i64::from_le_bytes(out),
+    }
+}
+
 fn planned(number: &[u8], method: u32, width: u32) -> Vec<u8> {
     let mut out = [7; PLAN_ROOM + 40];
     let counts = plan(number, method, width, &mut out).unwrap();
@@ -102,6 +126,157 @@ fn recoding() {
 fn bosma_example() {
     let digits = bytes(&[1, 0, -1, 0, 0, 1, 0, 0, 0, -1, 0, -1, 0]);
     assert_eq!(recoded(&3190u16.to_le_bytes()), digits);
+}
+
+/// The numbers that are recoded by hand, for all widths; from width 7 on 43 is a digit.
+#[test]
+fn wide_recoding() {
+    let table: [(u32, u8, &[i8]); 16] = [
+        (3, 3, &[3]),
+        (3, 7, &[1, 0, 0, -1]),
+        (3, 25, &[3, 0, 0, 1]),
+        (3, 27, &[3, 0, 0, 3]),
+        (3, 43, &[1, 0, 0, -3, 0, 0, 3]),
+        (4, 7, &[7]),
+        (4, 15, &[1, 0, 0, 0, -1]),
+        (4, 25, &[1, 0, 0, 0, 0, -7]),
+        (4, 43, &[3, 0, 0, 0, -5]),
+        (5, 15, &[15]),
+        (5, 43, &[1, 0, 0, 0, 0, 11]),
+        (6, 43, &[1, 0, 0, 0, 0, 0, -21]),
+        (7, 43, &[43]),
+        (8, 43, &[43]),
+        (8, 127, &[127]),
+        (8, 129, &[1, 0, 0, 0, 0, 0, 0, 0, -127]),
+    ];
+    for (width, number, digits) in table {
+        assert_eq!(recoded_wide(&[number], width), bytes(digits), "{} {}", number, width);
+        assert_eq!(cleaned_wide(&bytes(digits), width), bytes(digits));
+        assert_eq!(value_wide(&bytes(digits), width), i64::from(number));
+    }
+    for width in NAF_WIDTHS {
+        assert_eq!(recoded_wide(&[], width), Vec::<u8>::new());
+        assert_eq!(recoded_wide(&[1], width), [1]);
+        assert_eq!(recoded_wide(&[2], width), [0, 1]);
+    }
+    for number in 0..=255 {
+        let number = &[number][usize::from(number == 0)..];
+        assert_eq!(recoded_wide(number, 2), recoded(number));
+    }
+}
+
+/// The example of Hankerson, Menezes and Vanstone, "Guide to Elliptic Curve Cryptography": the width-w NAFs
+/// of 1122334455 for w from 2 to 6.
+#[test]
+fn textbook_example() {
+    const NUMBER: u32 = 1_122_334_455;
+    let table: [(u32, &[i8]); 5] = [
+        (
+            2,
+            &[
+                1, 0, 0, 0, 1, 0, -1, 0, 0, -1, 0, 1, 0, -1, 0, -1, 0, 0, 0, -1, 0, 0, -1, 0, 0, 0, 0, -1, 0, 0, -1,
+            ],
+        ),
+        (
+            3,
+            &[
+                1, 0, 0, 0, 0, 0, 3, 0, 0, -1, 0, 0, 1, 0, 0, 3, 0, 0, 0, -1, 0, 0, -1, 0, 0, 0, 0, -1, 0, 0, -1,
+            ],
+        ),
+        (
+            4,
+            &[
+                1, 0, 0, 0, 0, 1, 0, 0, 0, 7, 0, 0, 0, 0, 5, 0, 0, 0, 7, 0, 0, 0, 7, 0, 0, 0, -1, 0, 0, 0, 7,
+            ],
+        ),
+        (
+            5,
+            &[
+                1, 0, 0, 0, 0, -15, 0, 0, 0, 0, -9, 0, 0, 0, 0, 0, 11, 0, 0, 0, 0, 0, 0, -9, 0, 0, 0, 0, 0, 0, 0, -9,
+            ],
+        ),
+        (
+            6,
+            &[
+                1, 0, 0, 0, 0, 0, 0, 0, 0, 23, 0, 0, 0, 0, 0, 11, 0, 0, 0, 0, 0, 0, -9, 0, 0, 0, 0, 0, 0, 0, -9,
+            ],
+        ),
+    ];
+    for (width, digits) in table {
+        assert_eq!(
+            recoded_wide(&NUMBER.to_le_bytes(), width),
+            bytes(digits),
+            "width {}",
+            width
+        );
+        // By plain integers: the value, and how far apart the nonzero digits are.
+        let value = digits.iter().fold(0, |value, &digit| 2 * value + i64::from(digit));
+        assert_eq!(value, i64::from(NUMBER));
+        let places: Vec<usize> = (0..digits.len()).filter(|&place| digits[place] != 0).collect();
+        assert!(places.windows(2).all(|pair| pair[1] - pair[0] >= width as usize));
+        let is_digit = |digit: i8| digit == 0 || (digit % 2 != 0 && digit.unsigned_abs() < 1 << (width - 1));
+        assert!(digits[0] != 0 && digits.iter().all(|&digit| is_digit(digit)));
+        assert_eq!(value_wide(&bytes(digits), width), i64::from(NUMBER));
+    }
+}
+
+/// Of all bytes, 0 and the odd ones of size below 2^(w-1) are digits of width w; 80 is of no width.
+#[test]
+fn which_bytes_are_wide_digits() {
+    for width in NAF_WIDTHS {
+        let mut digits = 0;
+        for byte in 0..=255u8 {
+            let size = i32::from(byte as i8).abs();
+            let is_digit = size == 0 || (size % 2 == 1 && size < 1 << (width - 1));
+            digits += usize::from(is_digit);
+            // Below it, and above it, digits.
+            let string = [1, 0, byte, 0, 0xFF, byte];
+            let expected = match is_digit {
+                true => None,
+                false => Some(refusal(NOT_A_DIGIT, 2)),
+            };
+            let mut out = [7; 20];
+            assert_eq!(
+                clean_wide(&string, width, &mut out).err(),
+                expected,
+                "{} {}",
+                byte,
+                width
+            );
+            assert_eq!(
+                read_back_wide(&string, width, &mut out).err(),
+                expected,
+                "{} {}",
+                byte,
+                width
+            );
+            assert_eq!(out == [7; 20], !is_digit);
+        }
+        assert_eq!(digits, 1 + (1 << (width - 1)));
+    }
+}
+
+#[test]
+fn wide_cleaning() {
+    // The sign is not that of the top digit: 2 - 3.
+    assert_eq!(value_wide(&bytes(&[1, -3]), 3), -1);
+    assert_eq!(cleaned_wide(&bytes(&[1, -3]), 3), bytes(&[-1]));
+    assert_eq!(value_wide(&bytes(&[-1, 3]), 3), 1);
+    assert_eq!(cleaned_wide(&bytes(&[-1, 3]), 3), bytes(&[1]));
+    assert_eq!(value_wide(&bytes(&[1, 0, 0, -127]), 8), -119);
+    // In strings shorter than the width, too.
+    assert_eq!(cleaned_wide(&bytes(&[1, 1]), 3), bytes(&[3]));
+    assert_eq!(cleaned_wide(&bytes(&[1, 1]), 2), bytes(&[1, 0, -1]));
+    assert_eq!(cleaned_wide(&bytes(&[3, 3]), 3), bytes(&[1, 0, 0, 1]));
+    assert_eq!(cleaned_wide(&bytes(&[-3, -3]), 3), bytes(&[-1, 0, 0, -1]));
+    assert_eq!(cleaned_wide(&bytes(&[1, 1, 1]), 8), bytes(&[7]));
+    assert_eq!(cleaned_wide(&bytes(&[0, 0, 5]), 4), bytes(&[5]));
+    for width in NAF_WIDTHS {
+        assert_eq!(cleaned_wide(&[], width), Vec::<u8>::new());
+        assert_eq!(cleaned_wide(&[0; STRING_DIGITS], width), Vec::<u8>::new());
+        assert_eq!(read_back_wide(&[], width, &mut []), Ok((0, 0)));
+        assert_eq!(read_back_wide(&[0; STRING_DIGITS], width, &mut []), Ok((0, 0)));
+    }
 }
 
 #[test]
@@ -226,6 +401,102 @@ fn longest_digit_string() {
     assert_eq!(read_back(&[0xFF; STRING_DIGITS], &mut out), Ok((1, READ_BACK_ROOM)));
     assert_eq!(out[..READ_BACK_ROOM], [0xFF; READ_BACK_ROOM]);
     assert!(out[READ_BACK_ROOM..].iter().all(|&byte| byte == 7));
+}
+
+/// For each width: the largest digits, which are longest once cleaned if a 1 stands below as many of them as
+/// the width; what is written is then longer than a string may be.
+#[test]
+fn longest_wide_strings() {
+    let too_long = refusal(STRING_TOO_LONG, 0);
+    for width in NAF_WIDTHS {
+        let w = width as usize;
+        let largest = (1u8 << (w - 1)) - 1;
+        // With width 2 a digit is no larger than 1, so that there is one bit less.
+        let bits = STRING_DIGITS + w - 1 - usize::from(w == 2);
+        // 2^(w-1) - 1 at each place: that, 2^STRING_DIGITS times, less that.
+        let digits = cleaned_wide(&vec![largest; STRING_DIGITS], width);
+        assert_eq!(digits.len(), STRING_DIGITS + 1);
+        assert_eq!((digits[0], digits[STRING_DIGITS]), (largest.wrapping_neg(), largest));
+        assert!(digits[1..STRING_DIGITS].iter().all(|&digit| digit == 0));
+        let mut size = [7; READ_BACK_WIDE_ROOM + 1];
+        let minus = vec![largest.wrapping_neg(); STRING_DIGITS];
+        let length = (bits + 7) / 8;
+        assert_eq!(read_back_wide(&minus, width, &mut size), Ok((1, length)));
+        assert_eq!((size[0], size[length]), (largest.wrapping_neg(), 7));
+        assert_eq!(
+            read_back_wide(&minus, width, &mut size[..length - 1]),
+            Err(refusal(ROOM_TOO_SMALL, length))
+        );
+
+        // 7 7 7 7 1, which is 1 0 0 0 -3 0 0 0 3, and the like.
+        let mut string = vec![0; STRING_DIGITS];
+        string[STRING_DIGITS - w - 1] = 1;
+        string[STRING_DIGITS - w..].fill(largest);
+        let longest = cleaned_wide(&string, width);
+        assert_eq!(longest.len(), bits + 1);
+        assert_eq!(longest.last(), Some(&1));
+        let mut out = vec![7; longest.len() - 1];
+        let small = refusal(ROOM_TOO_SMALL, longest.len());
+        assert_eq!(clean_wide(&string, width, &mut out), Err(small));
+        assert!(out.iter().all(|&byte| byte == 7));
+
+        for string in [longest, digits, vec![0; STRING_DIGITS + 1], vec![2; STRING_DIGITS + 1]] {
+            assert_eq!(clean_wide(&string, width, &mut out), Err(too_long));
+            assert_eq!(read_back_wide(&string, width, &mut out), Err(too_long));
+        }
+        assert!(out.iter().all(|&byte| byte == 7));
+    }
+    assert_eq!(CLEAN_WIDE_ROOM, STRING_DIGITS + 8);
+    assert_eq!(READ_BACK_WIDE_ROOM, STRING_DIGITS / 8 + 1);
+}
+
+/// All ones have one digit more than they have bits, by every width.
+#[test]
+fn longest_number_wide() {
+    for width in NAF_WIDTHS {
+        let digits = recoded_wide(&[0xFF; NUMBER_BYTES], width);
+        assert_eq!((digits.len(), digits[0], digits[NUMBER_BITS]), (RECODE_ROOM, 0xFF, 1));
+        let mut out = [7; NUMBER_BITS];
+        let small = refusal(ROOM_TOO_SMALL, RECODE_ROOM);
+        assert_eq!(recode_wide(&[0xFF; NUMBER_BYTES], width, &mut out), Err(small));
+        assert_eq!(out, [7; NUMBER_BITS]);
+    }
+}
+
+/// Recode: 1, 13, 3, 6. Clean and read back: 3, 5, 4, 6. Each is given beside all that come later.
+#[test]
+fn wide_refusals() {
+    let (long, padded) = (refusal(NUMBER_TOO_LONG, 0), refusal(HIGHEST_BYTE_IS_ZERO, 0));
+    let no_width = refusal(METHOD_OR_WIDTH, 0);
+    let widths = [0, 1, 2, 8, 9, 10, 256, 257, 258, 1 << 31, u32::MAX];
+    for width in widths {
+        let is_width = NAF_WIDTHS.contains(&width);
+        for number in [[0; NUMBER_BYTES + 1], [0xFF; NUMBER_BYTES + 1]] {
+            assert_eq!(recode_wide(&number, width, &mut []), Err(long));
+        }
+        for number in [&[0][..], &[43, 0], &[0; NUMBER_BYTES]] {
+            assert_eq!(recode_wide(number, width, &mut []), Err(padded));
+        }
+        // The empty number, and an empty string, need no room.
+        let expected = if is_width { Ok(0) } else { Err(no_width) };
+        assert_eq!(recode_wide(&[], width, &mut []), expected);
+        assert_eq!(clean_wide(&[], width, &mut []), expected);
+        assert_eq!(read_back_wide(&[], width, &mut []).map(|(_, length)| length), expected);
+
+        let expected = if is_width { refusal(ROOM_TOO_SMALL, 1) } else { no_width };
+        assert_eq!(recode_wide(&[1], width, &mut []), Err(expected));
+        assert_eq!(clean_wide(&[1], width, &mut []), Err(expected));
+        assert_eq!(read_back_wide(&[1], width, &mut []), Err(expected));
+        let expected = match is_width {
+            true => refusal(STRING_TOO_LONG, 0),
+            false => no_width,
+        };
+        assert_eq!(clean_wide(&[2; STRING_DIGITS + 1], width, &mut []), Err(expected));
+        assert_eq!(read_back_wide(&[2; STRING_DIGITS + 1], width, &mut []), Err(expected));
+        let expected = if is_width { refusal(NOT_A_DIGIT, 1) } else { no_width };
+        assert_eq!(clean_wide(&[1, 2, 2], width, &mut []), Err(expected));
+        assert_eq!(read_back_wide(&[1, 2, 2], width, &mut []), Err(expected));
+    }
 }
 
 #[test]
@@ -492,13 +763,63 @@ fn window_tables() {
     assert_eq!(planned(&[largest], 3, widest).len(), STEP_BYTES * (1 << (widest - 1)));
 }
 
+/// The table of method 5 is method 3's for one bit less, cut at the number if that is odd and in it.
+#[test]
+fn plans_by_wide_naf() {
+    let (add, subtract) = (|j, k| step(0, j, k), |j, k| step(1, j, k));
+    for width in NAF_WIDTHS {
+        assert_eq!(planned(&[1], 5, width), Vec::<u8>::new());
+        // Odd and below 2^(w-1): nothing but the table, as method 3 has it.
+        for number in (1..1u8 << (width - 1)).step_by(2) {
+            let steps = planned(&[number], 5, width);
+            let position = if number == 1 { 0 } else { (usize::from(number) + 1) / 2 };
+            assert_eq!(steps.len(), STEP_BYTES * position, "{} by width {}", number, width);
+            if WINDOW_WIDTHS.contains(&(width - 1)) {
+                assert_eq!(steps, planned(&[number], 3, width - 1));
+            }
+        }
+        // Even and below 2^(w-1): the whole table, then the doublings.
+        for number in (2..1u8 << (width - 1)).step_by(2) {
+            let table = if width == 2 { 0 } else { 1 << (width - 2) };
+            let doublings = number.trailing_zeros() as usize;
+            let steps = planned(&[number], 5, width);
+            assert_eq!(
+                steps.len(),
+                STEP_BYTES * (table + doublings),
+                "{} by width {}",
+                number,
+                width
+            );
+            let reached = values(&[number], &steps);
+            assert_eq!(reached[table], (1 << (width - 1)) - 1);
+        }
+    }
+    assert_eq!(planned(&[2], 5, 3), [add(0, 0), add(1, 0), add(0, 0)].concat());
+    let table = [add(0, 0), add(1, 0), add(2, 1), add(3, 1)].concat();
+    assert_eq!(planned(&[6], 5, 4), [&table[..], &add(2, 2)].concat());
+    // 3 0 0 0 -5.
+    let scan = [add(2, 2), add(5, 5), add(6, 6), add(7, 7), subtract(8, 3)].concat();
+    assert_eq!(planned(&[43], 5, 4), [table, scan].concat());
+    assert_eq!(values(&[43], &planned(&[43], 5, 4)), [1, 2, 3, 5, 7, 6, 12, 24, 48, 43]);
+    // 1 0 0 -3 0 0 3.
+    assert_eq!(
+        values(&[43], &planned(&[43], 5, 3)),
+        [1, 2, 3, 2, 4, 8, 5, 10, 20, 40, 43]
+    );
+    // With width 2 it is method 4.
+    for number in 1..=255 {
+        assert_eq!(planned(&[number], 5, 2), planned(&[number], 4, 0));
+    }
+}
+
 #[test]
 fn methods_and_widths() {
-    for method in [0, 1, 2, 3, 4, 5, 257, u32::MAX] {
-        for width in (0..=WINDOW_WIDTHS.end() + 1).chain([256, 257, u32::MAX]) {
+    for method in [0, 1, 2, 3, 4, 5, 6, 257, 261, u32::MAX] {
+        for width in (0..=NAF_WIDTHS.end() + 2).chain([256, 257, 258, u32::MAX]) {
             let allowed = match method {
                 1 | 4 => width == 0,
                 2 | 3 => WINDOW_WIDTHS.contains(&width),
+                5 => NAF_WIDTHS.contains(&width),
                 _ => false,
             };
             assert_eq!(forecast(&[5], method, width).is_ok(), allowed);

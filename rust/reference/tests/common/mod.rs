@@ -92,14 +92,11 @@ impl Big {
         self.plus(&other.negated())
     }
 
-    /// The remainder modulo 4, from 0 to 3.
-    fn modulo_four(&self) -> u8 {
-        let low = self.size.first().unwrap_or(&0) % 4;
-        if self.negative {
-            (4 - low) % 4
-        } else {
-            low
-        }
+    /// The remainder modulo 2^width, which is at most 256, and never below zero.
+    fn modulo(&self, width: u32) -> i32 {
+        let low = i32::from(*self.size.first().unwrap_or(&0));
+        let sign = if self.negative { -1 } else { 1 };
+        (sign * low).rem_euclid(1 << width)
     }
 
     /// Half of an even value.
@@ -136,13 +133,42 @@ impl Big {
         let mut rest = self.clone();
         let mut digits = Vec::new();
         while !rest.is_zero() {
-            let digit = match rest.modulo_four() {
+            let digit = match rest.modulo(2) {
                 1 => 1,
                 3 => -1,
                 _ => 0,
             };
             rest = rest.minus(&Big::small(digit)).half();
             digits.push(digit as u8);
+        }
+        digits
+    }
+
+    /// The width-w NAF, lowest digit first: the rest is even, or an odd digit leaves a multiple of 2^w,
+    /// and then w - 1 zeros follow at once.
+    pub fn naf(&self, width: u32) -> Vec<u8> {
+        let mut rest = self.clone();
+        let mut digits = Vec::new();
+        while !rest.is_zero() {
+            if rest.modulo(1) == 0 {
+                digits.push(0);
+                rest = rest.half();
+                continue;
+            }
+            // Of the two odd numbers that leave such a multiple, the one nearer to zero.
+            let residue = rest.modulo(width);
+            let digit = [residue, residue - (1 << width)]
+                .into_iter()
+                .min_by_key(|digit| digit.abs())
+                .unwrap() as i8;
+            rest = rest.minus(&Big::small(digit));
+            digits.push(digit as u8);
+            for place in 0..width {
+                rest = rest.half();
+                if place > 0 && !rest.is_zero() {
+                    digits.push(0);
+                }
+            }
         }
         digits
     }
@@ -185,6 +211,34 @@ fn read_digits(digits: &[u8]) -> Result<Big, Refusal> {
     Ok(value_of(digits))
 }
 
+/// The digits of a width: every odd number between -2^(w-1) and 2^(w-1), and 0.
+fn digits_of(width: u32) -> Vec<u8> {
+    let half = 1i32 << (width - 1);
+    let odd = (1 - half..half).filter(|digit| *digit % 2 != 0);
+    odd.chain([0]).map(|digit| digit as i8 as u8).collect()
+}
+
+fn read_width(width: u32) -> Result<(), Refusal> {
+    match width {
+        2..=8 => Ok(()),
+        _ => Err(refusal(METHOD_OR_WIDTH, 0)),
+    }
+}
+
+fn read_wide_digits(digits: &[u8], width: u32) -> Result<Big, Refusal> {
+    read_width(width)?;
+    if digits.len() > STRING_DIGITS {
+        return Err(refusal(STRING_TOO_LONG, 0));
+    }
+    let allowed = digits_of(width);
+    for (place, digit) in digits.iter().enumerate() {
+        if !allowed.contains(digit) {
+            return Err(refusal(NOT_A_DIGIT, place));
+        }
+    }
+    Ok(value_of(digits))
+}
+
 fn put(answer: &[u8], out: &mut [u8]) -> Result<(), Refusal> {
     if answer.len() > out.len() {
         return Err(refusal(ROOM_TOO_SMALL, answer.len()));
@@ -211,7 +265,48 @@ pub fn read_back(digits: &[u8], out: &mut [u8]) -> Result<(u8, usize), Refusal> 
     Ok((u8::from(value.negative), value.size.len()))
 }
 
+pub fn recode_wide(number: &[u8], width: u32, out: &mut [u8]) -> Result<usize, Refusal> {
+    let number = read_number(number)?;
+    read_width(width)?;
+    let digits = number.naf(width);
+    put(&digits, out)?;
+    Ok(digits.len())
+}
+
+pub fn clean_wide(digits: &[u8], width: u32, out: &mut [u8]) -> Result<usize, Refusal> {
+    let digits = read_wide_digits(digits, width)?.naf(width);
+    put(&digits, out)?;
+    Ok(digits.len())
+}
+
+pub fn read_back_wide(digits: &[u8], width: u32, out: &mut [u8]) -> Result<(u8, usize), Refusal> {
+    let value = read_wide_digits(digits, width)?;
+    put(&value.size, out)?;
+    Ok((u8::from(value.negative), value.size.len()))
+}
+
 type Step = (u8, usize, usize);
+
+/// Where an odd value stands in the table of method 3.
+fn position(v: usize) -> usize {
+    match v {
+        1 => 0,
+        _ => (v + 1) / 2,
+    }
+}
+
+/// The table of method 3 for width d.
+fn odd_table(d: usize) -> Vec<Step> {
+    let mut table = Vec::new();
+    if d >= 2 {
+        table.push((0, 0, 0));
+        table.push((0, 1, 0));
+        for i in 3..=1 << (d - 1) {
+            table.push((0, i - 1, 1));
+        }
+    }
+    table
+}
 
 fn bits_value(bits: &[bool]) -> usize {
     bits.iter().rev().fold(0, |value, &bit| 2 * value + usize::from(bit))
@@ -222,6 +317,7 @@ fn steps_of(e: &Big, method: u32, width: u32) -> Result<Vec<Step>, Refusal> {
     let allowed = match method {
         1 | 4 => width == 0,
         2 | 3 => WINDOW_WIDTHS.contains(&width),
+        5 => read_width(width).is_ok(),
         _ => false,
     };
     if !allowed {
@@ -266,15 +362,7 @@ fn steps_of(e: &Big, method: u32, width: u32) -> Result<Vec<Step>, Refusal> {
             }
         }
         3 => {
-            let position = |v: usize| if v == 1 { 0 } else { (v + 1) / 2 };
-            let mut table: Vec<Step> = Vec::new();
-            if d >= 2 {
-                table.push((0, 0, 0));
-                table.push((0, 1, 0));
-                for i in 3..=1 << (d - 1) {
-                    table.push((0, i - 1, 1));
-                }
-            }
+            let mut table = odd_table(d);
             if bits[0] && bits.len() <= d {
                 table.truncate(position(bits_value(&bits)));
                 return Ok(table);
@@ -311,13 +399,36 @@ fn steps_of(e: &Big, method: u32, width: u32) -> Result<Vec<Step>, Refusal> {
                 at += length;
             }
         }
-        _ => {
+        4 => {
             for &digit in e.canonical().iter().rev().skip(1) {
                 steps.push((0, steps.len(), steps.len()));
                 match digit {
                     1 => steps.push((0, steps.len(), 0)),
                     255 => steps.push((1, steps.len(), 0)),
                     _ => {}
+                }
+            }
+        }
+        _ => {
+            steps = odd_table(d - 1);
+            if bits[0] && bits.len() < d {
+                steps.truncate(position(bits_value(&bits)));
+                return Ok(steps);
+            }
+            let mut latest = None;
+            for digit in e.naf(width).into_iter().rev().map(|digit| digit as i8) {
+                if let Some(from) = latest {
+                    steps.push((0, from, from));
+                    latest = Some(steps.len());
+                }
+                let at = position(usize::from(digit.unsigned_abs()));
+                match (latest, digit.signum()) {
+                    (_, 0) => continue,
+                    (None, _) => latest = Some(at),
+                    (Some(from), sign) => {
+                        steps.push((u8::from(sign < 0), from, at));
+                        latest = Some(steps.len());
+                    }
                 }
             }
         }

@@ -3,7 +3,8 @@
 
 use crate::limits::*;
 use crate::refusal::WRONG_END;
-use crate::{check, clean, forecast, plan, read_back, recode};
+use crate::wide::is_digit;
+use crate::{check, clean, clean_wide, forecast, plan, read_back, read_back_wide, recode, recode_wide};
 
 /// SplitMix64.
 #[derive(Clone, Debug)]
@@ -73,6 +74,22 @@ pub struct DigitsCase {
     pub room: usize,
 }
 
+/// Input for `recode_wide`.
+#[derive(Clone, PartialEq, Eq, Debug)]
+pub struct RecodeWideCase {
+    pub number: Vec<u8>,
+    pub width: u32,
+    pub room: usize,
+}
+
+/// Input for `clean_wide` and `read_back_wide`.
+#[derive(Clone, PartialEq, Eq, Debug)]
+pub struct WideDigitsCase {
+    pub digits: Vec<u8>,
+    pub width: u32,
+    pub room: usize,
+}
+
 /// Input for `plan`.
 #[derive(Clone, PartialEq, Eq, Debug)]
 pub struct PlanCase {
@@ -105,10 +122,31 @@ pub fn methods() -> Vec<(u32, u32)> {
     methods.extend(windows(2));
     methods.extend(windows(3));
     methods.push((4, 0));
+    methods.extend(NAF_WIDTHS.map(|width| (5, width)));
     methods
 }
 
 const BAD_DIGITS: [u8; 8] = [2, 3, 16, 127, 128, 129, 253, 254];
+
+/// Widths that no NAF has, those that one byte would show as one included.
+pub const NO_NAF_WIDTHS: [u32; 16] = [
+    0,
+    1,
+    *NAF_WIDTHS.end() + 1,
+    *NAF_WIDTHS.end() + 2,
+    16,
+    32,
+    64,
+    255,
+    256,
+    257,
+    258,
+    264,
+    1 << 31,
+    (1 << 31) + 2,
+    u32::MAX - 1,
+    u32::MAX,
+];
 
 /// A source of cases for each call.
 #[derive(Clone, Debug)]
@@ -158,6 +196,33 @@ impl Generator {
         };
         let room = self.room(needed);
         DigitsCase { digits, room }
+    }
+
+    pub fn recode_wide_case(&mut self) -> RecodeWideCase {
+        let number = self.number();
+        let width = self.naf_width();
+        let needed = recode_wide(trimmed(&number), width, &mut [0; RECODE_ROOM]).unwrap_or(RECODE_ROOM);
+        let room = self.room(needed);
+        RecodeWideCase { number, width, room }
+    }
+
+    pub fn clean_wide_case(&mut self) -> WideDigitsCase {
+        let width = self.naf_width();
+        let digits = self.wide_digit_string(width);
+        let needed = clean_wide(&digits, width, &mut [0; CLEAN_WIDE_ROOM]).unwrap_or(CLEAN_WIDE_ROOM);
+        let room = self.room(needed);
+        WideDigitsCase { digits, width, room }
+    }
+
+    pub fn read_back_wide_case(&mut self) -> WideDigitsCase {
+        let width = self.naf_width();
+        let digits = self.wide_digit_string(width);
+        let needed = match read_back_wide(&digits, width, &mut [0; READ_BACK_WIDE_ROOM]) {
+            Ok((_, bytes)) => bytes,
+            Err(_) => READ_BACK_WIDE_ROOM,
+        };
+        let room = self.room(needed);
+        WideDigitsCase { digits, width, room }
     }
 
     pub fn plan_case(&mut self) -> PlanCase {
@@ -337,14 +402,16 @@ impl Generator {
         if !self.rng.one_in(6) {
             return self.rng.pick(&methods());
         }
-        const METHOD: [u32; 12] = [0, 1, 2, 3, 4, 5, 6, 256, 257, 258, 1 << 31, u32::MAX];
-        const WIDTH: [u32; 14] = [
+        const METHOD: [u32; 13] = [0, 1, 2, 3, 4, 5, 6, 256, 257, 258, 261, 1 << 31, u32::MAX];
+        const WIDTH: [u32; 16] = [
             0,
             1,
             2,
             *WINDOW_WIDTHS.end(),
             *WINDOW_WIDTHS.end() + 1,
-            *WINDOW_WIDTHS.end() + 2,
+            *NAF_WIDTHS.end(),
+            *NAF_WIDTHS.end() + 1,
+            *NAF_WIDTHS.end() + 2,
             64,
             255,
             256,
@@ -355,19 +422,20 @@ impl Generator {
             u32::MAX,
         ];
         let widest = *WINDOW_WIDTHS.end() as usize;
-        match self.rng.below(4) {
+        match self.rng.below(5) {
             0 => (self.rng.pick(&METHOD), self.rng.pick(&WIDTH)),
             1 => (self.rng.pick(&[1, 4]), self.rng.between(1, widest + 1) as u32),
             2 => (self.rng.pick(&[2, 3]), self.rng.pick(&[0, widest as u32 + 1])),
+            3 => (5, self.rng.pick(&NO_NAF_WIDTHS)),
             _ => (self.rng.pick(&METHOD), self.rng.below(widest + 2) as u32),
         }
     }
 
     // Digit strings.
 
-    /// A digit string, mostly within the limit, sometimes damaged.
-    pub fn digit_string(&mut self) -> Vec<u8> {
-        let length = match self.rng.below(8) {
+    /// The length of a digit string, mostly within the limit.
+    fn string_length(&mut self) -> usize {
+        match self.rng.below(8) {
             0 => self.rng.below(4),
             1 => self.rng.between(STRING_DIGITS - 4, STRING_DIGITS),
             2 => self.rng.between(STRING_DIGITS - 2, STRING_DIGITS + 2),
@@ -376,7 +444,12 @@ impl Generator {
                 .rng
                 .pick(&[63, 64, 65, 127, 128, 129, 256, 257, 320, 383, 384, 385, 512]),
             _ => self.rng.below(450),
-        };
+        }
+    }
+
+    /// A digit string, mostly within the limit, sometimes damaged.
+    pub fn digit_string(&mut self) -> Vec<u8> {
+        let length = self.string_length();
         let mut digits = match self.rng.below(13) {
             0 => vec![0x01; length],
             1 => vec![0xFF; length],
@@ -460,6 +533,194 @@ impl Generator {
                 let place = self.rng.below(last + 1);
                 digits[place] = self.rng.pick(&BAD_DIGITS);
             }
+        }
+    }
+
+    // Wide digit strings.
+
+    /// A width of a NAF, or now and then one that is none.
+    pub fn naf_width(&mut self) -> u32 {
+        match self.rng.one_in(10) {
+            true => self.rng.pick(&NO_NAF_WIDTHS),
+            false => self.any_naf_width(),
+        }
+    }
+
+    fn any_naf_width(&mut self) -> u32 {
+        self.rng
+            .between(*NAF_WIDTHS.start() as usize, *NAF_WIDTHS.end() as usize) as u32
+    }
+
+    /// A wide digit string, mostly within the limit, sometimes damaged; of any width where the one that is
+    /// asked for is none.
+    pub fn wide_digit_string(&mut self, width: u32) -> Vec<u8> {
+        let width = match NAF_WIDTHS.contains(&width) {
+            true => width,
+            false => self.any_naf_width(),
+        };
+        let length = self.string_length();
+        let largest = (1u8 << (width - 1)) - 1;
+        let minus_largest = largest.wrapping_neg();
+        let mut digits = match self.rng.below(15) {
+            0 => vec![largest; length],
+            1 => vec![minus_largest; length],
+            2 => vec![0x00; length],
+            3 => [largest, minus_largest].iter().copied().cycle().take(length).collect(),
+            4 => vec![self.wide_digit(width); length],
+            5 => {
+                // Digits below, zeros on top.
+                let used = self.rng.below(length + 1);
+                let mut digits = self.wide_digits(used, width, 2);
+                digits.resize(length, 0x00);
+                digits
+            }
+            6 => self.wide_digits(length, width, 20),
+            7 => self.wide_digits(length, width, 1),
+            8 => self.wide_runs(length, width),
+            9 => self.wide_naf(length, width),
+            10 => self.outdone(length, width),
+            11 => self.longest_cleaned(length, width),
+            12 => self.carry_chain(length, width),
+            _ => self.wide_digits(length, width, 3),
+        };
+        if self.rng.one_in(5) {
+            self.damage_wide_digits(&mut digits, width);
+        }
+        digits
+    }
+
+    /// A digit other than 0, often 1 or the largest.
+    fn wide_digit(&mut self, width: u32) -> u8 {
+        let half = 1usize << (width - 1);
+        let size = match self.rng.below(4) {
+            0 => 1,
+            1 => half - 1,
+            _ => 2 * self.rng.below(half / 2) + 1,
+        };
+        let digit = size as u8;
+        match self.rng.one_in(2) {
+            true => digit,
+            false => digit.wrapping_neg(),
+        }
+    }
+
+    /// Random digits; about one in `spread` is not 0.
+    fn wide_digits(&mut self, length: usize, width: u32, spread: usize) -> Vec<u8> {
+        (0..length)
+            .map(|_| match self.rng.one_in(spread) {
+                true => self.wide_digit(width),
+                false => 0x00,
+            })
+            .collect()
+    }
+
+    fn wide_runs(&mut self, length: usize, width: u32) -> Vec<u8> {
+        let mut digits = Vec::new();
+        while digits.len() < length {
+            let digit = match self.rng.one_in(3) {
+                true => 0x00,
+                false => self.wide_digit(width),
+            };
+            let run = self.rng.between(1, 12);
+            digits.extend(std::iter::repeat(digit).take(run));
+        }
+        digits.truncate(length);
+        digits
+    }
+
+    /// A width-w NAF, of about the length where that can be had.
+    fn wide_naf(&mut self, length: usize, width: u32) -> Vec<u8> {
+        let length = length.min(STRING_DIGITS);
+        let digits = self.wide_digits(length.saturating_sub(width as usize), width, 2);
+        let mut naf = vec![0; CLEAN_WIDE_ROOM];
+        let length = clean_wide(&digits, width, &mut naf).unwrap_or(0);
+        naf.truncate(length);
+        naf
+    }
+
+    /// A top digit that those below it nearly cancel, or outdo, so that the sign is theirs.
+    fn outdone(&mut self, length: usize, width: u32) -> Vec<u8> {
+        let top = self.wide_digit(width);
+        let size = (top as i8).unsigned_abs();
+        let largest = (1u8 << (width - 1)) - 1;
+        let below = self.rng.pick(&[1, size, largest]);
+        let mut digits = match (top as i8) < 0 {
+            true => vec![below; length],
+            false => vec![below.wrapping_neg(); length],
+        };
+        if let Some(last) = digits.last_mut() {
+            *last = top;
+        }
+        digits
+    }
+
+    /// As many of the largest digits as the width, above a 1: the longest once it is cleaned.
+    fn longest_cleaned(&mut self, length: usize, width: u32) -> Vec<u8> {
+        let (one, largest) = match self.rng.one_in(2) {
+            true => (0x01, (1u8 << (width - 1)) - 1),
+            false => (0xFF, ((1u8 << (width - 1)) - 1).wrapping_neg()),
+        };
+        let top = length.saturating_sub(width as usize);
+        let mut digits = match self.rng.one_in(2) {
+            true => vec![0x00; length],
+            false => self.wide_digits(length, width, 4),
+        };
+        digits[top..].fill(largest);
+        if top > 0 {
+            digits[top - 1] = one;
+        }
+        digits
+    }
+
+    /// Ones in all bits from some place on, by digits 1 or by the largest ones apart: what stands at the
+    /// lowest place decides whether a carry runs through all of them.
+    fn carry_chain(&mut self, length: usize, width: u32) -> Vec<u8> {
+        let apart = self.rng.pick(&[1, width as usize - 1]);
+        let digit = (1u8 << apart) - 1;
+        let digit = match self.rng.one_in(2) {
+            true => digit,
+            false => digit.wrapping_neg(),
+        };
+        let start = self.rng.below(9.min(length + 1));
+        let mut digits = vec![0x00; length];
+        for place in (start..length).step_by(apart) {
+            digits[place] = digit;
+        }
+        if self.rng.one_in(2) && length > 0 {
+            let place = self.rng.below((start + 2).min(length));
+            digits[place] = self.wide_digit(width);
+        }
+        digits
+    }
+
+    /// A byte that is no digit of the width: near a border, or any.
+    fn bad_wide_digit(&mut self, width: u32) -> u8 {
+        let half = 1i32 << (width - 1);
+        let near = [2, -2, half, -half, half + 1, -half - 1, -128, half + 2];
+        let mut bytes: Vec<u8> = match self.rng.one_in(2) {
+            true => near.iter().map(|&byte| byte as u8).collect(),
+            false => (0..=255).collect(),
+        };
+        bytes.retain(|&byte| !is_digit(byte, width));
+        self.rng.pick(&bytes)
+    }
+
+    fn damage_wide_digits(&mut self, digits: &mut [u8], width: u32) {
+        if digits.is_empty() {
+            return;
+        }
+        let last = digits.len() - 1;
+        let places = match self.rng.below(4) {
+            0 => vec![0],
+            1 => vec![last],
+            2 => {
+                let places = self.rng.between(2, 5);
+                (0..places).map(|_| self.rng.below(last + 1)).collect()
+            }
+            _ => vec![self.rng.below(last + 1)],
+        };
+        for place in places {
+            digits[place] = self.bad_wide_digit(width);
         }
     }
 
@@ -1027,6 +1288,18 @@ pub fn bit_length(number: &[u8]) -> usize {
         [] => 0,
         [below @ .., top] => 8 * below.len() + 8 - top.leading_zeros() as usize,
     }
+}
+
+/// 2^place less a small number that is not larger.
+pub fn below_power_of_two(place: usize, small: u8) -> Vec<u8> {
+    let mut number = power_of_two(place);
+    let mut borrow = i32::from(small);
+    for byte in &mut number {
+        let difference = i32::from(*byte) - borrow;
+        *byte = difference as u8;
+        borrow = i32::from(difference < 0);
+    }
+    trimmed(&number).to_vec()
 }
 
 pub(crate) fn power_of_two(place: usize) -> Vec<u8> {

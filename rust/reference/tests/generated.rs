@@ -9,7 +9,7 @@ use reference::generate::{
     Generator,
 };
 use reference::limits::*;
-use reference::refusal::{HIGHEST_BYTE_IS_ZERO, LAST, WRONG_END};
+use reference::refusal::{HIGHEST_BYTE_IS_ZERO, LAST, STRING_TOO_LONG, WRONG_END};
 use reference::*;
 
 /// How often each outcome came up: index 0 for success.
@@ -243,6 +243,151 @@ fn read_back_cases() {
 }
 
 #[test]
+fn recode_wide_cases() {
+    let mut generator = Generator::new(15);
+    let mut tally = Tally::new("wide");
+    let mut widths = [0; 9];
+    for _ in 0..CASES {
+        let case = generator.recode_wide_case();
+        let mut expected_out = generator.rng().bytes(case.room);
+        let mut out = expected_out.clone();
+        let result = recode_wide(&case.number, case.width, &mut out);
+        let expected = common::recode_wide(&case.number, case.width, &mut expected_out);
+        assert_eq!((&result, &out), (&expected, &expected_out), "{:?}", case);
+        tally.note_number(&result, &case.number, |number| {
+            recode_wide(number, case.width, &mut vec![0; case.room])
+        });
+        if result.is_ok() {
+            widths[case.width as usize] += 1;
+        }
+    }
+    tally.assert_all(&[0, 1, 3, 6, 13]);
+    tally.assert_without(&[3, 6]);
+    assert!(widths[2..].iter().all(|&times| times > CASES / 20), "{:?}", widths);
+}
+
+/// With width 2 the wide calls take and give what the plain ones do.
+#[test]
+fn width_two() {
+    let mut generator = Generator::new(16);
+    for _ in 0..CASES {
+        let case = generator.clean_case();
+        let (mut out, mut wide) = (vec![7; case.room], vec![7; case.room]);
+        let plain = clean(&case.digits, &mut out);
+        assert_eq!(clean_wide(&case.digits, 2, &mut wide), plain, "{:?}", case);
+        assert_eq!(wide, out, "{:?}", case);
+        let plain = read_back(&case.digits, &mut out);
+        assert_eq!(read_back_wide(&case.digits, 2, &mut wide), plain, "{:?}", case);
+        assert_eq!(wide, out, "{:?}", case);
+        let number = generator.number();
+        let plain = recode(&number, &mut out);
+        assert_eq!(recode_wide(&number, 2, &mut wide), plain, "{:?}", case);
+        assert_eq!(wide, out, "{:?}", case);
+    }
+}
+
+/// What is written is a width-w NAF of the same value, so cleaning it again changes nothing, or it is too long.
+#[test]
+fn clean_wide_cases() {
+    let mut generator = Generator::new(17);
+    let mut tally = Tally::new("clean wide");
+    let (mut longest, mut empty, mut copied, mut too_long) = ([0; 9], 0, 0, 0);
+    for _ in 0..CASES {
+        let case = generator.clean_wide_case();
+        let mut expected_out = generator.rng().bytes(case.room);
+        let mut out = expected_out.clone();
+        let result = clean_wide(&case.digits, case.width, &mut out);
+        let expected = common::clean_wide(&case.digits, case.width, &mut expected_out);
+        assert_eq!((&result, &out), (&expected, &expected_out), "{:?}", case);
+        tally.note(&result);
+        let length = match result {
+            Ok(length) => length,
+            Err(_) => continue,
+        };
+        longest[case.width as usize] = length.max(longest[case.width as usize]);
+        empty += usize::from(length == 0);
+        copied += usize::from(length > 0 && out[..length] == case.digits);
+        let mut again = vec![7; length];
+        let result = clean_wide(&out[..length], case.width, &mut again);
+        if length > STRING_DIGITS {
+            let refused = common::refusal(STRING_TOO_LONG, 0);
+            assert_eq!((result, &again), (Err(refused), &vec![7; length]), "{:?}", case);
+            too_long += 1;
+        } else {
+            assert_eq!((result, &again[..]), (Ok(length), &out[..length]), "{:?}", case);
+        }
+    }
+    tally.assert_all(&[0, 3, 4, 5, 6]);
+    println!("{:?}", (longest, empty, copied, too_long));
+    assert!(empty > 100 && copied > 100 && too_long > 100);
+    let most = |width: usize| STRING_DIGITS + width - usize::from(width == 2);
+    assert!((2..=8).all(|width| longest[width] == most(width)), "{:?}", longest);
+}
+
+#[test]
+fn read_back_wide_cases() {
+    let mut generator = Generator::new(18);
+    let mut tally = Tally::new("read wide");
+    let (mut signs, mut zeros, mut turned, mut longest) = ([0; 2], 0, 0, 0);
+    for _ in 0..CASES {
+        let case = generator.read_back_wide_case();
+        let mut expected_out = generator.rng().bytes(case.room);
+        let mut out = expected_out.clone();
+        let result = read_back_wide(&case.digits, case.width, &mut out);
+        let expected = common::read_back_wide(&case.digits, case.width, &mut expected_out);
+        assert_eq!((&result, &out), (&expected, &expected_out), "{:?}", case);
+        tally.note(&result);
+        match result {
+            Ok((_, 0)) => zeros += 1,
+            Ok((sign, length)) => {
+                signs[usize::from(sign)] += 1;
+                let top = trimmed(&case.digits).last().map(|&top| (top as i8) < 0);
+                turned += usize::from(top != Some(sign == 1));
+                longest += usize::from(length == READ_BACK_WIDE_ROOM);
+            }
+            _ => {}
+        }
+    }
+    tally.assert_all(&[0, 3, 4, 5, 6]);
+    println!("{:?}", (signs, zeros, turned, longest));
+    assert!(zeros > 100 && signs[0] > 1000 && signs[1] > 1000 && turned > 300 && longest > 100);
+}
+
+/// Every length of a wide digit string up to two more than the limit, every byte at the lowest place, and every
+/// place with a bad byte.
+#[test]
+fn wide_strings_of_every_length() {
+    let mut generator = Generator::new(19);
+    for length in 0..=STRING_DIGITS + 2 {
+        let width = 2 + length as u32 % 7;
+        let mut string = generator.wide_digit_string(width);
+        string.resize(length, (1 << (width - 1)) - 1);
+        for bad in [None, Some(0), Some(length / 2), length.checked_sub(1)] {
+            let mut string = string.clone();
+            if let Some(byte) = bad.and_then(|place| string.get_mut(place)) {
+                *byte = 0x80;
+            }
+            let (mut out, mut expected_out) = ([7; CLEAN_WIDE_ROOM], [7; CLEAN_WIDE_ROOM]);
+            let expected = common::clean_wide(&string, width, &mut expected_out);
+            assert_eq!(clean_wide(&string, width, &mut out), expected, "{:?}", string);
+            assert_eq!(out, expected_out, "{:?}", string);
+            let expected = common::read_back_wide(&string, width, &mut expected_out);
+            assert_eq!(read_back_wide(&string, width, &mut out), expected, "{:?}", string);
+            assert_eq!(out, expected_out, "{:?}", string);
+        }
+    }
+    for width in NAF_WIDTHS {
+        for byte in 0..=255 {
+            let string = [byte, 0, 1];
+            let (mut out, mut expected_out) = ([7; 12], [7; 12]);
+            let expected = common::clean_wide(&string, width, &mut expected_out);
+            assert_eq!(clean_wide(&string, width, &mut out), expected);
+            assert_eq!(out, expected_out);
+        }
+    }
+}
+
+#[test]
 fn plan_cases() {
     let mut generator = Generator::new(5);
     let mut tally = Tally::new("plan");
@@ -407,8 +552,9 @@ fn kinds_of_padding() {
         }),
     ];
     type Next = fn(&mut Generator) -> Vec<u8>;
-    let calls: [(&str, Next); 5] = [
+    let calls: [(&str, Next); 6] = [
         ("recode", |generator| generator.recode_case().number),
+        ("recode wide", |generator| generator.recode_wide_case().number),
         ("take", |generator| generator.take_case().number),
         ("plan", |generator| generator.plan_case().number),
         ("forecast", |generator| generator.forecast_case().number),
@@ -430,6 +576,9 @@ fn same_seed_same_cases() {
     for _ in 0..100 {
         assert_eq!(a.recode_case(), b.recode_case());
         assert_eq!(a.clean_case(), b.clean_case());
+        assert_eq!(a.recode_wide_case(), b.recode_wide_case());
+        assert_eq!(a.clean_wide_case(), b.clean_wide_case());
+        assert_eq!(a.read_back_wide_case(), b.read_back_wide_case());
         assert_eq!(a.plan_case(), b.plan_case());
         assert_eq!(a.check_case(), b.check_case());
     }

@@ -1,10 +1,11 @@
 //! Small numbers against plain integers and brute force, and the totals
 //! that Bosma, "Signed bits and fast exponentiation", publishes.
 
-use reference::generate::{bit_length, hidden_doublings, methods, Generator};
+use reference::generate::{below_power_of_two, bit_length, hidden_doublings, methods, Generator};
 use reference::limits::*;
 use reference::refusal::HIGHEST_BYTE_IS_ZERO;
 use reference::*;
+use std::collections::HashMap;
 
 /// The bytes of a number, the highest not zero.
 fn spelled(number: u64) -> Vec<u8> {
@@ -20,6 +21,12 @@ fn spelled(number: u64) -> Vec<u8> {
 fn recoded(number: u64) -> Vec<i8> {
     let mut out = [0; 70];
     let length = recode(&spelled(number), &mut out).unwrap();
+    out[..length].iter().map(|&digit| digit as i8).collect()
+}
+
+fn recoded_wide(number: u64, width: u32) -> Vec<i8> {
+    let mut out = [0; 70];
+    let length = recode_wide(&spelled(number), width, &mut out).unwrap();
     out[..length].iter().map(|&digit| digit as i8).collect()
 }
 
@@ -42,6 +49,113 @@ fn recode_is_the_non_adjacent_form() {
         assert!(digits.iter().all(|digit| (-1..=1).contains(digit)));
         assert!(digits.windows(2).all(|pair| pair[0] == 0 || pair[1] == 0));
         assert_ne!(digits.last(), Some(&0));
+    }
+}
+
+/// Whether digits, lowest first, are a width-w NAF: each nonzero one is odd with size below 2^(w-1), any two
+/// of them are at least w places apart, and the top one is not 0.
+fn is_naf(digits: &[i8], width: u32) -> bool {
+    let nonzero: Vec<usize> = (0..digits.len()).filter(|&place| digits[place] != 0).collect();
+    let is_digit = |place: &usize| digits[*place] % 2 != 0 && i32::from(digits[*place]).abs() < 1 << (width - 1);
+    nonzero.iter().all(is_digit)
+        && nonzero.windows(2).all(|pair| pair[1] - pair[0] >= width as usize)
+        && digits.last() != Some(&0)
+}
+
+/// All width-w NAFs of at most this many places, each put together from its lowest nonzero digit up.
+fn all_nafs(width: u32, places: usize) -> Vec<Vec<i8>> {
+    let mut all = vec![Vec::new()];
+    let half = 1i32 << (width - 1);
+    for lowest in 0..places {
+        let next = lowest + width as usize;
+        let rests = all_nafs(width, places.saturating_sub(next));
+        for digit in (1 - half..half).filter(|digit| digit % 2 != 0) {
+            for rest in &rests {
+                let mut digits = vec![0; lowest];
+                digits.push(digit as i8);
+                if !rest.is_empty() {
+                    digits.resize(next, 0);
+                    digits.extend(rest);
+                }
+                all.push(digits);
+            }
+        }
+    }
+    all
+}
+
+/// Every number up to 2^12, by every width: the form and the value. No other width-w NAF has the value, also
+/// below zero: of all of up to 14 places, no two do.
+#[test]
+fn wide_nafs_of_small_numbers() {
+    const MOST: i64 = 1 << 12;
+    for width in NAF_WIDTHS {
+        let mut by_value = HashMap::new();
+        for digits in all_nafs(width, 14) {
+            assert!(is_naf(&digits, width), "{:?}", digits);
+            let other = by_value.insert(value(&digits), digits.clone());
+            assert_eq!(other, None, "{:?} by width {}", digits, width);
+        }
+        for number in -MOST..=MOST {
+            let mut digits = recoded_wide(number.unsigned_abs(), width);
+            assert!(is_naf(&digits, width), "{} by width {}", number, width);
+            assert_eq!(value(&digits), number.abs());
+            if number < 0 {
+                digits.iter_mut().for_each(|digit| *digit = -*digit);
+            }
+            assert_eq!(by_value.get(&number), Some(&digits), "{} by width {}", number, width);
+        }
+    }
+}
+
+/// With width 2 the digits are those of the plain form.
+#[test]
+fn width_two_is_the_plain_form() {
+    for number in 0..1 << 16 {
+        assert_eq!(recoded_wide(number, 2), recoded(number));
+    }
+}
+
+/// All strings of a few digits: clean gives the width-w NAF of the value, read back the value.
+#[test]
+fn wide_strings_of_few_digits() {
+    for (width, most) in [(2, 9), (3, 6), (4, 5), (5, 4), (6, 3), (7, 2), (8, 2)] {
+        let half = 1i32 << (width - 1);
+        let all: Vec<i8> = (1 - half..half)
+            .filter(|digit| *digit == 0 || digit % 2 != 0)
+            .map(|digit| digit as i8)
+            .collect();
+        let mut signs = [0; 2];
+        for index in 0..all.len().pow(most) {
+            let mut rest = index;
+            let mut digits = Vec::new();
+            for _ in 0..most {
+                digits.push(all[rest % all.len()]);
+                rest /= all.len();
+            }
+            let total = value(&digits);
+            let mut naf = recoded_wide(total.unsigned_abs(), width);
+            if total < 0 {
+                naf.iter_mut().for_each(|digit| *digit = -*digit);
+            }
+            let bytes: Vec<u8> = digits.iter().map(|&digit| digit as u8).collect();
+            let expected: Vec<u8> = naf.iter().map(|&digit| digit as u8).collect();
+            let mut out = [9; 24];
+            assert_eq!(clean_wide(&bytes, width, &mut out), Ok(expected.len()));
+            assert_eq!(out[..expected.len()], expected, "{:?} by width {}", digits, width);
+            assert_eq!(out[expected.len()..], [9; 24][expected.len()..]);
+
+            let mut out = [0; 8];
+            let (sign, _) = read_back_wide(&bytes, width, &mut out).unwrap();
+            let size = i64::from_le_bytes(out);
+            assert_eq!(total, if sign == 1 { -size } else { size });
+            // The sign of the top digit is not that of the value.
+            let top = i64::from(digits[digits.len() - 1]);
+            signs[0] += usize::from(top * total < 0);
+            signs[1] += usize::from(top * total > 0);
+        }
+        assert_eq!(signs[0] > 0, width > 2, "width {}", width);
+        assert!(signs[1] > 0, "width {}", width);
     }
 }
 
@@ -180,9 +294,23 @@ fn own_plans_have_no_hidden_doublings() {
     assert!(long > 500);
 }
 
-/// The largest size in the plan of a method has as many bits as the number, with two exceptions: by
+/// With width 2, method 5 gives method 4's plan.
+#[test]
+fn method_five_of_width_two() {
+    let mut generator = Generator::new(14);
+    let mut numbers: Vec<Vec<u8>> = (1..1 << 12).map(spelled).collect();
+    numbers.extend((0..2000).map(|_| generator.number()));
+    for number in numbers {
+        let (mut wide, mut plain) = ([7; PLAN_ROOM], [7; PLAN_ROOM]);
+        assert_eq!(plan(&number, 5, 2, &mut wide), plan(&number, 4, 0, &mut plain));
+        assert_eq!(wide, plain, "{:x?}", number);
+    }
+}
+
+/// The largest size in the plan of a method has as many bits as the number, with these exceptions. By
 /// sliding windows, an even number of fewer bits than the width gets the whole table, which ends at
-/// 2^width - 1; by NAF, 2^L - 1 with L of 2 or more is 2^L less 1.
+/// 2^width - 1; by the wide NAF, whose table is that of one bit less, likewise. By NAF, 2^L - 1 with L of 2 or
+/// more is 2^L less 1; by the wide NAF, so is every odd number above 2^L - 2^(w-1), if L is at least the width.
 #[test]
 fn largest_bits_of_own_plans() {
     let mut generator = Generator::new(11);
@@ -190,8 +318,12 @@ fn largest_bits_of_own_plans() {
     // 2^L - 1 for each L.
     let ones = (1..=NUMBER_BITS).map(|bits| [vec![0xFF; (bits - 1) / 8], vec![0xFF >> ((8 - bits % 8) % 8)]].concat());
     numbers.extend(ones);
+    // The border between the numbers with a bit more and those without, for each L and width.
+    for bits in (9..=NUMBER_BITS).step_by(5) {
+        numbers.extend((1..=129).step_by(2).map(|small| below_power_of_two(bits, small)));
+    }
     numbers.extend((0..500).map(|_| generator.number()));
-    let mut seen = [0; 3];
+    let mut seen = [0; 5];
     for number in numbers {
         for (method, width) in methods() {
             let mut out = [0; PLAN_ROOM];
@@ -201,9 +333,16 @@ fn largest_bits_of_own_plans() {
             };
             let bits = bit_length(&number);
             let is_ones = number.iter().map(|byte| byte.count_ones() as usize).sum::<usize>() == bits;
+            let is_even = number[0] % 2 == 0;
+            // 2^L less the number: how far it is below the first number of one bit more.
+            let less = (1..=128).find(|&small| number == below_power_of_two(bits, small));
             let (kind, expected) = match (method, width as usize) {
-                (3, width) if number[0] % 2 == 0 && bits < width => (1, width),
+                (3, width) if is_even && bits < width => (1, width),
                 (4, _) if is_ones && bits > 1 => (2, bits + 1),
+                (5, width) if is_even && bits < width - 1 => (3, width - 1),
+                (5, width) if !is_even && bits >= width && less.map_or(false, |less| less < 1 << (width - 1)) => {
+                    (4, bits + 1)
+                }
                 _ => (0, bits),
             };
             let steps = &out[..STEP_BYTES * counts.total()];
@@ -214,11 +353,12 @@ fn largest_bits_of_own_plans() {
         }
     }
     // The even numbers of fewer bits than each width, and each L.
-    let even: usize = WINDOW_WIDTHS
-        .map(|width| (1 << width) / 4)
-        .map(|all: usize| all.saturating_sub(1))
-        .sum();
-    assert!(seen[1] >= even && seen[2] >= NUMBER_BITS - 1, "{:?}", seen);
+    let even = |width: u32| ((1usize << width) / 4).saturating_sub(1);
+    assert!(seen[1] >= WINDOW_WIDTHS.map(even).sum(), "{:?}", seen);
+    assert!(seen[2] >= NUMBER_BITS - 1, "{:?}", seen);
+    assert!(seen[3] >= NAF_WIDTHS.map(|width| even(width - 1)).sum(), "{:?}", seen);
+    assert!(seen[4] > 5_000, "{:?}", seen);
+    println!("{:?}", seen);
 }
 
 /// Propositions 4, 5, 7 and 8 of Bosma, "Signed bits and fast exponentiation": the tables.

@@ -11,7 +11,10 @@
 use crate::generate::{corners, largest_of, methods, power_of_two};
 use crate::limits::*;
 use crate::refusal::{Refusal, LAST};
-use crate::{check, clean, forecast, plan, read_back, recode, text, Accepted, Counts, Recoder};
+use crate::{
+    check, clean, clean_wide, forecast, plan, read_back, read_back_wide, recode, recode_wide, text, Accepted, Counts,
+    Recoder,
+};
 
 /// What the program fills a buffer with before it lends it.
 const FILL: u8 = 0xA5;
@@ -23,9 +26,9 @@ const DONE: usize = 0x100;
 const LINE_BYTES: usize = 2 * PLAN_ROOM;
 const MOST_ROOM: usize = work_space(PLAN_STEPS + 1);
 
-const CALLS: [&str; 13] = [
+const CALLS: [&str; 16] = [
     "recode", "bywords", "take", "clean", "readback", "plan", "forecast", "check", "hex", "decimal", "digits", "steps",
-    "words",
+    "words", "wrecode", "wclean", "wread",
 ];
 
 // Answers.
@@ -58,6 +61,18 @@ fn answer(request: &str) -> String {
         ("clean", []) => fields(clean(&input, &mut out).map(|length| [length])) + &buffer(&out),
         ("readback", []) => {
             let value = read_back(&input, &mut out);
+            fields(value.map(|(sign, length)| [usize::from(sign), length])) + &buffer(&out)
+        }
+        ("wrecode", [width]) => {
+            let length = recode_wide(&input, decimal(width), &mut out);
+            fields(length.map(|length| [length])) + &buffer(&out)
+        }
+        ("wclean", [width]) => {
+            let length = clean_wide(&input, decimal(width), &mut out);
+            fields(length.map(|length| [length])) + &buffer(&out)
+        }
+        ("wread", [width]) => {
+            let value = read_back_wide(&input, decimal(width), &mut out);
             fields(value.map(|(sign, length)| [usize::from(sign), length])) + &buffer(&out)
         }
         ("plan", [method, width]) => {
@@ -155,7 +170,10 @@ pub fn requests() -> String {
     let mut requests = Requests(String::new());
     requests.numbers();
     requests.strings();
+    requests.wide_numbers();
+    requests.wide_strings();
     requests.plans();
+    requests.wide_plans();
     requests.checks();
     requests.texts();
     requests.digit_texts();
@@ -244,6 +262,15 @@ fn digits(digits: &[i8]) -> Vec<u8> {
     digits.iter().rev().map(|&digit| digit as u8).collect()
 }
 
+/// The string of most digits that is longest once it is cleaned: as many of the largest digits as the width,
+/// above a 1.
+fn longest_cleaned(width: usize) -> Vec<u8> {
+    let mut string = vec![0; STRING_DIGITS];
+    string[STRING_DIGITS - width - 1] = 1;
+    string[STRING_DIGITS - width..].fill((1 << (width - 1)) - 1);
+    string
+}
+
 fn add(j: usize, k: usize) -> Vec<u8> {
     step(0, j, k)
 }
@@ -303,6 +330,18 @@ impl Requests {
         self.line("readback", room, digits, "");
     }
 
+    fn recode_wide(&mut self, room: usize, number: &[u8], width: u32) {
+        self.line("wrecode", room, number, &format!(" {}", width));
+    }
+
+    fn clean_wide(&mut self, room: usize, digits: &[u8], width: u32) {
+        self.line("wclean", room, digits, &format!(" {}", width));
+    }
+
+    fn read_back_wide(&mut self, room: usize, digits: &[u8], width: u32) {
+        self.line("wread", room, digits, &format!(" {}", width));
+    }
+
     fn plan(&mut self, room: usize, number: &[u8], method: u32, width: u32) {
         self.line("plan", room, number, &format!(" {} {}", method, width));
     }
@@ -343,6 +382,19 @@ impl Requests {
         let length = clean(digits, &mut out).unwrap();
         self.read(digits);
         self.read(&out[..length]);
+    }
+
+    fn read_wide(&mut self, digits: &[u8], width: u32) {
+        self.clean_wide(CLEAN_WIDE_ROOM, digits, width);
+        self.read_back_wide(READ_BACK_WIDE_ROOM, digits, width);
+    }
+
+    /// The same in the wide form.
+    fn cleaned_wide(&mut self, digits: &[u8], width: u32) {
+        let mut out = [0; CLEAN_WIDE_ROOM];
+        let length = clean_wide(digits, width, &mut out).unwrap();
+        self.read_wide(digits, width);
+        self.read_wide(&out[..length], width);
     }
 
     fn planned(&mut self, number: &[u8], method: u32, width: u32) {
@@ -579,6 +631,128 @@ impl Requests {
             let length = recode(&number, &mut out).unwrap();
             self.recode(RECODE_ROOM, &number);
             self.read_back(NUMBER_BYTES, &out[..length]);
+        }
+    }
+
+    fn wide_numbers(&mut self) {
+        self.title(WIDE_43);
+        for width in NAF_WIDTHS.chain([0, 1, 9, 10, 260, u32::MAX]) {
+            self.recode_wide(RECODE_ROOM, &small(43), width);
+        }
+        self.title("The width-w NAFs of 1122334455, the example of a textbook, then of a number of the longest kind");
+        for width in 2..=6 {
+            self.recode_wide(RECODE_ROOM, &small(1_122_334_455), width);
+        }
+        for width in NAF_WIDTHS {
+            self.recode_wide(RECODE_ROOM, &long(), width);
+        }
+        self.title("Zero, 1, and the longest number into the room for its digits and for one less");
+        for width in [2, 8] {
+            self.recode_wide(0, &small(0), width);
+            self.recode_wide(1, &small(1), width);
+            self.recode_wide(RECODE_ROOM, &ones(NUMBER_BITS), width);
+            self.recode_wide(RECODE_ROOM - 1, &ones(NUMBER_BITS), width);
+        }
+        self.title("Room for just the digits of 43, for one less, for more, for none");
+        for room in [5, 4, 40, 0] {
+            self.recode_wide(room, &small(43), 4);
+        }
+        self.title("Order: 1, 13, 3, 6");
+        for number in [padded(43, NUMBER_BYTES + 1), ones(NUMBER_BITS + 8)] {
+            self.recode_wide(0, &number, 9);
+        }
+        for number in high_zeros() {
+            self.recode_wide(0, &number, 9);
+        }
+        self.recode_wide(0, &small(43), 9);
+        self.recode_wide(0, &small(43), 8);
+    }
+
+    fn wide_strings(&mut self) {
+        self.title(
+            "Wide digit strings, cleaned and read back, then what was written: a sign that is not the top digit's",
+        );
+        self.cleaned_wide(&digits(&[1, -3]), 3);
+        self.cleaned_wide(&digits(&[1, 0, 0, -127]), 8);
+        self.title("Shorter than the width; cleaned into as many more digits as the width; high zeros; zero");
+        self.cleaned_wide(&digits(&[1, 1]), 8);
+        self.cleaned_wide(&digits(&[3, 3, 3, 1]), 3);
+        self.cleaned_wide(&digits(&[0, 0, 7, -5, 0]), 4);
+        self.read_wide(&digits(&[0, 0, 0]), 5);
+        self.title("The longest strings: the largest digits, the longest once cleaned, zeros; and a digit too many");
+        self.cleaned_wide(&[127; STRING_DIGITS], 8);
+        self.cleaned_wide(&longest_cleaned(8), 8);
+        self.cleaned_wide(&longest_cleaned(5), 5);
+        self.read_wide(&[0; STRING_DIGITS], 6);
+        self.read_wide(&[0; STRING_DIGITS + 1], 6);
+        self.title("Bytes that are no digits of the width: even, too large, 80; the lowest counts");
+        for (byte, width) in [(2, 8), (128, 8), (3, 2), (4, 4), (251, 3), (127, 7)] {
+            self.read_wide(&[255, 0, byte, byte, 1], width);
+        }
+        self.read_wide(&[129, 0, 127, 0, 1], 8);
+        self.title("Order: 3, 5, 4, 6");
+        for width in [1, 9] {
+            self.read_wide(&[1], width);
+        }
+        for (string, width) in [
+            (&[2; STRING_DIGITS + 1][..], 9),
+            (&[2; STRING_DIGITS + 1], 4),
+            (&[1, 2], 9),
+            (&[1, 2], 4),
+            (&[1], 4),
+            (&[], 4),
+        ] {
+            self.clean_wide(0, string, width);
+            self.read_back_wide(0, string, width);
+        }
+        self.title("Room for just the answer, for a byte less, for more");
+        for room in [7, 6, 40] {
+            self.clean_wide(room, &digits(&[3, 3, 3, 1]), 3);
+        }
+        self.clean_wide(CLEAN_WIDE_ROOM - 1, &longest_cleaned(8), 8);
+        for room in [READ_BACK_WIDE_ROOM, READ_BACK_WIDE_ROOM - 1] {
+            self.read_back_wide(room, &[127; STRING_DIGITS], 8);
+        }
+    }
+
+    fn wide_plans(&mut self) {
+        self.title("43 by wide NAF, of every width, and by widths that are none");
+        for width in NAF_WIDTHS.chain([1, 9, 258]) {
+            self.planned(&small(43), 5, width);
+        }
+        self.title("1, an odd number in the table, even ones below the table's end, an odd one above it");
+        for (number, width) in [(1, 2), (1, 8), (5, 8), (6, 4), (2, 8), (129, 8)] {
+            self.planned(&small(number), 5, width);
+        }
+        self.title("No method 6");
+        self.planned(&small(43), 6, 0);
+        self.planned(&small(43), 6, 4);
+        self.title(LARGEST_WIDE);
+        for (number, width) in [
+            // Even, below the table's end and at it.
+            (2, 3),
+            (2, 4),
+            (2, 8),
+            (62, 8),
+            (64, 8),
+            // Odd: above 2^L - 2^(w-1), in the table, at that border.
+            (7, 2),
+            (7, 3),
+            (7, 4),
+            (247, 4),
+            (249, 4),
+            (1023, 8),
+            (895, 8),
+        ] {
+            self.accepted(&small(number), 5, width);
+        }
+        self.accepted(&ones(NUMBER_BITS), 5, 8);
+        self.accepted(&long(), 5, 5);
+        self.title("Small numbers by wide NAF");
+        for width in [3, 8] {
+            for number in 1..=12 {
+                self.forecast(&small(number), 5, width);
+            }
         }
     }
 
@@ -856,7 +1030,7 @@ impl Requests {
         }
         self.title("Small numbers by windows of every width");
         for (method, width) in methods() {
-            if width > 0 {
+            if [2, 3].contains(&method) {
                 for number in 1..=130 {
                     self.forecast(&small(number), method, width);
                 }
@@ -868,7 +1042,9 @@ impl Requests {
 /// Bit lengths around the borders of bytes and words, those of the longest number and the largest value included.
 pub const EDGES: [usize; 8] = [8, 9, 63, 64, 65, NUMBER_BITS, NUMBER_BITS + 1, VALUE_BITS];
 
-/// The titles of twelve sections.
+/// The titles of some sections.
+pub const WIDE_43: &str = "43 by every width of a NAF, then by some that are none";
+pub const LARGEST_WIDE: &str = "Largest sizes of plans by wide NAF: of the table, of 2^L, of the number";
 pub const WHOLE_WORDS: &str =
     "Whole words: three times the number has no bit above them, one or two; carries through all of them";
 pub const NO_WHOLE_WORDS: &str = "The same for a byte more or less than whole words";

@@ -90,7 +90,7 @@ fn every_refusal_is_stored() {
 /// number is too long; the takes then answer done.
 #[test]
 fn highest_bytes_of_zero_are_stored() {
-    for call in ["recode", "bywords", "take", "plan", "forecast", "check"] {
+    for call in ["recode", "bywords", "wrecode", "take", "plan", "forecast", "check"] {
         let mut seen = [0; 2];
         let padded = STDOUT
             .lines()
@@ -139,6 +139,25 @@ fn both_recodings_are_stored() {
     assert_eq!(section(NO_WHOLE_WORDS).len(), 2 * 10 * 4);
 }
 
+/// 43 by every width: with width 2 as recode writes it, then by hand; other widths are refused with 3.
+#[test]
+fn wide_nafs_are_stored() {
+    let stored = section(WIDE_43);
+    let answers: Vec<String> = stored.iter().map(|stored| stored.answer.join(" ")).collect();
+    let plain = STDOUT
+        .lines()
+        .find_map(|line| line.strip_prefix("recode 385 2b: "))
+        .unwrap();
+    assert_eq!(answers[0], plain);
+    assert_eq!(answers[1], "0 0 7 030000fd000001+378");
+    assert_eq!(answers[2], "0 0 5 fb00000003+380");
+    assert_eq!(answers[3], "0 0 6 0b0000000001+379");
+    assert_eq!(answers[4], "0 0 7 eb000000000001+378");
+    assert_eq!(answers[5..7], ["0 0 1 2b+384", "0 0 1 2b+384"]);
+    assert!(answers[7..].iter().all(|answer| answer == "3 0 0 +385"));
+    assert_eq!(answers.len(), 7 + 6);
+}
+
 /// A doubling adds equal values or subtracts opposite ones, whatever its positions are (docs/RULES.md, 3.7).
 #[test]
 fn hidden_doublings_are_stored() {
@@ -181,6 +200,10 @@ fn largest_sizes_are_stored() {
     let sliding = [2, 2, 3, 6, 3, 4, 5, 6, 6, 7, 1, 3, 5, 6];
     let fixed = [2, 3, 5];
     assert_eq!(bits(LARGEST_WINDOWS), [&sliding[..], &fixed].concat());
+    // The table's last, 2^L, or the number.
+    let wide = [2, 3, 7, 7, 7, 4, 4, 3, 8, 9, 11, 10];
+    let (small, long) = (bits(LARGEST_WIDE)[..12].to_vec(), bits(LARGEST_WIDE)[12..].to_vec());
+    assert_eq!((small, long), (wide.to_vec(), vec![NUMBER_BITS + 1, NUMBER_BITS]));
     let below_zero = [8, 9, 63, 64, 65, VALUE_BITS];
     assert_eq!(bits(LARGEST_BITS), [&EDGES[..], &below_zero].concat());
     let refused: Vec<[usize; 6]> = section(LARGEST_REFUSED)

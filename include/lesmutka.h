@@ -1,9 +1,9 @@
 /*
  * Lesmutka: plans for multiplying a curve point by a public number, and their check.
  *
- * Recoding of a number into its non-adjacent form (NAF), cleaning and reading back of signed digit
- * strings, planning of addition-subtraction chains by several methods, the check of such a plan,
- * and the reading of numbers, digits and steps from text.
+ * Recoding of a number into its non-adjacent form (NAF), of width 2 or wider, cleaning and reading
+ * back of signed digit strings, planning of addition-subtraction chains by several methods, the
+ * check of such a plan, and the reading of numbers, digits and steps from text.
  *
  * Every function of the library is proved: whatever bytes it is handed, it returns, it touches
  * only what it was lent, and its answer and every byte that it leaves are those of a written
@@ -72,6 +72,11 @@
  *              handed in has at most LESMUTKA_STRING_DIGITS of them.
  *   Canonical  The canonical string is the NAF: of two neighbouring digits at least one is 0, and
  *              the most significant digit is not 0. Zero is the empty string.
+ *   Wide       The calls in the wide form take a width w, LESMUTKA_LEAST_WIDTH to
+ *              LESMUTKA_LARGEST_WIDTH. A digit of width w is 0, or odd with a size below 2^(w - 1);
+ *              its byte is the digit in two's complement. The width-w NAF: any two digits other
+ *              than 0 are at least w places apart, and the most significant digit is not 0. Zero
+ *              is the empty string. With width 2, digits and NAF are those above.
  *   Plan       At most LESMUTKA_PLAN_STEPS steps of LESMUTKA_STEP_BYTES bytes: an operation (0x00
  *              add, 0x01 subtract), then positions j and k, two bytes each. Position 0 holds 1.
  *              Step i, counted from 1, fills position i with a(j) + a(k) or a(j) - a(k), where j
@@ -132,9 +137,9 @@
 extern "C" {
 #endif
 
-/* The version, 10000 * major + 100 * minor + patch: this is 0.6.2. lesmutka_version answers that of
+/* The version, 10000 * major + 100 * minor + patch: this is 0.7.0. lesmutka_version answers that of
  * the library that is linked. */
-#define LESMUTKA_VERSION 602
+#define LESMUTKA_VERSION 700
 
 /* Limits. lesmutka_limits answers those of the library that is linked. */
 #define LESMUTKA_NUMBER_BYTES 48
@@ -148,10 +153,16 @@ extern "C" {
 #define LESMUTKA_FIXED_WINDOW_BITS 6
 #define LESMUTKA_SLIDING_WINDOW_BITS 6
 
+/* The widths of a NAF. */
+#define LESMUTKA_LEAST_WIDTH 2
+#define LESMUTKA_LARGEST_WIDTH 8
+
 /* Room that is enough for every answer. */
 #define LESMUTKA_RECODE_ROOM (8 * LESMUTKA_NUMBER_BYTES + 1)
 #define LESMUTKA_CLEAN_ROOM (LESMUTKA_STRING_DIGITS + 1)
 #define LESMUTKA_READ_BACK_ROOM (LESMUTKA_STRING_DIGITS / 8)
+#define LESMUTKA_CLEAN_WIDE_ROOM (LESMUTKA_STRING_DIGITS + LESMUTKA_LARGEST_WIDTH)
+#define LESMUTKA_READ_BACK_WIDE_ROOM (LESMUTKA_STRING_DIGITS / 8 + 1)
 #define LESMUTKA_PLAN_ROOM (LESMUTKA_STEP_BYTES * LESMUTKA_PLAN_STEPS)
 
 /* Room that is enough for the number or the digits of a text of this many bytes. The argument is
@@ -186,9 +197,10 @@ enum {
 };
 
 /* Methods, for a number e above zero. "Latest" is the position filled last, at first 0; the methods
- * by windows also set it once, after their table. "Double" is add(latest, latest). The width d is 0
- * for binary and NAF, 1 to LESMUTKA_FIXED_WINDOW_BITS for fixed windows and 1 to
- * LESMUTKA_SLIDING_WINDOW_BITS for sliding windows.
+ * with a table also set it once, after that. "Double" is add(latest, latest). The width d is 0 for
+ * binary and NAF, 1 to LESMUTKA_FIXED_WINDOW_BITS for fixed windows and 1 to
+ * LESMUTKA_SLIDING_WINDOW_BITS for sliding windows. The width w of wide NAF is LESMUTKA_LEAST_WIDTH
+ * to LESMUTKA_LARGEST_WIDTH.
  *
  *   Binary            From the bit below the top bit down: double; if the bit is 1, add(latest, 0).
  *   Fixed windows     of d bits, cut from the low end. If e is below 2^d: add(i - 1, 0) for i = 1
@@ -206,12 +218,18 @@ enum {
  *                     double once per bit of it, then add(latest, its position). At a 0: double.
  *   NAF               From the canonical digit below the top down: double; for 1 add(latest, 0);
  *                     for minus 1 subtract(latest, 0).
+ *   Wide NAF          The table of sliding windows for d = w - 1. If e is odd and below 2^(w - 1),
+ *                     the table stops at e, and that is the plan. Otherwise latest becomes the
+ *                     position of the top digit of the width-w NAF. From the digit below it down:
+ *                     double; for a digit v above 0 add(latest, the position of v); for one below
+ *                     0 subtract(latest, the position of its size).
  */
 enum {
     LESMUTKA_BINARY = 1,
     LESMUTKA_FIXED_WINDOWS = 2,
     LESMUTKA_SLIDING_WINDOWS = 3,
-    LESMUTKA_NAF = 4
+    LESMUTKA_NAF = 4,
+    LESMUTKA_WIDE_NAF = 5
 };
 
 /* What the start of taking answers. */
@@ -308,6 +326,17 @@ lesmutka_length lesmutka_recode(const uint8_t *number, size_t number_length, uin
 lesmutka_length lesmutka_recode_words(const uint8_t *number, size_t number_length, uint8_t *out,
                                       size_t out_length);
 
+/** Recode a number into its width-w NAF.
+ *
+ *  Returns: the length of the string, the bytes written.
+ *           Refused: 1, then 13, then 3 for a width that is none, then 6; nothing is written.
+ *  In:      number: the number, number_length bytes.
+ *           width: w, from LESMUTKA_LEAST_WIDTH to LESMUTKA_LARGEST_WIDTH.
+ *  Out:     out: room for the digits, out_length bytes. LESMUTKA_RECODE_ROOM is always enough.
+ */
+lesmutka_length lesmutka_recode_wide(const uint8_t *number, size_t number_length, uint32_t width,
+                                     uint8_t *out, size_t out_length);
+
 /** Start taking the canonical digits of a number one by one.
  *
  *  Returns: nothing but the refusal.
@@ -340,6 +369,19 @@ uint32_t lesmutka_take(lesmutka_recoder *recoder);
 lesmutka_length lesmutka_clean(const uint8_t *digits, size_t digits_length, uint8_t *out,
                                size_t out_length);
 
+/** Clean a wide digit string: write the width-w NAF of the same value. Two strings of width w have
+ *  the same value if and only if they give the same bytes.
+ *
+ *  Returns: the length of the NAF, the bytes written; it may be w more than the longest input.
+ *           Refused: 3 for a width that is none, then 5, then 4 for a byte that is no digit of
+ *           width w, then 6; nothing is written.
+ *  In:      digits: the digit string, digits_length bytes.
+ *           width: w, from LESMUTKA_LEAST_WIDTH to LESMUTKA_LARGEST_WIDTH.
+ *  Out:     out: room for the digits, out_length bytes. LESMUTKA_CLEAN_WIDE_ROOM is always enough.
+ */
+lesmutka_length lesmutka_clean_wide(const uint8_t *digits, size_t digits_length, uint32_t width,
+                                    uint8_t *out, size_t out_length);
+
 /** Read a digit string back: the sign and the size of its value.
  *
  *  Returns: the sign, and the length of the size, the bytes written.
@@ -351,6 +393,20 @@ lesmutka_length lesmutka_clean(const uint8_t *digits, size_t digits_length, uint
 lesmutka_value lesmutka_read_back(const uint8_t *digits, size_t digits_length, uint8_t *out,
                                   size_t out_length);
 
+/** Read a wide digit string back: the sign and the size of its value. The sign need not be that of
+ *  the most significant digit: 1, -3 stands for -1.
+ *
+ *  Returns: the sign, and the length of the size, the bytes written.
+ *           Refused: 3 for a width that is none, then 5, then 4 for a byte that is no digit of
+ *           width w, then 6; nothing is written.
+ *  In:      digits: the digit string, digits_length bytes.
+ *           width: w, from LESMUTKA_LEAST_WIDTH to LESMUTKA_LARGEST_WIDTH.
+ *  Out:     out: room for the size, out_length bytes; it has no high zero byte.
+ *                LESMUTKA_READ_BACK_WIDE_ROOM is always enough.
+ */
+lesmutka_value lesmutka_read_back_wide(const uint8_t *digits, size_t digits_length, uint32_t width,
+                                       uint8_t *out, size_t out_length);
+
 /** Write the plan for a number by a method. lesmutka_check accepts it for the same number, with the
  *  same counts.
  *
@@ -358,10 +414,10 @@ lesmutka_value lesmutka_read_back(const uint8_t *digits, size_t digits_length, u
  *           were written.
  *           Refused: 1, then 13, then 2, then 3, then 6; nothing is written.
  *  In:      number: the number, number_length bytes.
- *           method: LESMUTKA_BINARY, LESMUTKA_FIXED_WINDOWS, LESMUTKA_SLIDING_WINDOWS or
- *                   LESMUTKA_NAF.
- *           width: the bits of a window, from 1 to the limit of the method; 0 for the methods
- *                  without.
+ *           method: LESMUTKA_BINARY, LESMUTKA_FIXED_WINDOWS, LESMUTKA_SLIDING_WINDOWS,
+ *                   LESMUTKA_NAF or LESMUTKA_WIDE_NAF.
+ *           width: the bits of a window, from 1 to the limit of the method, or the width of a wide
+ *                  NAF; 0 for the methods without.
  *  Out:     out: room for the plan, out_length bytes. LESMUTKA_PLAN_ROOM is always enough.
  */
 lesmutka_counts lesmutka_plan(const uint8_t *number, size_t number_length, uint32_t method,

@@ -2,8 +2,9 @@
 //! proved library.
 //!
 //! Every buffer is least significant first. A number is at most [`NUMBER_BYTES`] bytes, the highest
-//! of which is not zero, so each number has one spelling; zero has no bytes. A digit is 0, 1 or -1; a
-//! plan is steps of [`STEP_BYTES`] bytes. The calls write into buffers that they are lent, never
+//! of which is not zero, so each number has one spelling; zero has no bytes. A digit is 0, 1 or -1; in
+//! the wide form, of width w, it is 0 or odd with a size below 2^(w - 1). A plan is steps of
+//! [`STEP_BYTES`] bytes. The calls write into buffers that they are lent, never
 //! allocate, and hand back the part that they wrote; the rest of a buffer stays as it was. A refusal
 //! changes nothing, but for the records that [`check`] has filled by then.
 //!
@@ -79,13 +80,21 @@ pub const RECORD_BYTES: usize = 1 + VALUE_BYTES;
 pub const FIXED_WINDOW_BITS: u32 = 6;
 /// The most bits of a sliding window.
 pub const SLIDING_WINDOW_BITS: u32 = 6;
+/// The least width of a NAF.
+pub const LEAST_WIDTH: u32 = 2;
+/// The largest width of a NAF.
+pub const LARGEST_WIDTH: u32 = 8;
 
-/// Room for every answer of [`recode`] and of [`recode_words`].
+/// Room for every answer of [`recode`], [`recode_words`] and [`recode_wide`].
 pub const RECODE_ROOM: usize = 8 * NUMBER_BYTES + 1;
 /// Room for every answer of [`clean`].
 pub const CLEAN_ROOM: usize = STRING_DIGITS + 1;
 /// Room for every answer of [`read_back`].
 pub const READ_BACK_ROOM: usize = STRING_DIGITS / 8;
+/// Room for every answer of [`clean_wide`].
+pub const CLEAN_WIDE_ROOM: usize = STRING_DIGITS + LARGEST_WIDTH as usize;
+/// Room for every answer of [`read_back_wide`].
+pub const READ_BACK_WIDE_ROOM: usize = STRING_DIGITS / 8 + 1;
 /// Room for every plan.
 pub const PLAN_ROOM: usize = STEP_BYTES * PLAN_STEPS;
 
@@ -153,6 +162,27 @@ pub fn recode_words<'a>(number: &[u8], out: &'a mut [i8]) -> Result<&'a [i8], Re
     Ok(&out[..length])
 }
 
+/// Writes the width-w NAF of a number, and hands it back: digits that are 0 or odd with a size below
+/// 2^(w - 1), any two that are not 0 at least w places apart, and the top one not 0. With width 2 it is
+/// the canonical string.
+///
+/// # Errors
+///
+/// Refusals 1, 13, 3 for a width that is not [`LEAST_WIDTH`] to [`LARGEST_WIDTH`], 6. [`RECODE_ROOM`] is
+/// always enough.
+///
+/// ```
+/// let mut room = [0; lesmutka::RECODE_ROOM];
+/// // 3 * 16 - 5
+/// assert_eq!(lesmutka::recode_wide(&[43], 4, &mut room)?, [-5, 0, 0, 0, 3]);
+/// assert_eq!(lesmutka::recode_wide(&[43], 9, &mut room), Err(lesmutka::Refusal::MethodOrWidth));
+/// # Ok::<(), lesmutka::Refusal>(())
+/// ```
+pub fn recode_wide<'a>(number: &[u8], width: u32, out: &'a mut [i8]) -> Result<&'a [i8], Refusal> {
+    let length = written(sys::recode_wide(number, width, bytes_of_mut(out)))?;
+    Ok(&out[..length])
+}
+
 /// Writes the canonical string of a digit string's value and hands it back.
 ///
 /// # Errors
@@ -169,6 +199,23 @@ pub fn clean<'a>(digits: &[i8], out: &'a mut [i8]) -> Result<&'a [i8], Refusal> 
     Ok(&out[..length])
 }
 
+/// Writes the width-w NAF of a wide digit string's value and hands it back.
+///
+/// # Errors
+///
+/// Refusals 3 for a width that is not [`LEAST_WIDTH`] to [`LARGEST_WIDTH`], 5, 4 for a digit that is even
+/// and not 0 or of size 2^(w - 1) or more, 6. [`CLEAN_WIDE_ROOM`] is always enough.
+///
+/// ```
+/// let mut room = [0; lesmutka::CLEAN_WIDE_ROOM];
+/// assert_eq!(lesmutka::clean_wide(&[1, 1, 1], 4, &mut room)?, [7]);
+/// # Ok::<(), lesmutka::Refusal>(())
+/// ```
+pub fn clean_wide<'a>(digits: &[i8], width: u32, out: &'a mut [i8]) -> Result<&'a [i8], Refusal> {
+    let length = written(sys::clean_wide(bytes_of(digits), width, bytes_of_mut(out)))?;
+    Ok(&out[..length])
+}
+
 /// Reads a digit string back: writes the size of its value, and hands it back with the sign.
 ///
 /// # Errors
@@ -182,7 +229,29 @@ pub fn clean<'a>(digits: &[i8], out: &'a mut [i8]) -> Result<&'a [i8], Refusal> 
 /// # Ok::<(), lesmutka::Refusal>(())
 /// ```
 pub fn read_back<'a>(digits: &[i8], out: &'a mut [u8]) -> Result<Value<'a>, Refusal> {
-    let answer = sys::read_back(bytes_of(digits), out);
+    value(sys::read_back(bytes_of(digits), out), out)
+}
+
+/// Reads a wide digit string back: writes the size of its value, and hands it back with the sign, which
+/// need not be that of the top digit.
+///
+/// # Errors
+///
+/// Refusals 3, 5, 4, 6, as for [`clean_wide`]. [`READ_BACK_WIDE_ROOM`] is always enough.
+///
+/// ```
+/// let mut room = [0; lesmutka::READ_BACK_WIDE_ROOM];
+/// assert_eq!(lesmutka::read_back_wide(&[-5, 0, 0, 0, 3], 4, &mut room)?.to_string(), "0x2b");
+/// // 1, -3 from the top
+/// assert_eq!(lesmutka::read_back_wide(&[-3, 1], 3, &mut room)?.to_string(), "-0x01");
+/// # Ok::<(), lesmutka::Refusal>(())
+/// ```
+pub fn read_back_wide<'a>(digits: &[i8], width: u32, out: &'a mut [u8]) -> Result<Value<'a>, Refusal> {
+    value(sys::read_back_wide(bytes_of(digits), width, out), out)
+}
+
+/// The value that an answer says was written.
+fn value(answer: sys::Value, out: &[u8]) -> Result<Value<'_>, Refusal> {
     Refusal::of(answer.refusal, answer.place)?;
     Ok(Value {
         is_negative: answer.sign != 0,

@@ -1,5 +1,5 @@
 //! The methods, by name and by number.
-use crate::{is_blank, small, Refusal, FIXED_WINDOW_BITS, SLIDING_WINDOW_BITS};
+use crate::{is_blank, small, Refusal, FIXED_WINDOW_BITS, LARGEST_WIDTH, LEAST_WIDTH, SLIDING_WINDOW_BITS};
 use core::fmt;
 use core::str::FromStr;
 
@@ -13,6 +13,7 @@ use core::str::FromStr;
 ///
 /// assert_eq!("sliding 4".parse(), Ok(Method::SlidingWindows(4)));
 /// assert_eq!("3 4".parse(), Ok(Method::SlidingWindows(4)));
+/// assert_eq!("wide-naf 5".parse(), Ok(Method::WideNaf(5)));
 /// assert_eq!(Method::SlidingWindows(4).to_string(), "sliding 4");
 /// assert_eq!(Method::try_from((4, 0)), Ok(Method::Naf));
 /// assert!("sliding".parse::<Method>().is_err());
@@ -28,10 +29,12 @@ pub enum Method {
     SlidingWindows(u32),
     /// 4: the non-adjacent form's digits, from the top.
     Naf,
+    /// 5: the digits of the NAF of this width, [`LEAST_WIDTH`] to [`LARGEST_WIDTH`], from the top.
+    WideNaf(u32),
 }
 
 /// How many choices of a method and its width there are.
-const CHOICES: usize = 2 + (FIXED_WINDOW_BITS + SLIDING_WINDOW_BITS) as usize;
+const CHOICES: usize = 2 + (FIXED_WINDOW_BITS + SLIDING_WINDOW_BITS + LARGEST_WIDTH + 1 - LEAST_WIDTH) as usize;
 
 const fn choices() -> [Method; CHOICES] {
     let mut all = [Method::Binary; CHOICES];
@@ -49,6 +52,13 @@ const fn choices() -> [Method; CHOICES] {
         width += 1;
     }
     all[next] = Method::Naf;
+    next += 1;
+    width = LEAST_WIDTH;
+    while width <= LARGEST_WIDTH {
+        all[next] = Method::WideNaf(width);
+        next += 1;
+        width += 1;
+    }
     all
 }
 
@@ -56,30 +66,32 @@ impl Method {
     /// Every method with every width that it allows, in the order of their numbers.
     pub const ALL: &'static [Method] = &choices();
 
-    /// The name: `binary`, `fixed`, `sliding` or `naf`.
+    /// The name: `binary`, `fixed`, `sliding`, `naf` or `wide-naf`.
     pub const fn name(self) -> &'static str {
         match self {
             Method::Binary => "binary",
             Method::FixedWindows(_) => "fixed",
             Method::SlidingWindows(_) => "sliding",
             Method::Naf => "naf",
+            Method::WideNaf(_) => "wide-naf",
         }
     }
 
-    /// The number, 1 to 4.
+    /// The number, 1 to 5.
     pub const fn number(self) -> u32 {
         match self {
             Method::Binary => 1,
             Method::FixedWindows(_) => 2,
             Method::SlidingWindows(_) => 3,
             Method::Naf => 4,
+            Method::WideNaf(_) => 5,
         }
     }
 
     /// The width, 0 for the methods without.
     pub const fn width(self) -> u32 {
         match self {
-            Method::FixedWindows(width) | Method::SlidingWindows(width) => width,
+            Method::FixedWindows(width) | Method::SlidingWindows(width) | Method::WideNaf(width) => width,
             Method::Binary | Method::Naf => 0,
         }
     }
@@ -139,9 +151,9 @@ impl fmt::Display for ParseMethodError {
     fn fmt(&self, f: &mut fmt::Formatter<'_>) -> fmt::Result {
         write!(
             f,
-            "a method is binary, fixed and a width of 1 to {}, sliding and a width of 1 to {}, or naf; \
-             1 to 4 may stand for the names",
-            FIXED_WINDOW_BITS, SLIDING_WINDOW_BITS
+            "a method is binary, fixed and a width of 1 to {}, sliding and a width of 1 to {}, naf, or wide-naf and \
+             a width of {} to {}; 1 to 5 may stand for the names",
+            FIXED_WINDOW_BITS, SLIDING_WINDOW_BITS, LEAST_WIDTH, LARGEST_WIDTH
         )
     }
 }

@@ -125,14 +125,38 @@ extern "C" {
     pub fn lesmutka_recode(number: *const u8, number_length: usize, out: *mut u8, out_length: usize) -> Length;
     /// The same by words. Refused: 1, 13, 6.
     pub fn lesmutka_recode_words(number: *const u8, number_length: usize, out: *mut u8, out_length: usize) -> Length;
+    /// Writes the width-w NAF of a number. Refused: 1, 13, 3, 6.
+    pub fn lesmutka_recode_wide(
+        number: *const u8,
+        number_length: usize,
+        width: u32,
+        out: *mut u8,
+        out_length: usize,
+    ) -> Length;
     /// Starts taking the canonical digits of a number. Refused: 1, 13; the recoder is then that of zero.
     pub fn lesmutka_start(number: *const u8, number_length: usize, recoder: *mut Recoder) -> Started;
     /// Takes the lowest digit that is left: its byte, or [`DONE`].
     pub fn lesmutka_take(recoder: *mut Recoder) -> u32;
     /// Writes the canonical string of a digit string's value. Refused: 5, 4, 6.
     pub fn lesmutka_clean(digits: *const u8, digits_length: usize, out: *mut u8, out_length: usize) -> Length;
+    /// Writes the width-w NAF of a wide digit string's value. Refused: 3, 5, 4, 6.
+    pub fn lesmutka_clean_wide(
+        digits: *const u8,
+        digits_length: usize,
+        width: u32,
+        out: *mut u8,
+        out_length: usize,
+    ) -> Length;
     /// Writes the size of a digit string's value, and answers the sign. Refused: 5, 4, 6.
     pub fn lesmutka_read_back(digits: *const u8, digits_length: usize, out: *mut u8, out_length: usize) -> Value;
+    /// Writes the size of a wide digit string's value, and answers the sign. Refused: 3, 5, 4, 6.
+    pub fn lesmutka_read_back_wide(
+        digits: *const u8,
+        digits_length: usize,
+        width: u32,
+        out: *mut u8,
+        out_length: usize,
+    ) -> Value;
     /// Writes the plan for a number by a method. Refused: 1, 13, 2, 3, 6.
     pub fn lesmutka_plan(
         number: *const u8,
@@ -184,6 +208,12 @@ pub fn recode_words(number: &[u8], out: &mut [u8]) -> Length {
     unsafe { lesmutka_recode_words(number.as_ptr(), number.len(), out.as_mut_ptr(), out.len()) }
 }
 
+/// [`lesmutka_recode_wide`] over slices.
+#[inline]
+pub fn recode_wide(number: &[u8], width: u32, out: &mut [u8]) -> Length {
+    unsafe { lesmutka_recode_wide(number.as_ptr(), number.len(), width, out.as_mut_ptr(), out.len()) }
+}
+
 /// [`lesmutka_start`] over a slice and a reference.
 #[inline]
 pub fn start(number: &[u8], recoder: &mut Recoder) -> Started {
@@ -205,10 +235,22 @@ pub fn clean(digits: &[u8], out: &mut [u8]) -> Length {
     unsafe { lesmutka_clean(digits.as_ptr(), digits.len(), out.as_mut_ptr(), out.len()) }
 }
 
+/// [`lesmutka_clean_wide`] over slices.
+#[inline]
+pub fn clean_wide(digits: &[u8], width: u32, out: &mut [u8]) -> Length {
+    unsafe { lesmutka_clean_wide(digits.as_ptr(), digits.len(), width, out.as_mut_ptr(), out.len()) }
+}
+
 /// [`lesmutka_read_back`] over slices.
 #[inline]
 pub fn read_back(digits: &[u8], out: &mut [u8]) -> Value {
     unsafe { lesmutka_read_back(digits.as_ptr(), digits.len(), out.as_mut_ptr(), out.len()) }
+}
+
+/// [`lesmutka_read_back_wide`] over slices.
+#[inline]
+pub fn read_back_wide(digits: &[u8], width: u32, out: &mut [u8]) -> Value {
+    unsafe { lesmutka_read_back_wide(digits.as_ptr(), digits.len(), width, out.as_mut_ptr(), out.len()) }
 }
 
 /// [`lesmutka_plan`] over slices.

@@ -67,6 +67,60 @@ fn the_two_recodings_agree() {
     }
 }
 
+/// The width-w NAF of a number, most significant digit first.
+fn wide_digits_of(number: &[u8], width: u32) -> Vec<i8> {
+    let mut room = [7; RECODE_ROOM];
+    let mut digits = recode_wide(number, width, &mut room).unwrap().to_vec();
+    assert!(room[digits.len()..].iter().all(|&digit| digit == 7));
+    digits.reverse();
+    digits
+}
+
+#[test]
+fn wide_recoding() {
+    for (width, digits) in [
+        (2, &[1, 0, -1, 0, -1, 0, -1][..]),
+        (3, &[1, 0, 0, -3, 0, 0, 3]),
+        (4, &[3, 0, 0, 0, -5]),
+        (5, &[1, 0, 0, 0, 0, 11]),
+        (6, &[1, 0, 0, 0, 0, 0, -21]),
+        (7, &[43]),
+        (8, &[43]),
+    ] {
+        assert_eq!(wide_digits_of(&[43], width), digits);
+        assert_eq!(wide_digits_of(&[], width), []);
+        assert_eq!(wide_digits_of(&[1], width), [1]);
+        // One digit more than there are bits.
+        let ones = wide_digits_of(&[0xff; NUMBER_BYTES], width);
+        assert_eq!((ones.len(), ones[0], ones[RECODE_ROOM - 1]), (RECODE_ROOM, 1, -1));
+    }
+    let mut noise = Noise(3);
+    for bytes in 0..=NUMBER_BYTES {
+        let number: Vec<u8> = (0..bytes).map(|_| noise.byte()).collect();
+        assert_eq!(wide_digits_of(trimmed(&number), 2), digits_of(trimmed(&number)));
+    }
+}
+
+#[test]
+fn wide_recoding_refused() {
+    let mut room = [7; RECODE_ROOM];
+    for width in [2, 8, 0, 1, 9, 10, 258, u32::MAX] {
+        // Beside a width that is none and no room.
+        let too_long = recode_wide(&[0; NUMBER_BYTES + 1], width, &mut []);
+        assert_eq!(too_long, Err(Refusal::NumberTooLong));
+        assert_eq!(recode_wide(&[43, 0], width, &mut []), Err(Refusal::HighestByteIsZero));
+    }
+    for width in [0, 1, 9, 10, 258, 1 << 31, u32::MAX] {
+        for room in [&mut [][..], &mut room] {
+            assert_eq!(recode_wide(&[43], width, room), Err(Refusal::MethodOrWidth));
+            assert_eq!(recode_wide(&[], width, room), Err(Refusal::MethodOrWidth));
+        }
+    }
+    let small = Err(Refusal::RoomTooSmall { needed: 5 });
+    assert_eq!(recode_wide(&[43], 4, &mut room[..4]), small);
+    assert_eq!(room, [7; RECODE_ROOM]);
+}
+
 #[test]
 fn digits_one_by_one() {
     let longest = [[0xff; NUMBER_BYTES], [0x55; NUMBER_BYTES], [0xaa; NUMBER_BYTES]];
@@ -206,6 +260,83 @@ fn reading_back() {
 }
 
 #[test]
+fn wide_cleaning() {
+    let mut room = [7; CLEAN_WIDE_ROOM];
+    assert_eq!(clean_wide(&[1, 1], 2, &mut room).unwrap(), [-1, 0, 1]);
+    assert_eq!(clean_wide(&[1, 1], 3, &mut room).unwrap(), [3]);
+    assert_eq!(clean_wide(&[3, 3], 3, &mut room).unwrap(), [1, 0, 0, 1]);
+    assert_eq!(clean_wide(&[-3, 1], 3, &mut room).unwrap(), [-1]);
+    assert_eq!(clean_wide(&[5, 0, 0], 4, &mut room).unwrap(), [5]);
+    assert_eq!(clean_wide(&[], 8, &mut []).unwrap(), []);
+    for width in LEAST_WIDTH..=LARGEST_WIDTH {
+        // As many of the largest digits as the width, above a 1: the longest once it is cleaned.
+        let largest = ((1u32 << (width - 1)) - 1) as i8;
+        let mut string = [0; STRING_DIGITS];
+        let top = STRING_DIGITS - width as usize;
+        string[top - 1] = 1;
+        string[top..].fill(largest);
+        let cleaned = clean_wide(&string, width, &mut room).unwrap().to_vec();
+        assert_eq!(cleaned.len(), STRING_DIGITS + width as usize - usize::from(width == 2));
+        assert_eq!(clean_wide(&cleaned, width, &mut room), Err(Refusal::StringTooLong));
+        assert_eq!(read_back_wide(&cleaned, width, &mut []), Err(Refusal::StringTooLong));
+        let small = Err(Refusal::RoomTooSmall { needed: cleaned.len() });
+        assert_eq!(clean_wide(&string, width, &mut room[..cleaned.len() - 1]), small);
+    }
+}
+
+#[test]
+fn wide_reading_back() {
+    let mut room = [7; READ_BACK_WIDE_ROOM];
+    for (digits, width, text) in [
+        (&[-5, 0, 0, 0, 3][..], 4, "0x2b"),
+        (&[-3, 1], 3, "-0x01"),
+        (&[3, -1], 3, "0x01"),
+        (&[-127, 0, 0, 1], 8, "-0x77"),
+        (&[0, 0, 0, 0, 0, 0, 0, 0, -3], 3, "-0x0300"),
+        (&[0, 0], 5, "0"),
+        (&[], 5, "0"),
+    ] {
+        assert_eq!(read_back_wide(digits, width, &mut room).unwrap().to_string(), text);
+    }
+    let largest = read_back_wide(&[127; STRING_DIGITS], 8, &mut room).unwrap();
+    assert_eq!((largest.is_negative, largest.size.len()), (false, READ_BACK_WIDE_ROOM));
+    let value = read_back_wide(&[-127; STRING_DIGITS], 8, &mut room[1..]);
+    let needed = READ_BACK_WIDE_ROOM;
+    assert_eq!(value, Err(Refusal::RoomTooSmall { needed }));
+}
+
+/// Which digits a width has, and the order of the refusals: 3, 5, 4, 6.
+#[test]
+fn wide_digits_refused() {
+    for width in LEAST_WIDTH..=LARGEST_WIDTH {
+        for digit in i8::MIN..=i8::MAX {
+            let is_digit = digit == 0 || (digit % 2 != 0 && u32::from(digit.unsigned_abs()) < 1 << (width - 1));
+            let string = [1, 0, digit, digit, 1];
+            let expected = match is_digit {
+                true => None,
+                false => Some(Refusal::NotADigit { place: 2 }),
+            };
+            assert_eq!(clean_wide(&string, width, &mut [7; 13]).err(), expected);
+            assert_eq!(read_back_wide(&string, width, &mut [7; 2]).err(), expected);
+            let before_room = expected.unwrap_or(Refusal::RoomTooSmall { needed: 1 });
+            assert_eq!(
+                read_back_wide(&string, width, &mut []).err().map(Refusal::number),
+                Some(before_room.number())
+            );
+        }
+        let too_long = [2; STRING_DIGITS + 1];
+        assert_eq!(clean_wide(&too_long, width, &mut []), Err(Refusal::StringTooLong));
+        assert_eq!(read_back_wide(&too_long, width, &mut []), Err(Refusal::StringTooLong));
+    }
+    for width in [0, 1, 9, 10, 258, 1 << 31, u32::MAX] {
+        for string in [&[][..], &[1], &[2], &[2; STRING_DIGITS + 1]] {
+            assert_eq!(clean_wide(string, width, &mut []), Err(Refusal::MethodOrWidth));
+            assert_eq!(read_back_wide(string, width, &mut []), Err(Refusal::MethodOrWidth));
+        }
+    }
+}
+
+#[test]
 fn planning() {
     let mut room = [7; PLAN_ROOM];
     for (method, steps) in [
@@ -213,6 +344,8 @@ fn planning() {
         (Method::FixedWindows(2), 8),
         (Method::SlidingWindows(3), 8),
         (Method::Naf, 9),
+        (Method::WideNaf(2), 9),
+        (Method::WideNaf(4), 9),
     ] {
         let plan = plan(&[43], method, &mut room).unwrap();
         assert_eq!(plan.counts.total(), steps);
@@ -226,6 +359,14 @@ fn planning() {
     }
     let three = plan(&[3], Method::Binary, &mut room).unwrap();
     assert_eq!(three.bytes, [0, 0, 0, 0, 0, 0, 1, 0, 0, 0]);
+    // 3 0 0 0 -5, behind a table of 3, 5 and 7.
+    let wide = plan(&[43], Method::WideNaf(4), &mut room).unwrap().steps();
+    let texts: Vec<String> = wide.map(|step| step.to_string()).collect();
+    let expected = "add(0,0) add(1,0) add(2,1) add(3,1) add(2,2) add(5,5) add(6,6) add(7,7) subtract(8,3)";
+    assert_eq!(texts.join(" "), expected);
+    for width in LEAST_WIDTH..=LARGEST_WIDTH {
+        assert_eq!(plan(&[1], Method::WideNaf(width), &mut []).unwrap().bytes, []);
+    }
 }
 
 #[test]
@@ -248,6 +389,12 @@ fn planning_refused() {
         plan(&[3], Method::SlidingWindows(0), &mut room),
         Err(Refusal::MethodOrWidth)
     );
+    for width in [0, 1, 9, u32::MAX] {
+        assert_eq!(
+            plan(&[3], Method::WideNaf(width), &mut room),
+            Err(Refusal::MethodOrWidth)
+        );
+    }
     assert_eq!(
         plan(&[2], Method::Naf, &mut room),
         Err(Refusal::RoomTooSmall { needed: 5 })
@@ -319,6 +466,8 @@ fn limits_by_number() {
         (RECODE_ROOM, CLEAN_ROOM, READ_BACK_ROOM, PLAN_ROOM),
         (385, 769, 96, 4800)
     );
+    assert_eq!((LEAST_WIDTH, LARGEST_WIDTH), (2, 8));
+    assert_eq!((CLEAN_WIDE_ROOM, READ_BACK_WIDE_ROOM), (776, 97));
     assert_eq!(std::mem::size_of::<sys::Recoder>(), 7 * 8);
 
     for recode in RECODES {
@@ -447,7 +596,10 @@ fn refused_by_every_call(number: &[u8], refusal: usize) {
         };
         assert_eq!(sys::recode(number, &mut out), length, "{:x?}", number);
         assert_eq!(sys::recode_words(number, &mut out), length, "{:x?}", number);
-        for (method, width) in [(1, 0), (2, 6), (3, 6), (4, 0), (0, 0), (4, 1), (5, 0)] {
+        for width in [2, 8, 0, 9] {
+            assert_eq!(sys::recode_wide(number, width, &mut out), length, "{:x?}", number);
+        }
+        for (method, width) in [(1, 0), (2, 6), (3, 6), (4, 0), (5, 4), (0, 0), (4, 1), (5, 0), (6, 0)] {
             assert_eq!(sys::plan(number, method, width, &mut out), counts, "{:x?}", number);
             assert_eq!(sys::forecast(number, method, width), counts, "{:x?}", number);
         }
@@ -461,6 +613,7 @@ fn refused_by_every_call(number: &[u8], refusal: usize) {
     }
     assert_eq!(recode(number, &mut [7; 385]), Err(safe));
     assert_eq!(recode_words(number, &mut [7; 385]), Err(safe));
+    assert_eq!(recode_wide(number, 4, &mut [7; 385]), Err(safe));
     assert_eq!(forecast(number, Method::Naf), Err(safe));
     assert_eq!(digits(number).unwrap_err(), safe);
     // The recoder is that of zero.
@@ -504,8 +657,8 @@ fn refusals_and_parse_errors_are_errors() {
     assert_eq!(words(&Refusal::NumberIsZero), "refused 2, place 0: the number is zero");
     assert_eq!(
         words(&"five".parse::<Method>().unwrap_err()),
-        "a method is binary, fixed and a width of 1 to 6, sliding and a width of 1 to 6, or naf; \
-         1 to 4 may stand for the names"
+        "a method is binary, fixed and a width of 1 to 6, sliding and a width of 1 to 6, naf, or wide-naf and \
+         a width of 2 to 8; 1 to 5 may stand for the names"
     );
     assert_eq!(
         words(&"add".parse::<Step>().unwrap_err()),
@@ -911,7 +1064,7 @@ fn all_methods() {
         }
     }
     assert_eq!(taken, Method::ALL);
-    assert_eq!(taken.len(), 14);
+    assert_eq!(taken.len(), 21);
 }
 
 #[test]
@@ -934,11 +1087,15 @@ fn a_method_as_text() {
         ("naf 0", Method::Naf),
         ("NAF", Method::Naf),
         ("4", Method::Naf),
+        ("wide-naf 2", Method::WideNaf(2)),
+        ("Wide-NAF 8", Method::WideNaf(8)),
+        ("5 4", Method::WideNaf(4)),
     ] {
         assert_eq!(text.parse(), Ok(method), "{:?}", text);
     }
     assert_eq!(Method::Naf.to_string(), "naf");
     assert_eq!(Method::SlidingWindows(4).to_string(), "sliding 4");
+    assert_eq!(Method::WideNaf(4).to_string(), "wide-naf 4");
     assert_eq!(
         (Method::FixedWindows(3).name(), Method::Binary.name()),
         ("fixed", "binary")
@@ -948,10 +1105,18 @@ fn a_method_as_text() {
         " ",
         "0",
         "5",
+        "6",
+        "6 4",
         "257",
         "4294967297",
         "nafs",
         "naf 1",
+        "naf 4",
+        "wide-naf",
+        "wide-naf 1",
+        "wide-naf 9",
+        "wide naf 4",
+        "wide 4",
         "binary 1",
         "fixed",
         "fixed 0",

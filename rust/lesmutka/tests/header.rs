@@ -64,6 +64,8 @@ fn the_rules_say_the_same() {
             ("WORDS_ROOM", constant("LESMUTKA_WORDS_ROOM")),
             ("FIXED_WINDOW_BITS", constant("LESMUTKA_FIXED_WINDOW_BITS")),
             ("SLIDING_WINDOW_BITS", constant("LESMUTKA_SLIDING_WINDOW_BITS")),
+            ("LEAST_WIDTH", constant("LESMUTKA_LEAST_WIDTH")),
+            ("LARGEST_WIDTH", constant("LESMUTKA_LARGEST_WIDTH")),
         ]
     );
 }
@@ -80,6 +82,26 @@ fn widest_windows_agree() {
     ] {
         assert!(forecast(&[43], widest).is_ok());
         assert_eq!(forecast(&[43], wider), Err(Refusal::MethodOrWidth));
+    }
+}
+
+/// The widths of a NAF are taken from the least to the largest, by method 5 and by every call in the wide form;
+/// the next below and above are refused.
+#[test]
+fn widths_agree() {
+    let (least, largest) = (lesmutka::LEAST_WIDTH, lesmutka::LARGEST_WIDTH);
+    assert_eq!(least as usize, constant("LESMUTKA_LEAST_WIDTH"));
+    assert_eq!(largest as usize, constant("LESMUTKA_LARGEST_WIDTH"));
+    for width in least - 1..=largest + 1 {
+        let expected = match (least..=largest).contains(&width) {
+            true => Ok(()),
+            false => Err(Refusal::MethodOrWidth),
+        };
+        let room = &mut [0; 8];
+        assert_eq!(forecast(&[43], Method::WideNaf(width)).map(|_| ()), expected);
+        assert_eq!(lesmutka::recode_wide(&[1], width, room).map(|_| ()), expected);
+        assert_eq!(lesmutka::clean_wide(&[1], width, room).map(|_| ()), expected);
+        assert_eq!(lesmutka::read_back_wide(&[1], width, &mut [0; 8]).map(|_| ()), expected);
     }
 }
 
@@ -161,7 +183,10 @@ fn fields_agree() {
     agree("lesmutka_started", sys::start(&number, &mut recoder));
     agree("lesmutka_length", sys::recode(&number, space));
     agree("lesmutka_length", sys::recode_words(&number, space));
+    agree("lesmutka_length", sys::recode_wide(&number, 2, space));
+    agree("lesmutka_length", sys::clean_wide(&[1], 2, space));
     agree("lesmutka_value", sys::read_back(&[1], space));
+    agree("lesmutka_value", sys::read_back_wide(&[1], 2, space));
     agree("lesmutka_counts", sys::forecast(&number, 1, 0));
     agree(
         "lesmutka_accepted",

@@ -1,5 +1,5 @@
 /* The boundary between C and the library: every constant of the header, layout of the answers, empty buffers,
- * recoders, what a check answers, the reading of text, versions and words. */
+ * recoders, what a check answers, the wide form, the reading of text, versions and words. */
 #include <stdio.h>
 #include <stdlib.h>
 #include <string.h>
@@ -34,6 +34,22 @@ static void widest(uint32_t method, uint32_t width) {
     EXPECT(lesmutka_forecast(number, 1, method, width + 1).refusal == LESMUTKA_METHOD_OR_WIDTH);
 }
 
+/* The widths of a NAF are taken, and no other, those that look like one in their lowest byte included. */
+static void widths(void) {
+    const uint8_t number[] = {43}, digit[] = {1};
+    uint8_t out[8];
+    const uint32_t large[] = {255, 256, 257, 258, 264, UINT32_C(1) << 31, UINT32_MAX};
+    for (uint32_t i = 0; i < LESMUTKA_LARGEST_WIDTH + 3 + sizeof large / sizeof large[0]; i++) {
+        uint32_t width = i < LESMUTKA_LARGEST_WIDTH + 3 ? i : large[i - LESMUTKA_LARGEST_WIDTH - 3];
+        int allowed = width >= LESMUTKA_LEAST_WIDTH && width <= LESMUTKA_LARGEST_WIDTH;
+        size_t refusal = allowed ? 0 : LESMUTKA_METHOD_OR_WIDTH;
+        EXPECT(lesmutka_forecast(number, 1, LESMUTKA_WIDE_NAF, width).refusal == refusal);
+        EXPECT(lesmutka_recode_wide(number, 1, width, out, sizeof out).refusal == refusal);
+        EXPECT(lesmutka_clean_wide(digit, 1, width, out, sizeof out).refusal == refusal);
+        EXPECT(lesmutka_read_back_wide(digit, 1, width, out, sizeof out).refusal == refusal);
+    }
+}
+
 /* A pointer may be NULL where its length is 0. */
 static void empty_buffers(void) {
     const uint8_t one[] = {1};
@@ -47,10 +63,20 @@ static void empty_buffers(void) {
     EXPECT(recoded.refusal == 0 && recoded.place == 0 && recoded.length == 0);
     recoded = lesmutka_recode_words(one, 1, NULL, 0);
     EXPECT(recoded.refusal == LESMUTKA_ROOM_TOO_SMALL && recoded.place == 1 && recoded.length == 0);
+    recoded = lesmutka_recode_wide(NULL, 0, 4, NULL, 0);
+    EXPECT(recoded.refusal == 0 && recoded.place == 0 && recoded.length == 0);
+    recoded = lesmutka_recode_wide(one, 1, 4, NULL, 0);
+    EXPECT(recoded.refusal == LESMUTKA_ROOM_TOO_SMALL && recoded.place == 1 && recoded.length == 0);
     lesmutka_length cleaned = lesmutka_clean(NULL, 0, NULL, 0);
+    EXPECT(cleaned.refusal == 0 && cleaned.place == 0 && cleaned.length == 0);
+    cleaned = lesmutka_clean_wide(NULL, 0, 4, NULL, 0);
     EXPECT(cleaned.refusal == 0 && cleaned.place == 0 && cleaned.length == 0);
     lesmutka_value value = lesmutka_read_back(NULL, 0, NULL, 0);
     EXPECT(value.refusal == 0 && value.place == 0 && value.sign == 0 && value.length == 0);
+    value = lesmutka_read_back_wide(NULL, 0, 4, NULL, 0);
+    EXPECT(value.refusal == 0 && value.place == 0 && value.sign == 0 && value.length == 0);
+    value = lesmutka_read_back_wide(one, 1, 4, NULL, 0);
+    EXPECT(value.refusal == LESMUTKA_ROOM_TOO_SMALL && value.place == 1 && value.sign == 0 && value.length == 0);
     lesmutka_counts planned = lesmutka_plan(NULL, 0, LESMUTKA_BINARY, 0, NULL, 0);
     EXPECT(planned.refusal == LESMUTKA_NUMBER_IS_ZERO && planned.place == 0);
     planned = lesmutka_plan(one, 1, LESMUTKA_BINARY, 0, NULL, 0);
@@ -127,6 +153,27 @@ static void rooms(void) {
     EXPECT(lesmutka_recode_words(number, sizeof number, out, LESMUTKA_RECODE_ROOM - 1).place == LESMUTKA_RECODE_ROOM);
     EXPECT(lesmutka_clean(digits, sizeof digits, out, LESMUTKA_CLEAN_ROOM - 1).place == LESMUTKA_CLEAN_ROOM);
     EXPECT(lesmutka_read_back(digits, sizeof digits, out, LESMUTKA_READ_BACK_ROOM - 1).place == LESMUTKA_READ_BACK_ROOM);
+
+    /* In the wide form: the largest digits have the largest size; as many of them as the width above a 1, and zeros
+     * below, are the longest once they are cleaned. */
+    const uint32_t width = LESMUTKA_LARGEST_WIDTH;
+    for (uint32_t w = LESMUTKA_LEAST_WIDTH; w <= width; w++) {
+        EXPECT(lesmutka_recode_wide(number, sizeof number, w, out, LESMUTKA_RECODE_ROOM).length == LESMUTKA_RECODE_ROOM);
+        EXPECT(lesmutka_recode_wide(number, sizeof number, w, out, LESMUTKA_RECODE_ROOM - 1).place ==
+               LESMUTKA_RECODE_ROOM);
+    }
+    memset(digits, 127, sizeof digits);
+    EXPECT(lesmutka_read_back_wide(digits, sizeof digits, width, out, LESMUTKA_READ_BACK_WIDE_ROOM).length ==
+           LESMUTKA_READ_BACK_WIDE_ROOM);
+    EXPECT(lesmutka_read_back_wide(digits, sizeof digits, width, out, LESMUTKA_READ_BACK_WIDE_ROOM - 1).place ==
+           LESMUTKA_READ_BACK_WIDE_ROOM);
+    memset(digits, 0, sizeof digits - width);
+    digits[sizeof digits - width - 1] = 1;
+    EXPECT(lesmutka_clean_wide(digits, sizeof digits, width, out, LESMUTKA_CLEAN_WIDE_ROOM).length ==
+           LESMUTKA_CLEAN_WIDE_ROOM);
+    EXPECT(lesmutka_clean_wide(out, LESMUTKA_CLEAN_WIDE_ROOM, width, NULL, 0).refusal == LESMUTKA_STRING_TOO_LONG);
+    EXPECT(lesmutka_clean_wide(digits, sizeof digits, width, out, LESMUTKA_CLEAN_WIDE_ROOM - 1).place ==
+           LESMUTKA_CLEAN_WIDE_ROOM);
 }
 
 /* Each method of the header is the one of that name: 43 by widths at which the counts tell them apart. */
@@ -136,10 +183,12 @@ static void methods(void) {
     lesmutka_counts fixed = lesmutka_forecast(number, 1, LESMUTKA_FIXED_WINDOWS, 3);
     lesmutka_counts sliding = lesmutka_forecast(number, 1, LESMUTKA_SLIDING_WINDOWS, 3);
     lesmutka_counts naf = lesmutka_forecast(number, 1, LESMUTKA_NAF, 0);
+    lesmutka_counts wide = lesmutka_forecast(number, 1, LESMUTKA_WIDE_NAF, 4);
     EXPECT(binary.refusal == 0 && binary.doublings == 5 && binary.additions == 3 && binary.subtractions == 0);
     EXPECT(fixed.refusal == 0 && fixed.doublings == 4 && fixed.additions == 6 && fixed.subtractions == 0);
     EXPECT(sliding.refusal == 0 && sliding.doublings == 4 && sliding.additions == 4 && sliding.subtractions == 0);
     EXPECT(naf.refusal == 0 && naf.doublings == 6 && naf.additions == 0 && naf.subtractions == 3);
+    EXPECT(wide.refusal == 0 && wide.doublings == 5 && wide.additions == 3 && wide.subtractions == 1);
 }
 
 /* Each refusal of the header is given where its name says. */
@@ -166,6 +215,25 @@ static void refusals(void) {
     EXPECT(length.refusal == LESMUTKA_ROOM_TOO_SMALL && length.place == 1);
     length = lesmutka_recode_words(one, 1, out, 0);
     EXPECT(length.refusal == LESMUTKA_ROOM_TOO_SMALL && length.place == 1);
+    /* In the wide form, each beside all that are tested later: recode 1, 13, 3, 6; the others 3, 5, 4, 6. */
+    length = lesmutka_recode_wide(number, sizeof number, 9, out, 0);
+    EXPECT(length.refusal == LESMUTKA_NUMBER_TOO_LONG && length.place == 0);
+    length = lesmutka_recode_wide(number, 1, 9, out, 0);
+    EXPECT(length.refusal == LESMUTKA_HIGHEST_BYTE_IS_ZERO && length.place == 0);
+    length = lesmutka_recode_wide(one, 1, 9, out, 0);
+    EXPECT(length.refusal == LESMUTKA_METHOD_OR_WIDTH && length.place == 0);
+    length = lesmutka_clean_wide(digits, sizeof digits, 1, out, 0);
+    EXPECT(length.refusal == LESMUTKA_METHOD_OR_WIDTH && length.place == 0);
+    length = lesmutka_clean_wide(digits, sizeof digits, 8, out, 0);
+    EXPECT(length.refusal == LESMUTKA_STRING_TOO_LONG && length.place == 0);
+    length = lesmutka_clean_wide(digits, LESMUTKA_STRING_DIGITS, 8, out, 0);
+    EXPECT(length.refusal == LESMUTKA_NOT_A_DIGIT && length.place == 3);
+    lesmutka_value value = lesmutka_read_back_wide(digits, sizeof digits, 1, out, 0);
+    EXPECT(value.refusal == LESMUTKA_METHOD_OR_WIDTH && value.place == 0);
+    value = lesmutka_read_back_wide(digits, sizeof digits, 8, out, 0);
+    EXPECT(value.refusal == LESMUTKA_STRING_TOO_LONG && value.place == 0);
+    value = lesmutka_read_back_wide(digits, LESMUTKA_STRING_DIGITS, 8, out, 0);
+    EXPECT(value.refusal == LESMUTKA_NOT_A_DIGIT && value.place == 3 && value.sign == 0 && value.length == 0);
     lesmutka_accepted checked = lesmutka_check(one, 1, plan, LESMUTKA_STEP_BYTES - 1, space, sizeof space);
     EXPECT(checked.refusal == LESMUTKA_PLAN_LENGTH && checked.place == 0);
     checked = lesmutka_check(one, 1, plan, sizeof plan, space, sizeof space);
@@ -286,7 +354,11 @@ static void refused_number(const uint8_t *number, size_t length, size_t refusal)
         EXPECT(recoded.refusal == refusal && recoded.place == 0 && recoded.length == 0);
         recoded = lesmutka_recode_words(number, length, lent, rooms[i]);
         EXPECT(recoded.refusal == refusal && recoded.place == 0 && recoded.length == 0);
-        for (uint32_t method = 0; method <= LESMUTKA_NAF; method++) {
+        for (uint32_t width = LESMUTKA_LEAST_WIDTH - 1; width <= LESMUTKA_LARGEST_WIDTH + 1; width++) {
+            recoded = lesmutka_recode_wide(number, length, width, lent, rooms[i]);
+            EXPECT(recoded.refusal == refusal && recoded.place == 0 && recoded.length == 0);
+        }
+        for (uint32_t method = 0; method <= LESMUTKA_WIDE_NAF; method++) {
             lesmutka_counts counts = lesmutka_plan(number, length, method, 0, lent, rooms[i]);
             EXPECT(counts.refusal == refusal && counts.place == 0);
             EXPECT(counts.doublings == 0 && counts.additions == 0 && counts.subtractions == 0);
@@ -357,6 +429,95 @@ static void two_recodings(void) {
                 }
             }
         }
+    }
+}
+
+/* Clean and read back in the wide form, in every room up to one more than is needed: the digits and the size that a
+ * digit string gives, both lowest first, and the sign; no other byte of the lent buffer changes. */
+static void wide_string(const char *digits, size_t length, uint32_t width, const char *naf, size_t needed, size_t sign,
+                        const char *size, size_t bytes) {
+    const uint8_t *string = (const uint8_t *)digits;
+    for (size_t room = 0; room <= needed + 1; room++) {
+        lend();
+        lesmutka_length cleaned = lesmutka_clean_wide(string, length, width, lent, room);
+        if (room < needed) {
+            EXPECT(cleaned.refusal == LESMUTKA_ROOM_TOO_SMALL && cleaned.place == needed && cleaned.length == 0);
+            EXPECT(changed_only(0));
+        } else {
+            EXPECT(cleaned.refusal == 0 && cleaned.place == 0 && cleaned.length == needed);
+            EXPECT(memcmp(lent, naf, needed) == 0 && changed_only(needed));
+        }
+    }
+    for (size_t room = 0; room <= bytes + 1; room++) {
+        lend();
+        lesmutka_value value = lesmutka_read_back_wide(string, length, width, lent, room);
+        if (room < bytes) {
+            EXPECT(value.refusal == LESMUTKA_ROOM_TOO_SMALL && value.place == bytes);
+            EXPECT(value.sign == 0 && value.length == 0 && changed_only(0));
+        } else {
+            EXPECT(value.refusal == 0 && value.place == 0 && value.sign == sign && value.length == bytes);
+            EXPECT(memcmp(lent, size, bytes) == 0 && changed_only(bytes));
+        }
+    }
+}
+
+/* 43 by every width, into every room up to one more than is needed. */
+static void wide_numbers(void) {
+    const uint8_t number[] = {43};
+    const char *nafs[] = {"\xff\x00\xff\x00\xff\x00\x01", "\x03\x00\x00\xfd\x00\x00\x01", "\xfb\x00\x00\x00\x03",
+                          "\x0b\x00\x00\x00\x00\x01", "\xeb\x00\x00\x00\x00\x00\x01", "\x2b", "\x2b"};
+    const size_t lengths[] = {7, 7, 5, 6, 7, 1, 1};
+    for (uint32_t width = LESMUTKA_LEAST_WIDTH; width <= LESMUTKA_LARGEST_WIDTH; width++) {
+        const char *naf = nafs[width - LESMUTKA_LEAST_WIDTH];
+        size_t needed = lengths[width - LESMUTKA_LEAST_WIDTH];
+        for (size_t room = 0; room <= needed + 1; room++) {
+            lend();
+            lesmutka_length recoded = lesmutka_recode_wide(number, 1, width, lent, room);
+            if (room < needed) {
+                EXPECT(recoded.refusal == LESMUTKA_ROOM_TOO_SMALL && recoded.place == needed && recoded.length == 0);
+                EXPECT(changed_only(0));
+            } else {
+                EXPECT(recoded.refusal == 0 && recoded.place == 0 && recoded.length == needed);
+                EXPECT(memcmp(lent, naf, needed) == 0 && changed_only(needed));
+            }
+        }
+        wide_string(naf, needed, width, naf, needed, 0, "\x2b", 1);
+        /* With width 4 or more, 1 1 1 is 7. */
+        if (width >= 4)
+            wide_string("\x01\x01\x01", 3, width, "\x07", 1, 0, "\x07", 1);
+        wide_string("\x00\x00", 2, width, "", 0, 0, "", 0);
+    }
+    /* A sign that is not the top digit's; two bytes; as many more digits as the width. */
+    wide_string("\xfd\x01", 2, 3, "\xff", 1, 1, "\x01", 1);
+    wide_string("\x03\xff", 2, 3, "\x01", 1, 0, "\x01", 1);
+    wide_string("\x00\x00\x00\x00\x00\x00\x00\x81", 8, 8, "\x00\x00\x00\x00\x00\x00\x00\x81", 8, 1, "\x80\x3f", 2);
+    wide_string("\x01\x03\x03\x03", 4, 3, "\x03\x00\x00\xfd\x00\x00\x01", 7, 0, "\x2b", 1);
+
+    /* Of all bytes, 0 and the odd ones of a size below 2^(w - 1) are digits of width w. */
+    for (uint32_t width = LESMUTKA_LEAST_WIDTH; width <= LESMUTKA_LARGEST_WIDTH; width++)
+        for (int byte = 0; byte < 256; byte++) {
+            int digit = byte < 128 ? byte : byte - 256;
+            int is_digit = digit == 0 || (digit % 2 != 0 && abs(digit) < 1 << (width - 1));
+            const uint8_t string[] = {1, 0, (uint8_t)byte, (uint8_t)byte};
+            lend();
+            lesmutka_length cleaned = lesmutka_clean_wide(string, sizeof string, width, lent, ROOM);
+            EXPECT(cleaned.refusal == (is_digit ? 0 : LESMUTKA_NOT_A_DIGIT) && cleaned.place == (is_digit ? 0 : 2));
+            EXPECT(changed_only(cleaned.length));
+            lend();
+            lesmutka_value value = lesmutka_read_back_wide(string, sizeof string, width, lent, ROOM);
+            EXPECT(value.refusal == (is_digit ? 0 : LESMUTKA_NOT_A_DIGIT) && value.place == (is_digit ? 0 : 2));
+            EXPECT(changed_only(value.length));
+        }
+
+    /* By width 2, a number is recoded as by the plain call. */
+    uint8_t longest[LESMUTKA_NUMBER_BYTES], digits[LESMUTKA_RECODE_ROOM];
+    memset(longest, 0x2b, sizeof longest);
+    for (size_t length = 0; length <= sizeof longest; length++) {
+        size_t needed = lesmutka_recode(longest, length, digits, sizeof digits).length;
+        lend();
+        lesmutka_length recoded = lesmutka_recode_wide(longest, length, 2, lent, ROOM);
+        EXPECT(recoded.refusal == 0 && recoded.length == needed);
+        EXPECT(memcmp(lent, digits, needed) == 0 && changed_only(needed));
     }
 }
 
@@ -611,6 +772,7 @@ int main(void) {
     limits();
     widest(LESMUTKA_FIXED_WINDOWS, LESMUTKA_FIXED_WINDOW_BITS);
     widest(LESMUTKA_SLIDING_WINDOWS, LESMUTKA_SLIDING_WINDOW_BITS);
+    widths();
     empty_buffers();
     recoders();
     rooms();
@@ -620,6 +782,7 @@ int main(void) {
     largest_sizes();
     spellings();
     two_recodings();
+    wide_numbers();
     hexadecimal();
     decimal();
     lengths();

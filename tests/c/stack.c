@@ -41,6 +41,11 @@ static void recode_words(void) {
     answer = lesmutka_recode_words(bytes, length, out, room).refusal;
 }
 
+static void recode_wide(void) {
+    mark();
+    answer = lesmutka_recode_wide(bytes, length, width, out, room).refusal;
+}
+
 static void start(void) {
     mark();
     answer = lesmutka_start(bytes, length, &recoder).refusal;
@@ -54,6 +59,16 @@ static void take(void) {
 static void clean(void) {
     mark();
     answer = lesmutka_clean(bytes, length, out, room).refusal;
+}
+
+static void clean_wide(void) {
+    mark();
+    answer = lesmutka_clean_wide(bytes, length, width, out, room).refusal;
+}
+
+static void read_back_wide(void) {
+    mark();
+    answer = lesmutka_read_back_wide(bytes, length, width, out, room).refusal;
 }
 
 static void read_back(void) {
@@ -157,7 +172,7 @@ static void measure(void (*run)(void), size_t expected) {
 static size_t most_of_all;
 
 static void report(const char *name) {
-    printf("stack: %-12s %4zu bytes\n", name, most);
+    printf("stack: %-14s %4zu bytes\n", name, most);
     if (most > most_of_all)
         most_of_all = most;
     most = 0;
@@ -169,6 +184,27 @@ static void measure_refused(void (*run)(void)) {
     bytes = padded;
     length = sizeof padded;
     measure(run, LESMUTKA_HIGHEST_BYTE_IS_ZERO);
+}
+
+static int is_width(uint32_t bits) {
+    return bits >= LESMUTKA_LEAST_WIDTH && bits <= LESMUTKA_LARGEST_WIDTH;
+}
+
+/* Whether there is this method, and it takes this width. */
+static int is_choice(uint32_t by, uint32_t bits) {
+    switch (by) {
+    case LESMUTKA_BINARY:
+    case LESMUTKA_NAF:
+        return bits == 0;
+    case LESMUTKA_FIXED_WINDOWS:
+        return bits >= 1 && bits <= LESMUTKA_FIXED_WINDOW_BITS;
+    case LESMUTKA_SLIDING_WINDOWS:
+        return bits >= 1 && bits <= LESMUTKA_SLIDING_WINDOW_BITS;
+    case LESMUTKA_WIDE_NAF:
+        return is_width(bits);
+    default:
+        return 0;
+    }
 }
 
 static void numbers(void) {
@@ -192,6 +228,26 @@ static void numbers(void) {
         measure_refused(run);
         report(words ? "recode_words" : "recode");
     }
+
+    /* Every width, also those that are none. */
+    for (width = LESMUTKA_LEAST_WIDTH - 1; width <= LESMUTKA_LARGEST_WIDTH + 1; width++) {
+        for (int i = 0; i < 3; i++) {
+            bytes = number[i];
+            for (length = 1; length <= LESMUTKA_NUMBER_BYTES + 1; length++) {
+                size_t refused = is_width(width) ? 0 : LESMUTKA_METHOD_OR_WIDTH;
+                if (length > LESMUTKA_NUMBER_BYTES)
+                    refused = LESMUTKA_NUMBER_TOO_LONG;
+                room = sizeof out;
+                measure(recode_wide, refused);
+                if (refused == 0)
+                    refused = LESMUTKA_ROOM_TOO_SMALL;
+                room = 0;
+                measure(recode_wide, refused);
+            }
+        }
+        measure_refused(recode_wide);
+    }
+    report("recode_wide");
 
     for (int i = 0; i < 3; i++) {
         bytes = number[i];
@@ -218,11 +274,9 @@ static void numbers(void) {
         for (int i = 0; i < 3; i++) {
             bytes = number[i];
             for (length = 1; length <= LESMUTKA_NUMBER_BYTES; length++)
-                for (method = 0; method <= LESMUTKA_NAF + 1; method++)
-                    for (width = 0; width <= LESMUTKA_FIXED_WINDOW_BITS + 1; width++) {
-                        int windows = method == LESMUTKA_FIXED_WINDOWS || method == LESMUTKA_SLIDING_WINDOWS;
-                        int allowed = windows ? width >= 1 && width <= LESMUTKA_FIXED_WINDOW_BITS
-                                              : width == 0 && (method == LESMUTKA_BINARY || method == LESMUTKA_NAF);
+                for (method = 0; method <= LESMUTKA_WIDE_NAF + 1; method++)
+                    for (width = 0; width <= LESMUTKA_LARGEST_WIDTH + 1; width++) {
+                        int allowed = is_choice(method, width);
                         room = sizeof out;
                         measure(forecasts ? forecast : write_plan, allowed ? 0 : LESMUTKA_METHOD_OR_WIDTH);
                         room = 0;
@@ -251,6 +305,36 @@ static void digit_strings(void) {
         }
         report(cleans ? "clean" : "read_back");
     }
+
+    /* In the wide form: the largest digits, their opposites, digits of every kind; also a width that is none, a byte
+     * that is no digit, and no room. */
+    for (int cleans = 0; cleans < 2; cleans++) {
+        void (*run)(void) = cleans ? clean_wide : read_back_wide;
+        for (width = LESMUTKA_LEAST_WIDTH; width <= LESMUTKA_LARGEST_WIDTH; width++) {
+            uint8_t largest = (uint8_t)((1u << (width - 1)) - 1);
+            memset(digits[0], largest, sizeof digits[0]);
+            memset(digits[1], -largest, sizeof digits[1]);
+            for (size_t i = 0; i < sizeof digits[2]; i++) {
+                uint8_t digit = (uint8_t)((7 * i % largest) | 1);
+                digits[2][i] = (uint8_t)(i % 3 == 0 ? 0 : i % 3 == 1 ? digit : -digit);
+            }
+            for (int i = 0; i < 3; i++) {
+                bytes = digits[i];
+                for (length = 1; length <= LESMUTKA_STRING_DIGITS; length += length < 64 ? 1 : 11) {
+                    room = sizeof out;
+                    measure(run, 0);
+                }
+                length = LESMUTKA_STRING_DIGITS;
+                measure(run, 0);
+                room = 0;
+                measure(run, LESMUTKA_ROOM_TOO_SMALL);
+            }
+            digits[2][LESMUTKA_STRING_DIGITS - 1] = 2;
+            measure(run, LESMUTKA_NOT_A_DIGIT);
+        }
+        measure(run, LESMUTKA_METHOD_OR_WIDTH);
+        report(cleans ? "clean_wide" : "read_back_wide");
+    }
 }
 
 /* Adds a step to the plan. */
@@ -276,8 +360,8 @@ static void checks(void) {
     for (int i = 0; i < 2; i++) {
         memset(number, i == 0 ? 0xff : 0x6d, sizeof number);
         length = sizeof number;
-        for (uint32_t by = LESMUTKA_BINARY; by <= LESMUTKA_NAF; by++)
-            for (uint32_t bits = 0; bits <= LESMUTKA_FIXED_WINDOW_BITS; bits++) {
+        for (uint32_t by = LESMUTKA_BINARY; by <= LESMUTKA_WIDE_NAF; by++)
+            for (uint32_t bits = 0; bits <= LESMUTKA_LARGEST_WIDTH; bits++) {
                 lesmutka_counts counts = lesmutka_plan(number, length, by, bits, steps, sizeof steps);
                 if (counts.refusal != 0)
                     continue;

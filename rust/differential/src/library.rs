@@ -29,6 +29,11 @@ fn counts(counts: sys::Counts) -> Result<Counts, Refusal> {
     })
 }
 
+fn value(value: sys::Value) -> Result<(u8, usize), Refusal> {
+    refused(value.refusal, value.place, &[value.sign, value.length])?;
+    Ok((u8::try_from(value.sign).expect("a sign"), value.length))
+}
+
 pub fn recode(number: &[u8], out: &mut [u8]) -> Result<usize, Refusal> {
     let answer = sys::recode(number, out);
     refused(answer.refusal, answer.place, &[answer.length]).map(|_| answer.length)
@@ -39,15 +44,27 @@ pub fn recode_words(number: &[u8], out: &mut [u8]) -> Result<usize, Refusal> {
     refused(answer.refusal, answer.place, &[answer.length]).map(|_| answer.length)
 }
 
+pub fn recode_wide(number: &[u8], width: u32, out: &mut [u8]) -> Result<usize, Refusal> {
+    let answer = sys::recode_wide(number, width, out);
+    refused(answer.refusal, answer.place, &[answer.length]).map(|_| answer.length)
+}
+
+pub fn clean_wide(digits: &[u8], width: u32, out: &mut [u8]) -> Result<usize, Refusal> {
+    let answer = sys::clean_wide(digits, width, out);
+    refused(answer.refusal, answer.place, &[answer.length]).map(|_| answer.length)
+}
+
+pub fn read_back_wide(digits: &[u8], width: u32, out: &mut [u8]) -> Result<(u8, usize), Refusal> {
+    value(sys::read_back_wide(digits, width, out))
+}
+
 pub fn clean(digits: &[u8], out: &mut [u8]) -> Result<usize, Refusal> {
     let answer = sys::clean(digits, out);
     refused(answer.refusal, answer.place, &[answer.length]).map(|_| answer.length)
 }
 
 pub fn read_back(digits: &[u8], out: &mut [u8]) -> Result<(u8, usize), Refusal> {
-    let answer = sys::read_back(digits, out);
-    refused(answer.refusal, answer.place, &[answer.sign, answer.length])
-        .map(|_| (u8::try_from(answer.sign).expect("a sign"), answer.length))
+    value(sys::read_back(digits, out))
 }
 
 pub fn plan(number: &[u8], method: u32, width: u32, out: &mut [u8]) -> Result<Counts, Refusal> {

@@ -7,8 +7,8 @@ mod memory;
 use lesmutka::sys;
 use memory::Lent;
 use reference::generate::{
-    bit_length, bits_by_sign, corners, hidden_doublings, largest_of, methods, mixed_words, one_bit_apart, trimmed,
-    Generator, Rng,
+    below_power_of_two, bit_length, bits_by_sign, corners, hidden_doublings, largest_of, methods, mixed_words,
+    one_bit_apart, trimmed, Generator, Rng, NO_NAF_WIDTHS,
 };
 use reference::refusal::{HIGHEST_BYTE_IS_ZERO, LAST, MALFORMED_STEP, WRONG_END};
 use reference::{limits, Refusal};
@@ -59,7 +59,7 @@ impl Tally {
     /// another, was not tested.
     fn print(&self, refusals: &[usize]) {
         print!(
-            "{:<11} {:>7} cases: {:>6} answered",
+            "{:<14} {:>7} cases: {:>6} answered",
             self.call,
             self.cases(),
             self.answered
@@ -250,6 +250,162 @@ fn read_back(cases: &mut Generator, rng: &mut Rng) -> Tally {
     calls("read back", rng, next, library::read_back, reference::read_back)
 }
 
+/// A call in the wide form, with the same signature on both sides.
+type WideCall<T> = fn(&[u8], u32, &mut [u8]) -> Result<T, Refusal>;
+
+/// The calls in the wide form, each on both sides.
+const RECODE_WIDE: [WideCall<usize>; 2] = [library::recode_wide, reference::recode_wide];
+const CLEAN_WIDE: [WideCall<usize>; 2] = [library::clean_wide, reference::clean_wide];
+const READ_BACK_WIDE: [WideCall<(u8, usize)>; 2] = [library::read_back_wide, reference::read_back_wide];
+
+fn wide_one<T: PartialEq + Debug>(
+    rng: &mut Rng,
+    tally: &mut Tally,
+    [ours, theirs]: [WideCall<T>; 2],
+    input: &[u8],
+    width: u32,
+    room: usize,
+) {
+    let input = Lent::holding(rng, input);
+    let lent = Lent::noise(rng, room);
+    compare(
+        tally,
+        &[&input],
+        &lent,
+        |out| ours(input.part(), width, out),
+        |out| theirs(input.part(), width, out),
+    );
+}
+
+/// Widths 0 to 10, and some huge ones.
+fn widths() -> impl Iterator<Item = u32> {
+    (0..=10).chain(NO_NAF_WIDTHS.into_iter().filter(|&width| width > 10))
+}
+
+/// Around the numbers whose width-w NAF begins to have one digit more than they have bits: 2^L - 2^(w-1) and its
+/// neighbours, all ones and 2^L, for each L; each with its width.
+fn around_powers_of_two() -> impl Iterator<Item = (Vec<u8>, u32)> {
+    (8..limits::NUMBER_BITS).flat_map(|bits| {
+        limits::NAF_WIDTHS.flat_map(move |width| {
+            let half = 1 << (width - 1);
+            [0, 1, half - 1, half, half + 1].map(|less| (below_power_of_two(bits, less), width))
+        })
+    })
+}
+
+/// Beside the reference, then of width 2 beside recode.
+fn recode_wide(cases: &mut Generator, rng: &mut Rng) -> [Tally; 2] {
+    let mut tally = Tally::new("recode wide");
+    let mut plain = Tally::new("both, width 2");
+    let mut one = |rng: &mut Rng, number: &[u8], width: u32, room: usize| {
+        wide_one(rng, &mut tally, RECODE_WIDE, number, width, room);
+        let width_two: [WideCall<usize>; 2] = [
+            |number, _, out| library::recode_wide(number, 2, out),
+            |number, _, out| library::recode(number, out),
+        ];
+        wide_one(rng, &mut plain, width_two, number, width, room);
+    };
+    for _ in 0..CASES {
+        let case = cases.recode_wide_case();
+        one(rng, &case.number, case.width, case.room);
+    }
+    for number in padded() {
+        for width in [2, 8, 0, 9] {
+            one(rng, &number, width, 0);
+            one(rng, &number, width, limits::RECODE_ROOM);
+        }
+    }
+    for width in widths() {
+        for number in [&[][..], &[1], &[43], &[0xFF; limits::NUMBER_BYTES]] {
+            one(rng, number, width, 0);
+            one(rng, number, width, limits::RECODE_ROOM);
+        }
+    }
+    let needed = |number: &[u8], width: u32| {
+        reference::recode_wide(number, width, &mut [0; limits::RECODE_ROOM]).expect("a number and a width")
+    };
+    for number in (0..=limits::NUMBER_BYTES).flat_map(corners) {
+        for width in limits::NAF_WIDTHS {
+            let needed = needed(&number, width);
+            for room in needed.saturating_sub(2)..=needed + 2 {
+                one(rng, &number, width, room);
+            }
+        }
+    }
+    // Each room up to one more than is needed.
+    for width in limits::NAF_WIDTHS {
+        let number = [0xB7; limits::NUMBER_BYTES];
+        for room in 0..=needed(&number, width) + 1 {
+            one(rng, &number, width, room);
+        }
+    }
+    for (number, width) in mixed_words(NUMBER_WORDS as u32).zip(limits::NAF_WIDTHS.cycle()) {
+        let room = needed(&number, width);
+        one(rng, &number, width, room);
+    }
+    for (number, width) in around_powers_of_two() {
+        one(rng, &number, width, limits::RECODE_ROOM);
+    }
+    [tally, plain]
+}
+
+/// Digit strings that no generator leaves to chance, each with its width: every length up to two more than the
+/// limit, of the largest digits and of their opposites; every byte at the lowest place; a byte that is no digit at
+/// every place, and one more above it; widths that are none, beside every other fault.
+fn wide_strings() -> impl Iterator<Item = (Vec<u8>, u32)> {
+    let largest = |width: u32| (1u8 << (width - 1)) - 1;
+    let lengths = limits::NAF_WIDTHS.flat_map(move |width| {
+        (0..=limits::STRING_DIGITS + 2).flat_map(move |length| {
+            [largest(width), largest(width).wrapping_neg()].map(|digit| (vec![digit; length], width))
+        })
+    });
+    let bytes = limits::NAF_WIDTHS.flat_map(|width| (0..=255).map(move |byte| (vec![byte, 0, 1, byte], width)));
+    let places = (0..limits::STRING_DIGITS).flat_map(move |place| {
+        let width = 2 + place as u32 % 7;
+        [2, 0x80, largest(width) + 1].map(|bad| {
+            let mut string = vec![largest(width); limits::STRING_DIGITS];
+            string[place] = bad;
+            string[limits::STRING_DIGITS - 1] = bad;
+            (string, width)
+        })
+    });
+    let too_long = limits::STRING_DIGITS + 1;
+    let faults = [vec![], vec![1], vec![2], vec![1; too_long], vec![2; too_long]];
+    let refused = widths().flat_map(move |width| faults.clone().map(|string| (string, width)));
+    lengths.chain(bytes).chain(places).chain(refused)
+}
+
+fn clean_wide(cases: &mut Generator, rng: &mut Rng) -> Tally {
+    let mut tally = Tally::new("clean wide");
+    for _ in 0..CASES {
+        let case = cases.clean_wide_case();
+        wide_one(rng, &mut tally, CLEAN_WIDE, &case.digits, case.width, case.room);
+    }
+    for (string, width) in wide_strings() {
+        let needed = reference::clean_wide(&string, width, &mut [0; limits::CLEAN_WIDE_ROOM]).unwrap_or(0);
+        for room in needed.saturating_sub(1)..=needed + 1 {
+            wide_one(rng, &mut tally, CLEAN_WIDE, &string, width, room);
+        }
+    }
+    tally
+}
+
+fn read_back_wide(cases: &mut Generator, rng: &mut Rng) -> Tally {
+    let mut tally = Tally::new("read back wide");
+    for _ in 0..CASES {
+        let case = cases.read_back_wide_case();
+        wide_one(rng, &mut tally, READ_BACK_WIDE, &case.digits, case.width, case.room);
+    }
+    for (string, width) in wide_strings() {
+        let size = &mut [0; limits::READ_BACK_WIDE_ROOM];
+        let needed = reference::read_back_wide(&string, width, size).map_or(0, |(_, length)| length);
+        for room in needed.saturating_sub(1)..=needed + 1 {
+            wide_one(rng, &mut tally, READ_BACK_WIDE, &string, width, room);
+        }
+    }
+    tally
+}
+
 /// A plan that is written goes through the library's own check, which accepts it with the counts of
 /// the forecast, and with the bits that the reference answers.
 fn plan_one(rng: &mut Rng, tally: &mut Tally, number: &[u8], method: u32, width: u32, room: usize) {
@@ -288,10 +444,16 @@ fn plan(cases: &mut Generator, rng: &mut Rng) -> Tally {
         plan_one(rng, &mut tally, &number, method, width, lesmutka::PLAN_ROOM);
     }
     for number in padded() {
-        for (method, width) in [(4, 0), (2, 6), (0, 0)] {
+        for (method, width) in [(4, 0), (2, 6), (5, 8), (0, 0)] {
             plan_one(rng, &mut tally, &number, method, width, lesmutka::PLAN_ROOM);
             plan_one(rng, &mut tally, &number, method, width, 0);
         }
+    }
+    for (number, width) in around_powers_of_two() {
+        plan_one(rng, &mut tally, &number, 5, width, lesmutka::PLAN_ROOM);
+    }
+    for width in widths() {
+        plan_one(rng, &mut tally, &[43], 5, width, lesmutka::PLAN_ROOM);
     }
     tally
 }
@@ -328,9 +490,15 @@ fn forecast(cases: &mut Generator, rng: &mut Rng) -> Tally {
         forecast_one(rng, &mut tally, &number, method, width);
     }
     for number in padded() {
-        for (method, width) in [(4, 0), (2, 6), (0, 0)] {
+        for (method, width) in [(4, 0), (2, 6), (5, 8), (0, 0)] {
             forecast_one(rng, &mut tally, &number, method, width);
         }
+    }
+    for (number, width) in around_powers_of_two() {
+        forecast_one(rng, &mut tally, &number, 5, width);
+    }
+    for width in widths() {
+        forecast_one(rng, &mut tally, &[43], 5, width);
     }
     // Method 1 counts ones by words: each bit alone below the top one, for every length.
     for bytes in 1..=lesmutka::NUMBER_BYTES {
@@ -710,9 +878,14 @@ fn main() {
     for recoding in recode(cases, rng) {
         recoding.print(&[1, 6, 13]);
     }
+    let [wide, width_two] = recode_wide(cases, rng);
+    wide.print(&[1, 3, 6, 13]);
+    width_two.print(&[1, 6, 13]);
     take(cases, rng).print(&[1, 13]);
     clean(cases, rng).print(&[4, 5, 6]);
+    clean_wide(cases, rng).print(&[3, 4, 5, 6]);
     read_back(cases, rng).print(&[4, 5, 6]);
+    read_back_wide(cases, rng).print(&[3, 4, 5, 6]);
     plan(cases, rng).print(&[1, 2, 3, 6, 13]);
     forecast(cases, rng).print(&[1, 2, 3, 13]);
     let checks = check(cases, rng);

@@ -42,10 +42,11 @@ impl WideNaf {
         while rest != [0; N] {
             let digit = lowest_digit(rest[0], width);
             let size = words::from_bytes(&[digit.unsigned_abs()]);
-            rest = match digit < 0 {
-                true => words::add(&rest, &size),
-                false => words::subtract(&rest, &size),
-            };
+            match digit {
+                0 => {}
+                _ if digit > 0 => rest = words::subtract(&rest, &size),
+                _ => rest = words::add(&rest, &size),
+            }
             rest = words::halve(&rest);
             naf.digits[naf.length] = digit;
             naf.length += 1;

@@ -12,7 +12,7 @@ const RUNS: usize = 5;
 /// A request as it is written for a number, least significant byte first.
 type Request = fn(&[u8]) -> String;
 
-const REQUESTS: [(&str, Request); 6] = [
+const REQUESTS: [(&str, Request); 8] = [
     ("forecast 0x.. binary", |number| {
         format!("forecast {} binary", hexadecimal(number))
     }),
@@ -26,7 +26,13 @@ const REQUESTS: [(&str, Request); 6] = [
     ("plan 0x.. binary", |number| {
         format!("plan {} binary", hexadecimal(number))
     }),
+    ("plan 0x.. wide-naf 5", |number| {
+        format!("plan {} wide-naf 5", hexadecimal(number))
+    }),
     ("recode 0x..", |number| format!("recode {}", hexadecimal(number))),
+    ("recode 0x.. --width=5", |number| {
+        format!("recode {} --width=5", hexadecimal(number))
+    }),
 ];
 
 pub fn hexadecimal(number: &[u8]) -> String {

@@ -6,12 +6,13 @@
 //! safe Rust. For take, whose work is as small as its call, there is a plain side that was made as
 //! fast as its author could, called and inlined (`tuned`). For forecasts by method 1, which are as
 //! short, there are tables of their own (`forecasts`), and for recodings, beside several plain programs
-//! (`recodings`).
+//! (`recodings`, and `wide` for those in the wide form).
 mod forecasts;
 mod lines;
 mod recodings;
 mod tuned;
 mod ways;
+mod wide;
 
 use lesmutka::sys;
 use reference::generate::Rng;
@@ -25,12 +26,17 @@ const ROUNDS: usize = 400;
 const SIZES: [usize; 2] = [32, lesmutka::NUMBER_BYTES];
 
 /// The methods, each with a width that it allows.
-const METHODS: [(&str, u32, u32); 4] = [
+const METHODS: [(&str, u32, u32); 5] = [
     ("binary", 1, 0),
     ("fixed windows 4", 2, 4),
     ("sliding windows 4", 3, 4),
     ("NAF", 4, 0),
+    ("wide NAF 5", 5, WIDTH),
 ];
+
+/// The width of the digit strings in the wide form, and those by which numbers are recoded into it.
+const WIDTH: u32 = 5;
+const WIDTHS: [u32; 3] = [4, WIDTH, 6];
 
 /// One job on both sides: each runs all inputs.
 struct Job<'a> {
@@ -122,6 +128,9 @@ pub struct Inputs {
     canonicals: Vec<Vec<u8>>,
     /// Strings of a digit for each bit, none of them better than another.
     strings: Vec<Vec<u8>>,
+    /// The same in the wide form.
+    wide_nafs: Vec<Vec<u8>>,
+    wide_strings: Vec<Vec<u8>>,
     /// Plans of the longest kind: 20 steps for each byte, so as many as there may be for the longest
     /// number.
     plans: Vec<Vec<u8>>,
@@ -138,10 +147,13 @@ impl Inputs {
         };
         let numbers: Vec<Vec<u8>> = (0..INPUTS).map(|_| number(rng)).collect();
         let string = |rng: &mut Rng| (0..8 * bytes).map(|_| [0, 1, 255][rng.below(3)]).collect();
+        let wide_string = |rng: &mut Rng| (0..8 * bytes).map(|_| wide_digit(rng)).collect();
         Inputs {
             bytes,
             canonicals: numbers.iter().map(|number| canonical(number)).collect(),
             strings: (0..INPUTS).map(|_| string(rng)).collect(),
+            wide_nafs: numbers.iter().map(|number| wide_naf(number)).collect(),
+            wide_strings: (0..INPUTS).map(|_| wide_string(rng)).collect(),
             plans: numbers.iter().map(|number| plan_of(number, 20 * bytes)).collect(),
             decimals: numbers.iter().map(|number| lines::decimal(number)).collect(),
             hexadecimals: numbers.iter().map(|number| lines::hexadecimal(number)).collect(),
@@ -154,6 +166,21 @@ fn canonical(number: &[u8]) -> Vec<u8> {
     let mut out = [0; lesmutka::RECODE_ROOM];
     let length = reference::recode(number, &mut out).unwrap();
     out[..length].to_vec()
+}
+
+fn wide_naf(number: &[u8]) -> Vec<u8> {
+    let mut out = [0; lesmutka::RECODE_ROOM];
+    let length = reference::recode_wide(number, WIDTH, &mut out).unwrap();
+    out[..length].to_vec()
+}
+
+/// 0, or an odd number of a size below 2^(w-1), none of them better than another.
+fn wide_digit(rng: &mut Rng) -> u8 {
+    let half = 1 << (WIDTH - 1);
+    match rng.below(half + 1) {
+        0 => 0,
+        i => (2 * i as i32 - 1 - half as i32) as u8,
+    }
 }
 
 /// A plan of this many steps for a number: doublings of position 0, then the binary method's steps.
@@ -227,6 +254,18 @@ fn agree(inputs: &Inputs, i: usize) {
         Ok((value.sign as u8, value.length)),
         reference::read_back(canonical, &mut b)
     );
+    let (naf, string) = (&inputs.wide_nafs[i], &inputs.wide_strings[i]);
+    for width in WIDTHS {
+        let length = sys::recode_wide(number, width, &mut a);
+        assert_eq!(Ok(length.length), reference::recode_wide(number, width, &mut b));
+    }
+    let length = sys::clean_wide(string, WIDTH, &mut a);
+    assert_eq!(Ok(length.length), reference::clean_wide(string, WIDTH, &mut b));
+    assert_eq!(Ok(length.length), wide::cleaned_by_sums(string, WIDTH, &mut b));
+    let value = sys::read_back_wide(naf, WIDTH, &mut a);
+    let value = Ok((value.sign as u8, value.length));
+    assert_eq!(value, reference::read_back_wide(naf, WIDTH, &mut b));
+    assert_eq!(value, wide::read_by_bytes(naf, WIDTH, &mut b));
     for (_, method, width) in METHODS {
         let forecast = sys::forecast(number, method, width);
         assert_eq!(sys::plan(number, method, width, &mut a), forecast);
@@ -266,6 +305,8 @@ fn jobs(inputs: &Inputs) -> Vec<Job<'_>> {
         numbers,
         canonicals,
         strings,
+        wide_nafs,
+        wide_strings,
         plans,
         decimals,
         hexadecimals,
@@ -309,6 +350,38 @@ fn jobs(inputs: &Inputs) -> Vec<Job<'_>> {
         "read back, the NAF",
         move |i| keep(&sys::read_back(&canonicals[i], &mut a)),
         move |i| keep(&reference::read_back(&canonicals[i], &mut b)),
+    ));
+    for width in WIDTHS {
+        let (mut a, mut b) = (vec![0; ROOM], vec![0; ROOM]);
+        jobs.push(Job::new(
+            &format!("recode wide {}", width),
+            move |i| keep(&sys::recode_wide(&numbers[i], width, &mut a)),
+            move |i| keep(&reference::recode_wide(&numbers[i], width, &mut b)),
+        ));
+    }
+    let (mut a, mut b) = (vec![0; ROOM], vec![0; ROOM]);
+    jobs.push(Job::new(
+        &format!("clean wide {}, {} digits", WIDTH, 8 * bytes),
+        move |i| keep(&sys::clean_wide(&wide_strings[i], WIDTH, &mut a)),
+        move |i| keep(&reference::clean_wide(&wide_strings[i], WIDTH, &mut b)),
+    ));
+    let (mut a, mut b) = (vec![0; ROOM], vec![0; ROOM]);
+    jobs.push(Job::new(
+        "same, plain one tuned",
+        move |i| keep(&sys::clean_wide(&wide_strings[i], WIDTH, &mut a)),
+        move |i| keep(&wide::cleaned_by_sums(&wide_strings[i], WIDTH, &mut b)),
+    ));
+    let (mut a, mut b) = (vec![0; ROOM], vec![0; ROOM]);
+    jobs.push(Job::new(
+        &format!("read back wide {}, the NAF", WIDTH),
+        move |i| keep(&sys::read_back_wide(&wide_nafs[i], WIDTH, &mut a)),
+        move |i| keep(&reference::read_back_wide(&wide_nafs[i], WIDTH, &mut b)),
+    ));
+    let (mut a, mut b) = (vec![0; ROOM], vec![0; ROOM]);
+    jobs.push(Job::new(
+        "same, plain one tuned",
+        move |i| keep(&sys::read_back_wide(&wide_nafs[i], WIDTH, &mut a)),
+        move |i| keep(&wide::read_by_bytes(&wide_nafs[i], WIDTH, &mut b)),
     ));
     for (name, method, width) in METHODS {
         let (mut a, mut b) = (vec![0; ROOM], vec![0; ROOM]);
@@ -379,5 +452,6 @@ fn main() {
     }
     forecasts::print(&sizes);
     recodings::print(rng);
+    wide::print(&sizes);
     lines::print(&sizes);
 }

@@ -16,7 +16,7 @@ const PASSES: usize = 4;
 const NUMBER_WORDS: usize = NUMBER_BYTES / 8;
 
 /// Refusals 1 and 13.
-fn admitted(number: &[u8]) -> Result<(), Refusal> {
+pub fn admitted(number: &[u8]) -> Result<(), Refusal> {
     let number = match number.last() {
         _ if number.len() > NUMBER_BYTES => NUMBER_TOO_LONG,
         Some(0) => HIGHEST_BYTE_IS_ZERO,
@@ -26,7 +26,7 @@ fn admitted(number: &[u8]) -> Result<(), Refusal> {
 }
 
 /// The bytes to write, or refusal 6.
-fn room(out: &mut [u8], needed: usize) -> Result<&mut [u8], Refusal> {
+pub fn room(out: &mut [u8], needed: usize) -> Result<&mut [u8], Refusal> {
     out.get_mut(..needed).ok_or(Refusal {
         number: ROOM_TOO_SMALL,
         place: needed,
@@ -34,7 +34,7 @@ fn room(out: &mut [u8], needed: usize) -> Result<&mut [u8], Refusal> {
 }
 
 /// The words of a number within the limit, and at least one that is 0 above them.
-fn words_of<const N: usize>(number: &[u8]) -> [u64; N] {
+pub fn words_of<const N: usize>(number: &[u8]) -> [u64; N] {
     let mut words = [0; N];
     let eights = number.chunks_exact(8);
     let rest = eights.remainder().iter().rev();

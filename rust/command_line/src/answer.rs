@@ -37,8 +37,8 @@ pub struct Answered<'a> {
 pub struct Desk {
     number: Vec<u8>,
     digits_in: Vec<i8>,
-    digits: [i8; lesmutka::CLEAN_ROOM],
-    size: [u8; lesmutka::READ_BACK_ROOM],
+    digits: [i8; lesmutka::CLEAN_WIDE_ROOM],
+    size: [u8; lesmutka::READ_BACK_WIDE_ROOM],
     plan: [u8; lesmutka::PLAN_ROOM],
     pub space: [u8; lesmutka::work_space(lesmutka::PLAN_STEPS)],
 }
@@ -48,8 +48,8 @@ impl Desk {
         Desk {
             number: Vec::new(),
             digits_in: Vec::new(),
-            digits: [0; lesmutka::CLEAN_ROOM],
-            size: [0; lesmutka::READ_BACK_ROOM],
+            digits: [0; lesmutka::CLEAN_WIDE_ROOM],
+            size: [0; lesmutka::READ_BACK_WIDE_ROOM],
             plan: [0; lesmutka::PLAN_ROOM],
             space: [0; lesmutka::work_space(lesmutka::PLAN_STEPS)],
         }
@@ -59,21 +59,29 @@ impl Desk {
     /// comes back.
     pub fn answer(&mut self, request: &Request) -> Answered<'_> {
         let word = match request {
-            Request::Recode { number }
+            Request::Recode { number, .. }
             | Request::Forecast { number, .. }
             | Request::Plan { number, .. }
             | Request::Check { number, .. } => number,
-            Request::Clean { digits } => {
-                let read = read_digits(digits, &mut self.digits_in);
-                let answer = lesmutka::clean(read, &mut self.digits).map(Answer::Digits);
+            Request::Clean { digits, width } => {
+                let read = read_digits(digits, width.is_some(), &mut self.digits_in);
+                let answer = match width {
+                    Some(width) => lesmutka::clean_wide(read, width.value, &mut self.digits),
+                    None => lesmutka::clean(read, &mut self.digits),
+                }
+                .map(Answer::Digits);
                 return Answered {
                     number: None,
                     outcome: Ok(answer.unwrap_or_else(|refusal| refused_digits(refusal, digits))),
                 };
             }
-            Request::ReadBack { digits } => {
-                let read = read_digits(digits, &mut self.digits_in);
-                let answer = lesmutka::read_back(read, &mut self.size).map(Answer::Value);
+            Request::ReadBack { digits, width } => {
+                let read = read_digits(digits, width.is_some(), &mut self.digits_in);
+                let answer = match width {
+                    Some(width) => lesmutka::read_back_wide(read, width.value, &mut self.size),
+                    None => lesmutka::read_back(read, &mut self.size),
+                }
+                .map(Answer::Value);
                 return Answered {
                     number: None,
                     outcome: Ok(answer.unwrap_or_else(|refusal| refused_digits(refusal, digits))),
@@ -126,7 +134,13 @@ impl Desk {
                 },
                 Err(refusal) => Answer::from(refusal),
             }),
-            _ => Ok(lesmutka::recode_words(number, &mut self.digits).map_or_else(Answer::from, Answer::Digits)),
+            _ => {
+                let answer = match request.width() {
+                    Some(width) => lesmutka::recode_wide(number, width.value, &mut self.digits),
+                    None => lesmutka::recode_words(number, &mut self.digits),
+                };
+                Ok(answer.map_or_else(Answer::from, Answer::Digits))
+            }
         };
         Answered {
             number: Some(number),
@@ -166,9 +180,14 @@ fn no_number(word: &[u8]) -> Fault {
     }
 }
 
-/// The digits that words stand for, by the library's reader. A word may hold several, with blanks
-/// between them.
-fn read_digits<'a>(words: &[&[u8]], digits: &'a mut Vec<i8>) -> &'a [i8] {
+/// The digits that words stand for. A word may hold several, with blanks between them. The library's reader
+/// reads 0, 1 and -1; those of the wide form are read here.
+fn read_digits<'a>(words: &[&[u8]], is_wide: bool, digits: &'a mut Vec<i8>) -> &'a [i8] {
+    if is_wide {
+        digits.clear();
+        digits.extend(digit_words(words).rev().map(wide_digit));
+        return digits;
+    }
     let text = words.join(&b' ');
     let room = lesmutka::text_room(text.len());
     if digits.len() < room {
@@ -177,11 +196,27 @@ fn read_digits<'a>(words: &[&[u8]], digits: &'a mut Vec<i8>) -> &'a [i8] {
     lesmutka::read_digits(&text, digits).expect("there is room for every text of this length")
 }
 
+/// The words of digits, the most significant first.
+fn digit_words<'a>(words: &'a [&[u8]]) -> impl DoubleEndedIterator<Item = &'a [u8]> {
+    let all = words.iter().flat_map(|word| word.split(|&byte| is_blank(byte)));
+    all.filter(|word| !word.is_empty())
+}
+
+/// A number from -127 to 127, spelled as it is printed. Any other word is 2, which is no digit of any width,
+/// so that the call refuses it with its place.
+fn wide_digit(word: &[u8]) -> i8 {
+    let read = || -> Option<i8> {
+        let text = std::str::from_utf8(word).ok()?;
+        let digit: i8 = text.parse().ok()?;
+        Some(digit).filter(|digit| *digit > i8::MIN && digit.to_string() == text)
+    };
+    read().unwrap_or(2)
+}
+
 /// A refusal of digits, with the word at its place, which counts from the last.
 fn refused_digits<'a>(refusal: Refusal, words: &[&[u8]]) -> Answer<'a> {
-    let all = words.iter().flat_map(|word| word.split(|&byte| is_blank(byte)));
     let word = match refusal {
-        Refusal::NotADigit { place } => all.filter(|word| !word.is_empty()).rev().nth(place),
+        Refusal::NotADigit { place } => digit_words(words).rev().nth(place),
         _ => None,
     };
     Answer::Refused(Refused {

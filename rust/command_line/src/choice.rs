@@ -31,6 +31,11 @@ impl<'a> Small<'a> {
         })
     }
 
+    /// A width, which is such a number.
+    pub fn width(word: &'a [u8]) -> Result<Small<'a>, Fault> {
+        Small::read(word).ok_or_else(|| Fault::word("no width, which is a decimal number", word))
+    }
+
     /// The digits of a number that is larger than its value.
     pub fn large(self) -> Option<&'a [u8]> {
         Some(self.digits).filter(|digits| self.value == u32::MAX && !digits.is_empty())
@@ -69,7 +74,7 @@ impl<'a> Choice<'a> {
             })?,
         };
         let width = match width {
-            Some(word) => Small::read(word).ok_or_else(|| Fault::word("no width, which is a decimal number", word))?,
+            Some(word) => Small::width(word)?,
             None => Small::of(0),
         };
         Ok(Choice { method, width })

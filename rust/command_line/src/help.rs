@@ -13,10 +13,11 @@ const WORDS: [(&str, &str); 5] = [
     ),
     (
         "DIGITS",
-        "0, 1 or -1 each, most significant first; the last has place 0.",
+        "0, 1 or -1 each, most significant first; the last has place 0. With\n        \
+         --width=W, 0 or an odd number of a size below 2^(W - 1) each.",
     ),
     ("METHOD", "a name or a number; `lesmutka methods` lists them."),
-    ("WIDTH", "the bits of a window."),
+    ("WIDTH", "the bits of a window, or the width of a wide NAF."),
     (
         "FILE",
         "a plan: its bytes, or its steps as text, as `plan` prints them.\n        \
@@ -24,7 +25,11 @@ const WORDS: [(&str, &str); 5] = [
     ),
 ];
 
-const OPTIONS: [(&str, &str); 6] = [
+const OPTIONS: [(&str, &str); 7] = [
+    (
+        "--width=W",
+        "recode, clean, read-back: in the wide form, the NAF of width W",
+    ),
     ("--json", "one object a line, the same fields everywhere"),
     ("--force", "plan ... to FILE replaces a file that is there"),
     ("--dot", "show: the chain as a graph for Graphviz"),
@@ -41,8 +46,8 @@ program failed; of a batch, the highest.
 const BATCH: &str = "\
 Each answer begins with the number of its line. A word that begins with #
 begins a comment; a line without words has no answer. --json and --force on
-the command line are for all lines; --force may also stand on a line. A closing
-line on standard error says how many requests there were.
+the command line are for all lines; --force and --width may stand on a line. A
+closing line on standard error says how many requests there were.
 ";
 
 fn put_words(out: &mut Vec<u8>, is_meant: impl Fn(&str) -> bool) {

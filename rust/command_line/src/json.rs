@@ -1,7 +1,7 @@
 //! Answers as JSON: objects that all have the same fields, one a line; and the reading of one back.
 use crate::answer::{Answer, Answered, Refused};
 use crate::choice::Choice;
-use crate::print::{put_bytes, put_digits, put_method, put_number, put_value, reason, Status};
+use crate::print::{put_bytes, put_digits, put_method, put_number, put_value, reason, About, Status};
 use crate::request::Request;
 use crate::steps::{put_steps, Frame};
 use lesmutka::{Counts, Value};
@@ -13,8 +13,7 @@ pub struct Fields<'a> {
     line: Option<u64>,
     request: Option<&'a str>,
     status: Status,
-    pub number: Option<&'a [u8]>,
-    pub choice: Option<Choice<'a>>,
+    about: About<'a>,
     pub digits: Option<&'a [i8]>,
     pub value: Option<Value<'a>>,
     pub counts: Option<Counts>,
@@ -32,8 +31,7 @@ impl<'a> Fields<'a> {
             line,
             request,
             status,
-            number: None,
-            choice: None,
+            about: About::default(),
             digits: None,
             value: None,
             counts: None,
@@ -49,8 +47,7 @@ impl<'a> Fields<'a> {
     /// What a request came to.
     pub fn of(line: Option<u64>, request: &'a Request, answered: &'a Answered, status: Status) -> Fields<'a> {
         let mut fields = Fields::new(line, Some(request.verb()), status);
-        fields.number = answered.number;
-        fields.choice = request.choice();
+        fields.about = About::of(request, answered);
         fields.file = request.file().map(|file| file.as_bytes());
         match &answered.outcome {
             Ok(Answer::Digits(digits)) => fields.digits = Some(digits),
@@ -71,6 +68,13 @@ impl<'a> Fields<'a> {
         fields
     }
 
+    /// A method with its width.
+    pub fn of_choice(request: &'a str, choice: Choice<'a>) -> Fields<'a> {
+        let mut fields = Fields::new(None, Some(request), Status::Answered);
+        fields.about.choice = Some(choice);
+        fields
+    }
+
     pub fn put(&self, out: &mut Vec<u8>) {
         out.extend_from_slice(b"{\"line\":");
         put_or_null(self.line, out, put_number);
@@ -79,17 +83,18 @@ impl<'a> Fields<'a> {
         out.extend_from_slice(b",\"status\":");
         put_text(self.status.name(), out);
         out.extend_from_slice(b",\"number\":");
-        put_or_null(self.number, out, |number, out| {
+        put_or_null(self.about.number, out, |number, out| {
             in_quotes(out, |out| put_bytes(number, out))
         });
         out.extend_from_slice(b",\"method\":");
-        put_or_null(self.choice, out, |choice, out| {
+        put_or_null(self.about.choice, out, |choice, out| {
             in_quotes(out, |out| put_method(choice, out))
         });
         out.extend_from_slice(b",\"width\":");
-        put_or_null(self.choice, out, |choice, out| match choice.width.large() {
+        let width = self.about.choice.map(|choice| choice.width).or(self.about.width);
+        put_or_null(width, out, |width, out| match width.large() {
             Some(digits) => out.extend_from_slice(digits),
-            None => put_number(u64::from(choice.width.value), out),
+            None => put_number(u64::from(width.value), out),
         });
         out.extend_from_slice(b",\"digits\":");
         put_or_null(self.digits, out, |digits, out| {
@@ -129,7 +134,7 @@ impl<'a> Fields<'a> {
         out.extend_from_slice(b",\"place\":");
         put_or_null(refusal.map(|refusal| refusal.place() as u64), out, put_number);
         out.extend_from_slice(b",\"message\":");
-        let reason = self.refused.map(|refused| reason(refused, self.number, self.choice));
+        let reason = self.refused.map(|refused| reason(refused, self.about));
         put_or_null(reason.as_deref().or(self.message.as_deref()), out, put_text);
         out.extend_from_slice(b"}\n");
     }

@@ -1,8 +1,9 @@
 //! The program `lesmutka`: the calls of the proved library, asked for by words and answered by lines.
 //!
 //! A request is taken apart by [`request`], answered by [`answer`] and printed by [`print`]. What a
-//! person types reaches a call only through the library's proved readers of numbers, digits and steps;
-//! all other words stand in lists and are compared whole, names of methods in capitals or not.
+//! person types reaches a call only through the library's proved readers of numbers, digits and steps,
+//! but for the digits of the wide form, which are read here; all other words stand in lists and are
+//! compared whole, names of methods in capitals or not.
 mod answer;
 mod batch;
 mod choice;
@@ -54,16 +55,16 @@ fn run(words: &Words, out: &mut Vec<u8>) -> Result<Status, Fault> {
         plain if words.help => help::put_help(plain, out)?,
         _ if words.version => {
             words.check_length(0)?;
-            words.check_options(false, false)?;
+            words.check_options(&[])?;
             help::put_version(out);
         }
         [b"help", about @ ..] => help::put_help(about, out)?,
         [b"methods"] => {
-            words.check_options(false, false)?;
+            words.check_options(&[])?;
             print::put_methods(words.json, out);
         }
         [b"batch" | b"-"] => {
-            words.check_options(true, false)?;
+            words.check_options(&["--force"])?;
             return Ok(batch::run(words));
         }
         _ => return answer(words, out),

@@ -1,6 +1,6 @@
 //! Answers as lines of words, and what words and JSON share.
 use crate::answer::{Answer, Answered, Refused};
-use crate::choice::{methods, widths, Choice};
+use crate::choice::{methods, widths, Choice, Small};
 use crate::fault::{Fault, Shown};
 use crate::json::Fields;
 use crate::request::Request;
@@ -73,13 +73,10 @@ impl Form {
 
     fn words(&self, request: &Request, answered: &Answered, out: &mut Vec<u8>) {
         self.put_line(out);
-        if let Some(number) = answered.number {
-            put_bytes(number, out);
-            if let Some(choice) = request.choice() {
-                out.extend_from_slice(b" by ");
-                put_choice(choice, out);
-            }
-            out.extend_from_slice(b": ");
+        let about = About::of(request, answered);
+        // Of a number that was not read nothing is known.
+        if about.number.is_some() || answered.outcome.is_ok() {
+            about.put(out);
         }
         match &answered.outcome {
             Ok(Answer::Digits(digits)) => {
@@ -113,7 +110,7 @@ impl Form {
                 out.extend_from_slice(b"accepted: ");
                 put_accepted(*accepted, out);
             }
-            Ok(Answer::Refused(refused)) => put_refusal(refused, answered.number, request.choice(), out),
+            Ok(Answer::Refused(refused)) => put_refusal(refused, about, out),
             Err(fault) => {
                 let _ = write!(out, "{}: {}", fault.status().name(), fault);
             }
@@ -122,18 +119,53 @@ impl Form {
     }
 }
 
-pub fn put_refusal(refused: &Refused, number: Option<&[u8]>, choice: Option<Choice>, out: &mut Vec<u8>) {
-    let (refusal, place) = (refused.refusal.number(), refused.refusal.place());
-    let reason = reason(refused, number, choice);
-    let _ = write!(out, "refused {}, place {}: {}", refusal, place, reason);
+/// What an answer is about: a number, and the method or the width that is asked for.
+#[derive(Clone, Copy, Default)]
+pub struct About<'a> {
+    pub number: Option<&'a [u8]>,
+    pub choice: Option<Choice<'a>>,
+    /// The width of the wide form.
+    pub width: Option<Small<'a>>,
 }
 
-/// What a refusal of this number and method says, what is allowed where something is not, and the word
-/// behind it.
-pub fn reason(refused: &Refused, number: Option<&[u8]>, choice: Option<Choice>) -> String {
+impl<'a> About<'a> {
+    pub fn of(request: &Request<'a>, answered: &Answered<'a>) -> About<'a> {
+        About {
+            number: answered.number,
+            choice: request.choice(),
+            width: request.width(),
+        }
+    }
+
+    /// Puts it in front of the answer.
+    fn put(self, out: &mut Vec<u8>) {
+        if let Some(number) = self.number {
+            put_bytes(number, out);
+            if let Some(choice) = self.choice {
+                out.extend_from_slice(b" by ");
+                put_choice(choice, out);
+            }
+        }
+        if let Some(width) = self.width {
+            out.extend_from_slice(if self.number.is_some() { b", width " } else { b"width " });
+            put_small(width, out);
+        }
+        if self.number.is_some() || self.width.is_some() {
+            out.extend_from_slice(b": ");
+        }
+    }
+}
+
+pub fn put_refusal(refused: &Refused, about: About, out: &mut Vec<u8>) {
+    let (refusal, place) = (refused.refusal.number(), refused.refusal.place());
+    let _ = write!(out, "refused {}, place {}: {}", refusal, place, reason(refused, about));
+}
+
+/// What a refusal says, what is allowed where something is not, and the word behind it.
+pub fn reason(refused: &Refused, about: About) -> String {
     let allowed = match refused.refusal {
         Refusal::NumberTooLong => Some(format!("a number has at most {} bytes", lesmutka::NUMBER_BYTES)),
-        Refusal::NotADigit { .. } => Some("the digits are 0, 1 and -1".to_string()),
+        Refusal::NotADigit { .. } => Some(digits_of(about.width)),
         Refusal::StringTooLong => Some(format!("at most {} digits", lesmutka::STRING_DIGITS)),
         Refusal::PlanLength => Some(format!(
             "a step has {} bytes, and a plan at most {} steps",
@@ -141,8 +173,15 @@ pub fn reason(refused: &Refused, number: Option<&[u8]>, choice: Option<Choice>) 
             lesmutka::PLAN_STEPS
         )),
         Refusal::ValueTooLarge { .. } => Some(format!("a size is below 2^{}", 8 * lesmutka::VALUE_BYTES)),
-        Refusal::MethodOrWidth => choice.map(Choice::allowed),
-        Refusal::HighestByteIsZero => number.map(|number| format!("write {}", spelling(number))),
+        Refusal::MethodOrWidth => match about.choice {
+            Some(choice) => Some(choice.allowed()),
+            None => Some(format!(
+                "a NAF has a width from {} to {}",
+                lesmutka::LEAST_WIDTH,
+                lesmutka::LARGEST_WIDTH
+            )),
+        },
+        Refusal::HighestByteIsZero => about.number.map(|number| format!("write {}", spelling(number))),
         _ => None,
     };
     let word = refused.word.as_ref().map(|word| format!("it is `{}`", Shown(word)));
@@ -155,13 +194,26 @@ pub fn reason(refused: &Refused, number: Option<&[u8]>, choice: Option<Choice>) 
         .join("; ")
 }
 
+/// Which digits there are, in the wide form or without a width.
+fn digits_of(width: Option<Small>) -> String {
+    match width {
+        // No other width is refused for its digits.
+        Some(width) if (lesmutka::LEAST_WIDTH..=lesmutka::LARGEST_WIDTH).contains(&width.value) => {
+            let largest = (1 << (width.value - 1)) - 1;
+            format!(
+                "the digits of width {} are 0 and the odd numbers from -{} to {}",
+                width.value, largest, largest
+            )
+        }
+        _ => "the digits are 0, 1 and -1".to_string(),
+    }
+}
+
 /// Puts the list of methods.
 pub fn put_methods(json: bool, out: &mut Vec<u8>) {
     if json {
         for &method in Method::ALL {
-            let mut fields = Fields::new(None, Some("methods"), Status::Answered);
-            fields.choice = Some(Choice::of(method));
-            fields.put(out);
+            Fields::of_choice("methods", Choice::of(method)).put(out);
         }
         return;
     }
@@ -173,25 +225,26 @@ pub fn put_methods(json: bool, out: &mut Vec<u8>) {
 /// A method by its name, if it has one, and the width, if one was given.
 fn put_choice(choice: Choice, out: &mut Vec<u8>) {
     put_method(choice, out);
-    match choice.width.large() {
-        Some(digits) => {
-            let _ = write!(out, " {}", Shown(digits));
-        }
-        None if choice.width.value != 0 => {
-            out.push(b' ');
-            put_number(u64::from(choice.width.value), out);
-        }
-        None => {}
+    if choice.width.value != 0 {
+        out.push(b' ');
+        put_small(choice.width, out);
     }
 }
 
 pub fn put_method(choice: Choice, out: &mut Vec<u8>) {
-    match (choice.named(), choice.method.large()) {
-        (Some(method), _) => out.extend_from_slice(method.name().as_bytes()),
-        (None, Some(digits)) => {
+    match choice.named() {
+        Some(method) => out.extend_from_slice(method.name().as_bytes()),
+        None => put_small(choice.method, out),
+    }
+}
+
+/// A method's number or a width.
+fn put_small(small: Small, out: &mut Vec<u8>) {
+    match small.large() {
+        Some(digits) => {
             let _ = write!(out, "{}", Shown(digits));
         }
-        (None, None) => put_number(u64::from(choice.method.value), out),
+        None => put_number(u64::from(small.value), out),
     }
 }
 
@@ -229,11 +282,13 @@ pub fn put_value(value: Value, out: &mut Vec<u8>) {
 pub fn put_digits(digits: &[i8], front: &[u8], out: &mut Vec<u8>) {
     for digit in digits.iter().rev() {
         out.extend_from_slice(front);
-        out.extend_from_slice(match digit {
-            0 => b"0",
-            1 => b"1",
-            _ => b"-1",
-        });
+        if *digit < 0 {
+            out.push(b'-');
+        }
+        match digit.unsigned_abs() {
+            size @ 0..=9 => out.push(b'0' + size),
+            size => put_number(u64::from(size), out),
+        }
     }
 }
 

@@ -1,5 +1,5 @@
 //! Words into requests.
-use crate::choice::Choice;
+use crate::choice::{Choice, Small};
 use crate::fault::{Fault, Shown};
 use std::ffi::OsStr;
 use std::os::unix::ffi::OsStrExt;
@@ -28,19 +28,19 @@ impl Verb {
 pub static VERBS: [Verb; 9] = [
     Verb {
         name: "recode",
-        words: "NUMBER",
+        words: "NUMBER [--width=W]",
         most: 2,
         about: "the canonical digits of a number, its non-adjacent form (NAF)",
     },
     Verb {
         name: "clean",
-        words: "DIGITS...",
+        words: "DIGITS... [--width=W]",
         most: usize::MAX,
         about: "the canonical digits of the value of a digit string",
     },
     Verb {
         name: "read-back",
-        words: "DIGITS...",
+        words: "DIGITS... [--width=W]",
         most: usize::MAX,
         about: "the value of a digit string",
     },
@@ -96,6 +96,8 @@ pub struct Words<'a> {
     pub dot: bool,
     pub help: bool,
     pub version: bool,
+    /// What stands behind each `--width=`.
+    widths: Vec<&'a [u8]>,
     unknown: Option<&'a [u8]>,
 }
 
@@ -112,7 +114,10 @@ impl<'a> Words<'a> {
                 b"--json" if options => words.json = true,
                 b"--force" if options => words.force = true,
                 b"--dot" if options => words.dot = true,
-                _ if options && word.starts_with(b"--") => words.unknown = words.unknown.or(Some(word)),
+                _ if options && word.starts_with(b"--") => match word.strip_prefix(b"--width=") {
+                    Some(width) => words.widths.push(width),
+                    None => words.unknown = words.unknown.or(Some(word)),
+                },
                 _ => words.plain.push(word),
             }
         }
@@ -127,20 +132,35 @@ impl<'a> Words<'a> {
     /// No option is there that is none.
     pub fn check_unknown(&self) -> Result<(), Fault> {
         match self.unknown {
+            Some(b"--width") => Err(Fault::Malformed("the width is missing; write --width=W".to_string())),
             Some(word) => Err(Fault::word("no such option", word)),
             None => Ok(()),
         }
     }
 
     /// No option is there that is none, or that this has no use for.
-    pub fn check_options(&self, force: bool, dot: bool) -> Result<(), Fault> {
+    pub fn check_options(&self, used: &[&str]) -> Result<(), Fault> {
         self.check_unknown()?;
-        if self.force && !force {
-            Err(Fault::Malformed("--force is for `plan ... to FILE` alone".to_string()))
-        } else if self.dot && !dot {
-            Err(Fault::Malformed("--dot is for `show` alone".to_string()))
-        } else {
-            Ok(())
+        let given = [
+            ("--force", self.force, "`plan ... to FILE`"),
+            ("--dot", self.dot, "`show`"),
+            ("--width", !self.widths.is_empty(), "`recode`, `clean` and `read-back`"),
+        ];
+        match given
+            .iter()
+            .find(|(name, is_given, _)| *is_given && !used.contains(name))
+        {
+            Some((name, _, request)) => Err(Fault::Malformed(format!("{} is for {} alone", name, request))),
+            None => Ok(()),
+        }
+    }
+
+    /// The width that is asked for, if one is.
+    fn width(&self) -> Result<Option<Small<'a>>, Fault> {
+        match self.widths.as_slice() {
+            [] => Ok(None),
+            [word] => Small::width(word).map(Some),
+            [_, again, ..] => Err(Fault::word("there is more than one width", again)),
         }
     }
 
@@ -153,16 +173,19 @@ impl<'a> Words<'a> {
     }
 }
 
-/// What is asked for. Numbers and digits are still words.
+/// What is asked for. Numbers and digits are still words. With a width it is asked for in the wide form.
 pub enum Request<'a> {
     Recode {
         number: &'a [u8],
+        width: Option<Small<'a>>,
     },
     Clean {
         digits: &'a [&'a [u8]],
+        width: Option<Small<'a>>,
     },
     ReadBack {
         digits: &'a [&'a [u8]],
+        width: Option<Small<'a>>,
     },
     Forecast {
         number: &'a [u8],
@@ -187,8 +210,12 @@ pub enum Request<'a> {
 impl<'a> Request<'a> {
     pub fn new(words: &'a Words<'a>) -> Result<Request<'a>, Fault> {
         let request = Request::read(words)?;
-        let to_file = matches!(request, Request::Plan { file: Some(_), .. });
-        words.check_options(to_file, matches!(request, Request::Show { .. }))?;
+        words.check_options(match request {
+            Request::Recode { .. } | Request::Clean { .. } | Request::ReadBack { .. } => &["--width"],
+            Request::Plan { file: Some(_), .. } => &["--force"],
+            Request::Show { .. } => &["--dot"],
+            _ => &[],
+        })?;
         if words.dot && words.json {
             return Err(Fault::Malformed(
                 "--dot and --json are two forms of one answer".to_string(),
@@ -203,9 +230,18 @@ impl<'a> Request<'a> {
 
     fn read(words: &'a Words<'a>) -> Result<Request<'a>, Fault> {
         match words.plain.as_slice() {
-            [b"recode", number] => Ok(Request::Recode { number }),
-            [b"clean", digits @ ..] => Ok(Request::Clean { digits }),
-            [b"read-back", digits @ ..] => Ok(Request::ReadBack { digits }),
+            [b"recode", number] => Ok(Request::Recode {
+                number,
+                width: words.width()?,
+            }),
+            [b"clean", digits @ ..] => Ok(Request::Clean {
+                digits,
+                width: words.width()?,
+            }),
+            [b"read-back", digits @ ..] => Ok(Request::ReadBack {
+                digits,
+                width: words.width()?,
+            }),
             [b"forecast", number, choice @ ..] if !choice.is_empty() => Ok(Request::Forecast {
                 number,
                 choice: Choice::read(choice)?,
@@ -243,6 +279,14 @@ impl<'a> Request<'a> {
     pub fn choice(&self) -> Option<Choice<'a>> {
         match self {
             Request::Forecast { choice, .. } | Request::Plan { choice, .. } => Some(*choice),
+            _ => None,
+        }
+    }
+
+    /// The width of the wide form, if that is asked for.
+    pub fn width(&self) -> Option<Small<'a>> {
+        match self {
+            Request::Recode { width, .. } | Request::Clean { width, .. } | Request::ReadBack { width, .. } => *width,
             _ => None,
         }
     }

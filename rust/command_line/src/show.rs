@@ -3,7 +3,7 @@ use crate::answer::{Desk, Refused};
 use crate::fault::Fault;
 use crate::json::Fields;
 use crate::plans;
-use crate::print::{put_refusal, put_value, Status};
+use crate::print::{put_refusal, put_value, About, Status};
 use lesmutka::{check, records, Accepted, Refusal, Step, Value, STEP_BYTES};
 use std::ffi::OsStr;
 use std::io::{self, Write};
@@ -41,7 +41,7 @@ pub fn show(file: &OsStr, dot: bool, json: bool, desk: &mut Desk, out: &mut Vec<
         chain.put_graph(out);
         if let Some(refused) = &chain.refused {
             let mut line = b"lesmutka: ".to_vec();
-            put_refusal(refused, None, None, &mut line);
+            put_refusal(refused, About::default(), &mut line);
             line.push(b'\n');
             let _ = io::stderr().write_all(&line);
         }
@@ -122,7 +122,7 @@ impl<'a> Chain<'a> {
             out.push(b'\n');
         }
         match (&self.refused, self.values.last(), self.accepted) {
-            (Some(refused), _, _) => put_refusal(refused, None, None, out),
+            (Some(refused), _, _) => put_refusal(refused, About::default(), out),
             (None, Some(end), accepted) => {
                 out.extend_from_slice(b"ends at ");
                 put_value(*end, out);

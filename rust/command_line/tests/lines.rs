@@ -33,30 +33,40 @@ fn request(rng: &mut Rng) -> String {
         ),
     };
     let (method, width) = match rng.below(4) {
-        0 => (rng.below(6) as u32, rng.below(9) as u32),
+        0 => (rng.below(7) as u32, rng.below(11) as u32),
         _ => rng.pick(&methods()),
     };
-    let name = ["0", "binary", "fixed", "sliding", "naf", "5"][method as usize];
+    let name = ["0", "binary", "fixed", "sliding", "naf", "wide-naf", "6"][method as usize];
     let method = match (rng.one_in(2), width) {
         (true, 0) => name.to_string(),
         (true, _) => format!("{} {}", name, width),
         (false, _) => format!("{} {}", method, width),
     };
-    let mut digits = || {
+    let mut digits = |words: &[&str]| {
         let count = rng.below(40);
-        let words: Vec<&str> = (0..count)
-            .map(|_| rng.pick(&["0", "1", "-1", "0", "1", "-1", "2"]))
-            .collect();
+        let words: Vec<&str> = (0..count).map(|_| rng.pick(words)).collect();
         words.join(" ")
     };
-    match digits().len() % 5 {
+    let (plain, wide) = (digits(&PLAIN_DIGITS), digits(&WIDE_DIGITS));
+    let width = rng.below(11);
+    match rng.below(8) {
         0 => format!("recode {}", number),
-        1 => format!("clean {}", digits()),
-        2 => format!("read-back {}", digits()),
+        1 => format!("clean {}", plain),
+        2 => format!("read-back {}", plain),
         3 => format!("plan {} {}", number, method),
-        _ => format!("forecast {} {}", number, method),
+        4 => format!("forecast {} {}", number, method),
+        5 => format!("recode {} --width={}", number, width),
+        6 => format!("clean --width={} {}", width, wide),
+        _ => format!("read-back {} --width={}", wide, width),
     }
 }
+
+/// Digits, and words that are none or of some widths alone.
+const PLAIN_DIGITS: [&str; 7] = ["0", "1", "-1", "0", "1", "-1", "2"];
+const WIDE_DIGITS: [&str; 24] = [
+    "0", "0", "0", "0", "0", "0", "0", "0", "0", "0", "1", "-1", "1", "-1", "1", "-1", "3", "-3", "5", "-7", "15",
+    "-31", "127", "2",
+];
 
 /// A line with some bytes changed, cut out or put in; none ends it.
 fn damaged(rng: &mut Rng, line: &str) -> Vec<u8> {
@@ -273,11 +283,39 @@ fn what_a_line_cannot_ask_for() {
         "--force",
         "--force show x",
         "--jason",
+        "--width=4",
+        "recode 1 --width",
+        "recode 1 --width=",
+        "plan 3 naf --width=4",
+        "check 3 x --width=4",
     ] {
         let (status, out, _) = batch(line.as_bytes());
         assert_eq!(status, 2, "{}", line);
         assert!(out.starts_with("1: malformed: "), "{}: {}", line, out);
     }
+}
+
+/// Each line by its own width, or none; a number that is none is told without it.
+#[test]
+fn widths_in_lines() {
+    let (status, out, err) = batch(
+        b"recode 43 --width=4\nrecode 43\n--width=3 clean 1 -3\nclean 1 -3\nread-back --width=9 1\n\
+          recode 2b --width=4\nrecode 43 --width=4 --width=5\n",
+    );
+    assert_eq!(
+        out,
+        "1: 0x2b, width 4: digits: 3 0 0 0 -5\n2: 0x2b: digits: 1 0 -1 0 -1 0 -1\n3: width 3: digits: -1\n\
+         4: refused 4, place 0: the byte at this place is no digit; the digits are 0, 1 and -1; it is `-3`\n\
+         5: width 9: refused 3, place 0: no such method, or a width that it does not allow; \
+         a NAF has a width from 2 to 8\n\
+         6: malformed: no decimal number: `2b`; if it is hexadecimal, write 0x2b\n\
+         7: malformed: there is more than one width: `5`\n"
+    );
+    assert_eq!(status, 2);
+    assert_eq!(
+        err,
+        "lesmutka: 7 requests: 3 answered, 2 refused, 2 malformed (the first on line 6), 0 failed\n"
+    );
 }
 
 #[test]

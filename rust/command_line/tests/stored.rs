@@ -14,9 +14,9 @@ fn folder() -> Folder {
     folder
 }
 
-/// The words of a request without its options.
+/// The words of a request without --force.
 fn words(request: &str) -> Vec<&str> {
-    request.split(' ').filter(|word| !word.starts_with("--")).collect()
+    request.split(' ').filter(|word| *word != "--force").collect()
 }
 
 fn status(answer: &str) -> i32 {
@@ -31,6 +31,21 @@ fn answers_of_the_reference() {
     for (request, stored) in REQUESTS.lines().zip(ANSWERS.lines()) {
         assert_eq!(expected(&words(request), &mut files), stored, "{}", request);
     }
+}
+
+/// Writes answers.txt again, after a change of requests.txt:
+///
+/// ```text
+/// cargo test --manifest-path rust/Cargo.toml -p command_line --test stored -- --ignored
+/// ```
+#[test]
+#[ignore = "writes answers.txt"]
+fn write_the_answers() {
+    let mut files = stored_files();
+    let answer = |request: &str| expected(&words(request), &mut files) + "\n";
+    let answers: String = REQUESTS.lines().map(answer).collect();
+    let file = std::path::Path::new(env!("CARGO_MANIFEST_DIR")).join("tests/answers.txt");
+    std::fs::write(file, answers).expect("the answers");
 }
 
 /// Every refusal that can come up is stored. 6 and 8 cannot: the program lends room and work space for
@@ -58,6 +73,37 @@ fn numbers_that_are_refused() {
     for verb in ["recode", "forecast", "plan", "check"] {
         assert!(refused(verb, 13) > 2, "{}", verb);
         assert_eq!(refused(verb, 2) > 0, verb != "recode", "{}", verb);
+    }
+}
+
+/// In the wide form each refusal that it can have is stored, by each request.
+#[test]
+fn wide_requests_are_stored() {
+    for (verb, refusals) in [
+        ("recode", &[1, 3, 13][..]),
+        ("clean", &[3, 4, 5]),
+        ("read-back", &[3, 4, 5]),
+    ] {
+        let answers: Vec<&str> = REQUESTS
+            .lines()
+            .zip(ANSWERS.lines())
+            .filter(|(request, _)| words(request)[0] == verb && request.contains("--width="))
+            .map(|(_, answer)| answer)
+            .collect();
+        assert!(
+            answers.iter().filter(|answer| status(answer) == 0).count() > 7,
+            "{}",
+            verb
+        );
+        for refusal in refusals {
+            let said = format!(": refused {}, place ", refusal);
+            assert!(
+                answers.iter().any(|answer| answer.contains(&said)),
+                "{} {}",
+                verb,
+                refusal
+            );
+        }
     }
 }
 
@@ -138,9 +184,11 @@ fn in_words(object: &Json) -> String {
         true => "none".to_string(),
         false => items.join(" "),
     };
-    let subject = match (object.get("number"), object.get("method")) {
-        (Json::Null, _) => String::new(),
-        (_, Json::Null) => format!("{}: ", text("number")),
+    let subject = match (object.get("number"), object.get("method"), object.get("width")) {
+        (Json::Null, Json::Null, Json::Null) => String::new(),
+        (Json::Null, Json::Null, _) => format!("width {}: ", number("width")),
+        (_, Json::Null, Json::Null) => format!("{}: ", text("number")),
+        (_, Json::Null, _) => format!("{}, width {}: ", text("number"), number("width")),
         _ if number("width") == 0 => format!("{} by {}: ", text("number"), text("method")),
         _ => format!("{} by {} {}: ", text("number"), text("method"), number("width")),
     };

@@ -50,6 +50,10 @@ fn help_and_version() {
     assert!(asked(&["help", "recode"]).1.contains("no leading zero byte"));
     assert!(!asked(&["help", "plan"]).1.contains("--dot"));
     assert!(asked(&["help", "show"]).1.contains("\n--dot"));
+    for verb in ["recode", "clean", "read-back"] {
+        assert!(asked(&["help", verb]).1.contains("\n--width=W "), "{}", verb);
+    }
+    assert!(!asked(&["help", "plan"]).1.contains("--width"));
 }
 
 #[test]
@@ -57,14 +61,15 @@ fn methods() {
     assert_eq!(
         asked(&["methods"]).1,
         "1  binary   takes no width\n2  fixed    takes a width from 1 to 6\n\
-         3  sliding  takes a width from 1 to 6\n4  naf      takes no width\n"
+         3  sliding  takes a width from 1 to 6\n4  naf      takes no width\n\
+         5  wide-naf takes a width from 2 to 8\n"
     );
     let objects = asked(&["methods", "--json"]).1;
     let objects: Vec<Json> = objects.lines().map(Json::read).collect();
     let choices = reference::generate::methods();
     assert_eq!(objects.len(), choices.len());
     for (object, (method, width)) in objects.iter().zip(choices) {
-        let name = ["binary", "fixed", "sliding", "naf"][method as usize - 1];
+        let name = ["binary", "fixed", "sliding", "naf", "wide-naf"][method as usize - 1];
         assert_eq!(object.get("method"), &Json::Text(name.to_string()));
         assert_eq!(object.get("width"), &Json::Number(i128::from(width)));
     }
@@ -74,7 +79,7 @@ fn methods() {
 #[test]
 fn malformed_requests() {
     const REQUESTS: &str = "(recode, clean, read-back, forecast, plan, check, show, methods, batch)";
-    const METHODS: &str = "(binary, fixed, sliding, naf)";
+    const METHODS: &str = "(binary, fixed, sliding, naf, wide-naf)";
     const NO_NUMBER: &str = "no number, which is decimal, or hexadecimal with 0x: ";
     let told = |words: &[&str], told: String| {
         let folder = Folder::new();
@@ -112,9 +117,45 @@ fn malformed_requests() {
             format!("no width, which is a decimal number: `{}`", word),
         );
     }
+    for word in ["", "x", "-4", "4.0", "0x4", "4 "] {
+        for verb in ["recode", "clean", "read-back"] {
+            told(
+                &[verb, "1", &format!("--width={}", word)],
+                format!("no width, which is a decimal number: `{}`", word),
+            );
+        }
+    }
     for (words, what) in [
-        (&["recode"][..], "words are missing; the form is: recode NUMBER"),
-        (&["recode", "4", "3"], "too many words: `3`; the form is: recode NUMBER"),
+        (
+            &["recode"][..],
+            "words are missing; the form is: recode NUMBER [--width=W]",
+        ),
+        (
+            &["recode", "4", "3"],
+            "too many words: `3`; the form is: recode NUMBER [--width=W]",
+        ),
+        (&["recode", "4", "--width"], "the width is missing; write --width=W"),
+        (
+            &["recode", "4", "--width", "3"],
+            "the width is missing; write --width=W",
+        ),
+        (&["recode", "4", "--widths=3"], "no such option: `--widths=3`"),
+        (
+            &["recode", "4", "--width=3", "--width=3"],
+            "there is more than one width: `3`",
+        ),
+        (
+            &["forecast", "3", "naf", "--width=3"],
+            "--width is for `recode`, `clean` and `read-back` alone",
+        ),
+        (
+            &["methods", "--width=3"],
+            "--width is for `recode`, `clean` and `read-back` alone",
+        ),
+        (
+            &["batch", "--width=3"],
+            "--width is for `recode`, `clean` and `read-back` alone",
+        ),
         (&["recode", ""], "the number is empty"),
         (&["plan", "", "2", "4", "to", "x"], "the number is empty"),
         (
@@ -227,13 +268,23 @@ fn failures_as_json() {
 #[test]
 fn large_methods_and_widths() {
     let refused = "refused 3, place 0: no such method, or a width that it does not allow";
-    let methods = "the methods are binary (1), fixed (2), sliding (3), naf (4)";
+    let methods = "the methods are binary (1), fixed (2), sliding (3), naf (4), wide-naf (5)";
     let widths = "sliding takes a width from 1 to 6";
     for number in ["4294967295", "4294967300", "99999999999999999999999"] {
         let out = asked(&["forecast", "43", number]).1;
         assert_eq!(out, format!("0x2b by {}: {}; {}\n", number, refused, methods));
         let out = asked(&["forecast", "43", "sliding", number]).1;
         assert_eq!(out, format!("0x2b by sliding {}: {}; {}\n", number, refused, widths));
+        let wide = format!("width {}: {}; a NAF has a width from 2 to 8\n", number, refused);
+        let width = format!("--width={}", number);
+        assert_eq!(asked(&["recode", "43", &width]).1, format!("0x2b, {}", wide));
+        assert_eq!(asked(&["clean", "2", &width]).1, wide);
+        let object = asked(&["read-back", "1", &width, "--json"]).1;
+        assert!(
+            object.contains(&format!("\"method\":null,\"width\":{},", number)),
+            "{}",
+            object
+        );
     }
     assert_eq!(
         asked(&["forecast", "43", "0004"]).1,
@@ -270,6 +321,43 @@ fn digits() {
     for words in [&["clean"][..], &["clean", ""]] {
         assert_eq!(asked(words).1, "digits: none\n");
     }
+}
+
+/// In the wide form: a digit is spelled as it is printed, and any other word is refused with its place. The
+/// option may stand anywhere, and behind `--` it is a word like any other.
+#[test]
+fn wide_digits() {
+    for words in [
+        &["read-back", "--width=4", "3", "0 0", " 0", "-5"][..],
+        &["read-back", "3 0 0 0 -5", "--width=4"],
+        &["--width=4", "read-back", "3", "0", "0", "0", "-5"],
+        &["read-back", "3", "0", "0", "0", "-5", "--width=04"],
+    ] {
+        assert_eq!(asked(words), (0, "width 4: value: 0x2b\n".to_string(), String::new()));
+    }
+    for words in [&["clean", "--width=8"][..], &["clean", "", "--width=8"]] {
+        assert_eq!(asked(words).1, "width 8: digits: none\n");
+    }
+    assert_eq!(asked(&["recode", "0", "--width=8"]).1, "0, width 8: digits: none\n");
+    assert_eq!(
+        asked(&["clean", "127", "-127", "--width=8"]).1,
+        "width 8: digits: 127\n"
+    );
+    let refused = "refused 4, place 1: the byte at this place is no digit; ";
+    let digits = "the digits of width 8 are 0 and the odd numbers from -127 to 127; ";
+    for word in [
+        "2", "-4", "128", "-128", "129", "255", "-0", "+1", "01", "-01", "1.0", "0x1", "x", "-", "\u{0661}",
+    ] {
+        let out = asked(&["clean", "1", word, "1", "--width=8"]).1;
+        assert_eq!(out, format!("width 8: {}{}it is `{}`\n", refused, digits, word));
+    }
+    // 127 is a digit of width 8 alone.
+    let out = asked(&["read-back", "1", "127", "0", "--width=7"]).1;
+    let digits = "the digits of width 7 are 0 and the odd numbers from -63 to 63; ";
+    assert_eq!(out, format!("width 7: {}{}it is `127`\n", refused, digits));
+    let out = asked(&["clean", "1", "--", "--width=8", "1"]).1;
+    let digits = "the digits are 0, 1 and -1; ";
+    assert_eq!(out, format!("{}{}it is `--width=8`\n", refused, digits));
 }
 
 /// A hexadecimal number has no leading zero byte; a refusal says how it is written, and that is taken.

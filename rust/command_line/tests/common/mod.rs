@@ -2,7 +2,9 @@
 #![allow(dead_code)]
 use reference::limits::*;
 use reference::text::words;
-use reference::{check, clean, forecast, plan, read_back, recode, text, Counts, Refusal};
+use reference::{
+    check, clean, clean_wide, forecast, plan, read_back, read_back_wide, recode, recode_wide, text, Counts, Refusal,
+};
 use std::collections::HashMap;
 use std::fs;
 use std::io::Write;
@@ -165,7 +167,7 @@ pub fn shown(bytes: &[u8]) -> String {
     }
 }
 
-const METHODS: [(&str, u32); 4] = [("binary", 1), ("fixed", 2), ("sliding", 3), ("naf", 4)];
+const METHODS: [(&str, u32); 5] = [("binary", 1), ("fixed", 2), ("sliding", 3), ("naf", 4), ("wide-naf", 5)];
 
 /// A method or a width, and its digits; one that has no room is the highest.
 fn small(word: &str) -> (u32, &str) {
@@ -202,6 +204,22 @@ fn digit_bytes(words: &[&str]) -> Vec<u8> {
         _ => 2,
     };
     words.iter().rev().map(byte).collect()
+}
+
+/// The same in the wide form, by a list of all words that are digits of some width or even.
+fn wide_digit_bytes(words: &[&str]) -> Vec<u8> {
+    let byte = |word: &&str| {
+        let digit = (-127..=127).find(|digit: &i32| digit.to_string() == *word);
+        digit.map_or(2, |digit| digit as u8)
+    };
+    words.iter().rev().map(byte).collect()
+}
+
+/// A request's words without --width=W, and the width with its digits.
+fn split_width<'a>(words: &[&'a str]) -> (Vec<&'a str>, Option<(u32, &'a str)>) {
+    let option = words.iter().find_map(|word| word.strip_prefix("--width="));
+    let rest = words.iter().copied().filter(|word| !word.starts_with("--width="));
+    (rest.collect(), option.map(small))
 }
 
 fn digits(string: &[u8]) -> String {
@@ -241,29 +259,48 @@ fn spelling(number: &[u8]) -> String {
     }
 }
 
+/// What was asked for, as far as a refusal says what is allowed instead.
+#[derive(Clone, Copy)]
+enum Asked {
+    Nothing,
+    Method(u32),
+    Width(u32),
+}
+
 /// A refusal of a number, and what is allowed where it says that something is not.
-fn refused(refusal: Refusal, number: &[u8], method: Option<u32>) -> String {
+fn refused(refusal: Refusal, number: &[u8], asked: Asked) -> String {
     match refusal.number {
-        13 => format!("{}; write {}", refused_word(refusal, method, None), spelling(number)),
-        _ => refused_word(refusal, method, None),
+        13 => format!("{}; write {}", refused_word(refusal, asked, None), spelling(number)),
+        _ => refused_word(refusal, asked, None),
     }
 }
 
 /// A refusal with the word behind it.
-fn refused_word(refusal: Refusal, method: Option<u32>, word: Option<&str>) -> String {
+fn refused_word(refusal: Refusal, asked: Asked, word: Option<&str>) -> String {
     let said = format!(
         "refused {}, place {}: {}",
         refusal.number,
         refusal.place,
         words(refusal.number as usize)
     );
-    let hint = match (refusal.number, method) {
+    let hint = match (refusal.number, asked) {
         (1, _) => format!("a number has at most {} bytes", NUMBER_BYTES),
-        (3, Some(1)) => "binary takes no width".to_string(),
-        (3, Some(2)) => format!("fixed takes a width from 1 to {}", WINDOW_WIDTHS.end()),
-        (3, Some(3)) => format!("sliding takes a width from 1 to {}", WINDOW_WIDTHS.end()),
-        (3, Some(4)) => "naf takes no width".to_string(),
-        (3, _) => "the methods are binary (1), fixed (2), sliding (3), naf (4)".to_string(),
+        (3, Asked::Method(1)) => "binary takes no width".to_string(),
+        (3, Asked::Method(2)) => format!("fixed takes a width from 1 to {}", WINDOW_WIDTHS.end()),
+        (3, Asked::Method(3)) => format!("sliding takes a width from 1 to {}", WINDOW_WIDTHS.end()),
+        (3, Asked::Method(4)) => "naf takes no width".to_string(),
+        (3, Asked::Method(5)) => "wide-naf takes a width from 2 to 8".to_string(),
+        (3, Asked::Method(_)) => {
+            "the methods are binary (1), fixed (2), sliding (3), naf (4), wide-naf (5)".to_string()
+        }
+        (3, _) => "a NAF has a width from 2 to 8".to_string(),
+        (4, Asked::Width(width)) => {
+            let largest = [1, 3, 7, 15, 31, 63, 127][width as usize - 2];
+            format!(
+                "the digits of width {} are 0 and the odd numbers from -{} to {}",
+                width, largest, largest
+            )
+        }
         (4, _) => "the digits are 0, 1 and -1".to_string(),
         (5, _) => format!("at most {} digits", STRING_DIGITS),
         (7, _) => format!(
@@ -279,31 +316,69 @@ fn refused_word(refusal: Refusal, method: Option<u32>, word: Option<&str>) -> St
 }
 
 /// A refusal of digits, which names the word at its place.
-fn refused_digits(refusal: Refusal, words: &[&str]) -> String {
+fn refused_digits(refusal: Refusal, words: &[&str], asked: Asked) -> String {
     let word = words.iter().rev().nth(refusal.place).filter(|_| refusal.number == 4);
-    refused_word(refusal, None, word.copied())
+    refused_word(refusal, asked, word.copied())
+}
+
+/// The answer to a request in the wide form, with the width in front.
+fn expected_wide(words: &[&str], (width, shown_width): (u32, &str)) -> String {
+    let mut out = [0; PLAN_ROOM];
+    let asked = Asked::Width(width);
+    match words[0] {
+        "recode" => {
+            let number = number(words[1]);
+            let answer = match recode_wide(&number, width, &mut out) {
+                Ok(length) => digits(&out[..length]),
+                Err(refusal) => refused(refusal, &number, asked),
+            };
+            format!("{}, width {}: {}", shown(&number), shown_width, answer)
+        }
+        "clean" => {
+            let answer = match clean_wide(&wide_digit_bytes(&words[1..]), width, &mut out) {
+                Ok(length) => digits(&out[..length]),
+                Err(refusal) => refused_digits(refusal, &words[1..], asked),
+            };
+            format!("width {}: {}", shown_width, answer)
+        }
+        "read-back" => {
+            let answer = match read_back_wide(&wide_digit_bytes(&words[1..]), width, &mut out) {
+                Ok((sign, length)) => {
+                    let minus = if sign == 1 { "-" } else { "" };
+                    format!("value: {}{}", minus, shown(&out[..length]))
+                }
+                Err(refusal) => refused_digits(refusal, &words[1..], asked),
+            };
+            format!("width {}: {}", shown_width, answer)
+        }
+        verb => panic!("{} takes no --width", verb),
+    }
 }
 
 /// The answer to a request that is well formed, by `reference`; a plan may go into a file.
 pub fn expected(words: &[&str], files: &mut HashMap<String, Vec<u8>>) -> String {
+    let (words, width) = split_width(words);
+    if let Some(width) = width {
+        return expected_wide(&words, width);
+    }
     let mut out = [0; PLAN_ROOM];
     match words[0] {
         "clean" => match clean(&digit_bytes(&words[1..]), &mut out) {
             Ok(length) => digits(&out[..length]),
-            Err(refusal) => refused_digits(refusal, &words[1..]),
+            Err(refusal) => refused_digits(refusal, &words[1..], Asked::Nothing),
         },
         "read-back" => match read_back(&digit_bytes(&words[1..]), &mut out) {
             Ok((sign, length)) => {
                 let minus = if sign == 1 { "-" } else { "" };
                 format!("value: {}{}", minus, shown(&out[..length]))
             }
-            Err(refusal) => refused_digits(refusal, &words[1..]),
+            Err(refusal) => refused_digits(refusal, &words[1..], Asked::Nothing),
         },
         "recode" => {
             let number = number(words[1]);
             let answer = match recode(&number, &mut out) {
                 Ok(length) => digits(&out[..length]),
-                Err(refusal) => refused(refusal, &number, None),
+                Err(refusal) => refused(refusal, &number, Asked::Nothing),
             };
             format!("{}: {}", shown(&number), answer)
         }
@@ -316,7 +391,7 @@ pub fn expected(words: &[&str], files: &mut HashMap<String, Vec<u8>>) -> String 
                     counted(accepted.counts),
                     accepted.largest_bits
                 ),
-                Err(refusal) => refused(refusal, &number, None),
+                Err(refusal) => refused(refusal, &number, Asked::Nothing),
             };
             format!("{}: {}", shown(&number), answer)
         }
@@ -325,7 +400,7 @@ pub fn expected(words: &[&str], files: &mut HashMap<String, Vec<u8>>) -> String 
             let (method, width, name) = choice(&words[2..]);
             let answer = match forecast(&number, method, width) {
                 Ok(counts) => counted(counts),
-                Err(refusal) => refused(refusal, &number, Some(method)),
+                Err(refusal) => refused(refusal, &number, Asked::Method(method)),
             };
             format!("{} by {}: {}", shown(&number), name, answer)
         }
@@ -343,7 +418,7 @@ pub fn expected(words: &[&str], files: &mut HashMap<String, Vec<u8>>) -> String 
                     let steps = step_words(&out[..STEP_BYTES * counts.total()]);
                     format!("{}; steps: {}", counted(counts), steps)
                 }
-                (Err(refusal), _) => refused(refusal, &number, Some(method)),
+                (Err(refusal), _) => refused(refusal, &number, Asked::Method(method)),
             };
             format!("{} by {}: {}", shown(&number), name, answer)
         }

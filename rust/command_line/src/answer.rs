@@ -197,7 +197,7 @@ fn read_digits<'a>(words: &[&[u8]], is_wide: bool, digits: &'a mut Vec<i8>) -> &
 }
 
 /// The words of digits, the most significant first.
-fn digit_words<'a>(words: &'a [&[u8]]) -> impl DoubleEndedIterator<Item = &'a [u8]> {
+fn digit_words<'a>(words: &'a [&'a [u8]]) -> impl DoubleEndedIterator<Item = &'a [u8]> {
     let all = words.iter().flat_map(|word| word.split(|&byte| is_blank(byte)));
     all.filter(|word| !word.is_empty())
 }

@@ -1,9 +1,8 @@
 // The words of a refusal, for languages that cannot read the header for C.
-use rules::Refusal;
+use output::put;
 use rules::Written;
 ghost use mathlib.Core.Path.{_≡_};
 ghost use lib.ListN.{length};
-ghost use Rattle.rules.specs.Memory.{fitted, leaves};
 ghost use Rattle.refusal_words.specs.Words.{wordsAnswer, wordsBuffer};
 
 // What the refusals say, from 0, which is none, to 13, one text behind another.
@@ -41,29 +40,13 @@ const STARTS: [usize; 15] = [
     516,
 ];
 
-// Puts a text at the start of a buffer that has room for all of it.
-fn copy(text: &[u8], out: &mut [u8]) -> Written
-    ensures answer { λ r. ⌜ r ≡ fitted (now (text .entry)) (length (now (out .entry))) ⌝ }
-    ensures buffer { λ r. ⌜ now (out .exit) ≡ leaves (fitted (now (text .entry)) (length (now (out .entry)))) (now (text .entry)) (now (out .entry)) ⌝ }
-{
-    if out.len() < text.len() {
-        return Written::Refused(Refusal::RoomTooSmall(text.len()));
-    }
-    let mut i = 0;
-    while i < text.len() {
-        out[i] = text[i];
-        i += 1;
-    }
-    Written::Length(text.len())
-}
-
 // Writes what a refusal's number says.
 pub fn write_words(refusal: usize, out: &mut [u8]) -> Written
     ensures answer { λ r. ⌜ r ≡ wordsAnswer refusal (length (now (out .entry))) ⌝ }
     ensures buffer { λ r. ⌜ now (out .exit) ≡ wordsBuffer refusal (now (out .entry)) ⌝ }
 {
     if 13 < refusal {
-        return copy(b"no such refusal", out);
+        return put(b"no such refusal", out);
     }
-    copy(&TEXTS[STARTS[refusal]..STARTS[refusal + 1]], out)
+    put(&TEXTS[STARTS[refusal]..STARTS[refusal + 1]], out)
 }

@@ -5,11 +5,11 @@ use Rattle.refusal_words.proofs.Texts.{joined, starts, no-such, ordered
 use Rattle.refusal_words.proofs.write_words.Statement.{statement}
 use Rattle.refusal_words.proofs.write_words.Tie as tie
 
-slice-aggregate-copy : tie.Need-slice-aggregate-copy
-slice-aggregate-copy c = search needs
+slice-aggregate-put : tie.Need-slice-aggregate-put
+slice-aggregate-put c = search needs
 
-copy-requires : tie.Need-copy-requires
-copy-requires c κs = search needs
+put-requires : tie.Need-put-requires
+put-requires c κs = search needs
 
 same-length : tie.Need-same-length
 same-length c = search needs
@@ -18,37 +18,37 @@ returns : tie.Need-returns
 unfolding texts textBytes joined starts
 returns c =
     let refusal = c .before .before .before .before .before .before .before .args .refusal in
-    rw (no-such refusal (c .before .before .before .before .before .if1 .taken)) (c .before .before .copy .ensures)
+    rw (no-such refusal (c .before .before .before .before .before .if1 .taken)) (c .before .before .put .ensures)
 
-mul-copy : tie.Need-mul-copy
-mul-copy c = search needs
+mul-put : tie.Need-mul-put
+mul-put c = search needs
 
-array-read-copy : tie.Need-array-read-copy
-array-read-copy c = search needs
+array-read-put : tie.Need-array-read-put
+array-read-put c = search needs
 
-add-copy : tie.Need-add-copy
-add-copy c = search needs
+add-put : tie.Need-add-put
+add-put c = search needs
 
-mul-copy-2 : tie.Need-mul-copy-2
-mul-copy-2 c = search needs
+mul-put-2 : tie.Need-mul-put-2
+mul-put-2 c = search needs
 
-array-read-copy-2 : tie.Need-array-read-copy-2
-array-read-copy-2 c = search needs
+array-read-put-2 : tie.Need-array-read-put-2
+array-read-put-2 c = search needs
 
-sub-copy : tie.Need-sub-copy
+sub-put : tie.Need-sub-put
 unfolding texts textBytes joined starts
-sub-copy c = ordered (c .before .before .args .refusal) (c .if1 .left)
+sub-put c = ordered (c .before .before .args .refusal) (c .if1 .left)
 
-part-copy-start : tie.Need-part-copy-start
+part-put-start : tie.Need-part-put-start
 unfolding texts textBytes joined starts
-part-copy-start c = ordered (c .before .before .before .args .refusal) (c .before .if1 .left)
+part-put-start c = ordered (c .before .before .before .args .refusal) (c .before .if1 .left)
 
-part-copy-end : tie.Need-part-copy-end
+part-put-end : tie.Need-part-put-end
 unfolding texts textBytes joined starts
-part-copy-end c = within (c .before .before .before .args .refusal) (c .before .if1 .left)
+part-put-end c = within (c .before .before .before .args .refusal) (c .before .if1 .left)
 
-copy-requires-2 : tie.Need-copy-requires-2
-copy-requires-2 c κs = search needs
+put-requires-2 : tie.Need-put-requires-2
+put-requires-2 c κs = search needs
 
 same-length-2 : tie.Need-same-length-2
 same-length-2 c = search needs
@@ -57,24 +57,24 @@ returns-2 : tie.Need-returns-2
 unfolding texts textBytes joined starts
 returns-2 c =
     let refusal = c .before .before .before .before .before .before .before .before .args .refusal in
-    rw (← its-words refusal (c .before .before .before .before .before .before .if1 .left)) (c .before .before .copy2 .ensures)
+    rw (← its-words refusal (c .before .before .before .before .before .before .if1 .left)) (c .before .before .put2 .ensures)
 
 pub write-words-spec : {M : Type 1} → statement M
 write-words-spec =
     tie.close
     (tie.spec
-    slice-aggregate-copy
-    copy-requires
+    slice-aggregate-put
+    put-requires
     same-length
     returns
-    mul-copy
-    array-read-copy
-    add-copy
-    mul-copy-2
-    array-read-copy-2
-    sub-copy
-    part-copy-start
-    part-copy-end
-    copy-requires-2
+    mul-put
+    array-read-put
+    add-put
+    mul-put-2
+    array-read-put-2
+    sub-put
+    part-put-start
+    part-put-end
+    put-requires-2
     same-length-2
     returns-2)

@@ -9,7 +9,7 @@ pub enum Refusal {
     NumberTooLong,
     /// 2: the number is zero.
     NumberIsZero,
-    /// 3: no such method, or a width that it does not allow.
+    /// 3: no such method, or a width that it does not allow; in the wide form, no width of a NAF.
     MethodOrWidth,
     /// 4: a byte of the digit string is no digit.
     NotADigit {

@@ -6,6 +6,9 @@
 //     take TIMES NUMBER
 //     clean ROOM DIGITS
 //     readback ROOM DIGITS
+//     wrecode ROOM NUMBER WIDTH
+//     wclean ROOM DIGITS WIDTH
+//     wread ROOM DIGITS WIDTH
 //     plan ROOM NUMBER METHOD WIDTH
 //     forecast 0 NUMBER METHOD WIDTH
 //     check ROOM NUMBER PLAN
@@ -24,16 +27,24 @@
 mod line;
 mod show;
 
+use c_answers::Accepted;
+use c_answers::Counts;
+use c_answers::Length;
+use c_answers::Parsed;
+use c_answers::Value;
 use lesmutka::lesmutka_check;
 use lesmutka::lesmutka_clean;
+use lesmutka::lesmutka_clean_wide;
 use lesmutka::lesmutka_decimal;
 use lesmutka::lesmutka_forecast;
 use lesmutka::lesmutka_hexadecimal;
 use lesmutka::lesmutka_plan;
 use lesmutka::lesmutka_read_back;
+use lesmutka::lesmutka_read_back_wide;
 use lesmutka::lesmutka_read_digits;
 use lesmutka::lesmutka_read_steps;
 use lesmutka::lesmutka_recode;
+use lesmutka::lesmutka_recode_wide;
 use lesmutka::lesmutka_recode_words;
 use lesmutka::lesmutka_start;
 use lesmutka::lesmutka_take;
@@ -51,8 +62,6 @@ use show::FILL;
 use show::put;
 use show::put_buffer;
 use show::put_number;
-use show::put_steps;
-use show::put_three;
 use taking::Recoder;
 use taking::Take;
 
@@ -69,6 +78,12 @@ const TAKE: u64 = 0x74616b65;
 const CLEAN: u64 = 0x636c65616e;
 
 const READBACK: u64 = 0x726561646261636b;
+
+const WRECODE: u64 = 0x777265636f6465;
+
+const WCLEAN: u64 = 0x77636c65616e;
+
+const WREAD: u64 = 0x7772656164;
 
 const PLAN: u64 = 0x706c616e;
 
@@ -126,75 +141,81 @@ fn take(number: &[u8], times: usize) {
     }
 }
 
-// Makes the call of a name.
-fn call(name: u64, input: &[u8], plan: &[u8], method: u32, width: u32, out: &mut [u8]) {
-    put(b":");
+// The fields of an answer, in the order of include/lesmutka.h, and how many there are.
+struct Fields {
+    values: [usize; 6],
+    count: usize,
+}
+
+fn three(a: usize, b: usize, c: usize) -> Fields {
+    Fields {
+        values: [a, b, c, 0, 0, 0],
+        count: 3,
+    }
+}
+
+fn of_length(a: Length) -> Fields {
+    three(a.refusal, a.place, a.length)
+}
+
+fn of_parsed(a: Parsed) -> Fields {
+    three(a.is_number, a.place, a.length)
+}
+
+fn of_value(a: Value) -> Fields {
+    Fields {
+        values: [a.refusal, a.place, a.sign, a.length, 0, 0],
+        count: 4,
+    }
+}
+
+fn of_counts(a: Counts) -> Fields {
+    Fields {
+        values: [a.refusal, a.place, a.doublings, a.additions, a.subtractions, 0],
+        count: 5,
+    }
+}
+
+fn of_accepted(a: Accepted) -> Fields {
+    Fields {
+        values: [a.refusal, a.place, a.doublings, a.additions, a.subtractions, a.largest_bits],
+        count: 6,
+    }
+}
+
+// Makes the call of a name. No call has no fields.
+fn call(name: u64, input: &[u8], plan: &[u8], method: u32, width: u32, out: &mut [u8]) -> Fields {
     match name {
-        RECODE => {
-            let a = lesmutka_recode(input, out);
-            put_three(a.refusal, a.place, a.length);
-            put_buffer(out);
+        RECODE => of_length(lesmutka_recode(input, out)),
+        BYWORDS => of_length(lesmutka_recode_words(input, out)),
+        CLEAN => of_length(lesmutka_clean(input, out)),
+        READBACK => of_value(lesmutka_read_back(input, out)),
+        WRECODE => of_length(lesmutka_recode_wide(input, method, out)),
+        WCLEAN => of_length(lesmutka_clean_wide(input, method, out)),
+        WREAD => of_value(lesmutka_read_back_wide(input, method, out)),
+        PLAN => of_counts(lesmutka_plan(input, method, width, out)),
+        FORECAST => of_counts(lesmutka_forecast(input, method, width)),
+        CHECK => of_accepted(lesmutka_check(input, plan, out)),
+        HEX => of_parsed(lesmutka_hexadecimal(input, out)),
+        DECIMAL => of_parsed(lesmutka_decimal(input, out)),
+        DIGITS => of_length(lesmutka_read_digits(input, out)),
+        STEPS => of_length(lesmutka_read_steps(input, out)),
+        WORDS_OF => of_length(lesmutka_write_words(method as usize, out)),
+        _ => Fields {
+            values: [0; 6],
+            count: 0,
+        },
+    }
+}
+
+fn put_fields(fields: Fields) {
+    let values = fields.values;
+    let mut i = 0;
+    while i < 6 {
+        if i < fields.count {
+            put_number(values[i]);
         }
-        BYWORDS => {
-            let a = lesmutka_recode_words(input, out);
-            put_three(a.refusal, a.place, a.length);
-            put_buffer(out);
-        }
-        TAKE => {
-            take(input, out.len());
-        }
-        CLEAN => {
-            let a = lesmutka_clean(input, out);
-            put_three(a.refusal, a.place, a.length);
-            put_buffer(out);
-        }
-        READBACK => {
-            let a = lesmutka_read_back(input, out);
-            put_three(a.refusal, a.place, a.sign);
-            put_number(a.length);
-            put_buffer(out);
-        }
-        PLAN => {
-            let a = lesmutka_plan(input, method, width, out);
-            put_steps(a.refusal, a.place, a.doublings, a.additions, a.subtractions);
-            put_buffer(out);
-        }
-        FORECAST => {
-            let a = lesmutka_forecast(input, method, width);
-            put_steps(a.refusal, a.place, a.doublings, a.additions, a.subtractions);
-        }
-        CHECK => {
-            let a = lesmutka_check(input, plan, out);
-            put_steps(a.refusal, a.place, a.doublings, a.additions, a.subtractions);
-            put_number(a.largest_bits);
-            put_buffer(out);
-        }
-        HEX => {
-            let a = lesmutka_hexadecimal(input, out);
-            put_three(a.is_number, a.place, a.length);
-            put_buffer(out);
-        }
-        DECIMAL => {
-            let a = lesmutka_decimal(input, out);
-            put_three(a.is_number, a.place, a.length);
-            put_buffer(out);
-        }
-        DIGITS => {
-            let a = lesmutka_read_digits(input, out);
-            put_three(a.refusal, a.place, a.length);
-            put_buffer(out);
-        }
-        STEPS => {
-            let a = lesmutka_read_steps(input, out);
-            put_three(a.refusal, a.place, a.length);
-            put_buffer(out);
-        }
-        WORDS_OF => {
-            let a = lesmutka_write_words(method as usize, out);
-            put_three(a.refusal, a.place, a.length);
-            put_buffer(out);
-        }
-        _ => put(b" unknown"),
+        i += 1;
     }
 }
 
@@ -212,15 +233,30 @@ fn answer(line: Line, bytes: &[u8; LINE_BYTES]) {
         put(b": room");
         return;
     }
+    put(b":");
+    let name = line.names[0];
+    let input = part(bytes, line.starts[2], line.starts[3]);
+    if name == TAKE {
+        take(input, room);
+        return;
+    }
     let mut space = [FILL; ROOM_BYTES];
-    call(
-        line.names[0],
-        part(bytes, line.starts[2], line.starts[3]),
+    let fields = call(
+        name,
+        input,
         part(bytes, line.starts[3], line.starts[4]),
         (line.numbers[3] % 0x100000000) as u32,
         (line.numbers[4] % 0x100000000) as u32,
         &mut space[0..room],
     );
+    if fields.count == 0 {
+        put(b" unknown");
+        return;
+    }
+    put_fields(fields);
+    if name != FORECAST {
+        put_buffer(&space[0..room]);
+    }
 }
 
 // Copies a byte of the input. Where it ends a line, the answer comes before it.

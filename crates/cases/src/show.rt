@@ -13,24 +13,6 @@ pub fn put_number(number: usize) {
     io::print_decimal(STDOUT_FILENO, number as u64);
 }
 
-pub fn put_three(refusal: usize, place: usize, value: usize) {
-    put_number(refusal);
-    put_number(place);
-    put_number(value);
-}
-
-pub fn put_steps(
-    refusal: usize,
-    place: usize,
-    doublings: usize,
-    additions: usize,
-    subtractions: usize,
-) {
-    put_three(refusal, place, doublings);
-    put_number(additions);
-    put_number(subtractions);
-}
-
 fn put_byte(byte: u8) {
     io::print_hex(STDOUT_FILENO, byte as u64, 2);
 }

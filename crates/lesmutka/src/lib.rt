@@ -18,6 +18,9 @@ ghost use Rattle.recoding.specs.Recode.{recodeAnswer, recodeBuffer};
 ghost use Rattle.taking.specs.Take.{startAnswer, startNumber};
 ghost use Rattle.cleaning.specs.Clean.{cleanAnswer, cleanBuffer};
 ghost use Rattle.reading.specs.ReadBack.{readBackAnswer, readBackBuffer};
+ghost use Rattle.recoding_wide.specs.RecodeWide.{recodeWideAnswer, recodeWideBuffer};
+ghost use Rattle.cleaning_wide.specs.CleanWide.{cleanWideAnswer, cleanWideBuffer};
+ghost use Rattle.reading_wide.specs.ReadBackWide.{readBackWideAnswer, readBackWideBuffer};
 ghost use Rattle.planning.specs.Plan.{forecastAnswer, planAnswer, planBuffer};
 ghost use Rattle.checking.specs.Check.{checkAnswer, checkSpace};
 ghost use Rattle.hexadecimal.specs.Hex as hexadecimal_text;
@@ -82,6 +85,31 @@ pub extern "C" fn lesmutka_read_back(digits: &[u8], out: &mut [u8]) -> Value
     ensures buffer { λ r. ⌜ now (out .exit) ≡ readBackBuffer (now (digits .entry)) (now (out .entry)) ⌝ }
 {
     c_answers::of_read_back(reading::read_back(digits, out))
+}
+
+// The same three for digits of a width.
+#[no_mangle]
+pub extern "C" fn lesmutka_recode_wide(number: &[u8], width: u32, out: &mut [u8]) -> Length
+    ensures answer { λ r. ⌜ r ≡ writtenFields (recodeWideAnswer width (now (number .entry)) (length (now (out .entry)))) ⌝ }
+    ensures buffer { λ r. ⌜ now (out .exit) ≡ recodeWideBuffer width (now (number .entry)) (now (out .entry)) ⌝ }
+{
+    c_answers::of_written(recoding_wide::recode_wide(number, width, out))
+}
+
+#[no_mangle]
+pub extern "C" fn lesmutka_clean_wide(digits: &[u8], width: u32, out: &mut [u8]) -> Length
+    ensures answer { λ r. ⌜ r ≡ writtenFields (cleanWideAnswer width (now (digits .entry)) (length (now (out .entry)))) ⌝ }
+    ensures buffer { λ r. ⌜ now (out .exit) ≡ cleanWideBuffer width (now (digits .entry)) (now (out .entry)) ⌝ }
+{
+    c_answers::of_written(cleaning_wide::clean_wide(digits, width, out))
+}
+
+#[no_mangle]
+pub extern "C" fn lesmutka_read_back_wide(digits: &[u8], width: u32, out: &mut [u8]) -> Value
+    ensures answer { λ r. ⌜ r ≡ readFields (readBackWideAnswer width (now (digits .entry)) (length (now (out .entry)))) ⌝ }
+    ensures buffer { λ r. ⌜ now (out .exit) ≡ readBackWideBuffer width (now (digits .entry)) (now (out .entry)) ⌝ }
+{
+    c_answers::of_read_back(reading_wide::read_back_wide(digits, width, out))
 }
 
 // Writes the plan for a number by a method.

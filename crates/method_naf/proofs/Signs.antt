@@ -69,10 +69,3 @@ module _ (e : ℕ) where
 
   pub minus-digits : minusDigits (canonical (pos e)) ≡ onlyIn e (3 * e)
   minus-digits = signs e (e / 2) e (omega arith) (omega arith) (omega arith) .1 ∙ sym (omega (arith, rw sum at (only-in-step e (3 * e))))
-
--- the top digit, a 1, is among them
-pub some-plus : (ds : List ℤ) (i : ℕ) → digitAt ds i ≡ pos 1 → 1 ≤ plusDigits ds
-unfolding plusDigits
-some-plus [] i e = absurd (omega (arith, ap natAbs e))
-some-plus (d ∷ ds) zero e = rw e (omega arith)
-some-plus (d ∷ ds) (suc i) e = omega (arith, some-plus ds i e)

@@ -187,6 +187,10 @@ module _ {limit : ℕ} (n : ℕ) (ds : List ℤ) (suited : Suited limit n ds) wh
   unfolding digitSteps
   digits-made = made _ _ (all .holds) (all .latest (λ e. sym e))
 
+  -- the top digit is above zero
+  pub digits-plus : 1 ≤ plusDigits ds
+  digits-plus = all .some
+
   -- what a lowest digit below zero is subtracted from is among the values
   pub digits-before : {k : ℕ} → 0 < negativePart (digitAt ds 0) → 2 ^ k ≤ positivePart (value ds) + negativePart (digitAt ds 0) → k < largestBits (digitSteps n ds)
   unfolding digitSteps
@@ -210,4 +214,4 @@ module _ {limit : ℕ} (n : ℕ) (ds : List ℤ) (suited : Suited limit n ds) wh
 
   -- at most two steps for each digit below the top
   pub digits-short : length (digitSteps n ds) ≤ n + 2 * (length ds - 1)
-  digits-short = omega (arith, digits-length, all .some, signs-le ds)
+  digits-short = omega (arith, digits-length, digits-plus, signs-le ds)

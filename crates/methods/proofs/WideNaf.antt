@@ -35,7 +35,7 @@ use Rattle.methods.specs.Forecast.{plusDigits, minusDigits}
 use Rattle.methods.specs.Largest.{wideLargestBits, slidingLargestBits}
 use Rattle.methods.proofs.Laws.{Made, Fit, Plannable, plannable-near, made-bits, own-bits}
 use Rattle.methods.proofs.OddMultiples.{tableValue, position-less, position-value, InTable, Entry, halved, table-last, last-entry, entry-in-table}
-use Rattle.methods.proofs.DigitSteps.{Suited, digits-made, digits-before, digits-entry, digits-counts, digits-short}
+use Rattle.methods.proofs.DigitSteps.{Suited, digits-made, digits-plus, digits-before, digits-entry, digits-counts, digits-short}
 use Rattle.methods.proofs.SlidingWindows.{largest-cases}
 
 -- a number of L bits has at most L + 1 digits
@@ -123,6 +123,9 @@ module _ (e w : ℕ) (some : 0 < e) (wide : 2 ≤ w) where
   pub wide-unhidden : NoHiddenDoubling (wideNafSteps e w)
   unfolding wideNafSteps
   wide-unhidden = digits-made (wideTable e w) ds suited-alone .unhidden
+
+  pub wide-plus : 1 ≤ plusDigits (naf w (pos e))
+  wide-plus = digits-plus (wideTable e w) ds suited-alone
 
   -- the table; a doubling for each digit below the top; an addition for each of them above zero, and a subtraction for each below
   pub wide-counts : countsOf (wideNafSteps e w) ≡ counts (tableCounts (wideTable e w) .doublings + (length (naf w (pos e)) - 1)) (tableCounts (wideTable e w) .additions + (plusDigits (naf w (pos e)) - 1)) (minusDigits (naf w (pos e)))

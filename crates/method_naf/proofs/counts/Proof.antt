@@ -9,8 +9,9 @@ use Rattle.integers.specs.Positional.{bytesValue}
 use Rattle.signed_digits.specs.Naf.{canonical}
 use Rattle.signed_digits.proofs.Left.{some-digits}
 use Rattle.recoding_digits.proofs.Triple.{digit-count}
-use Rattle.methods.proofs.NonAdjacentForm.{top-digit, naf-counts}
-use Rattle.method_naf.proofs.Signs.{plus-digits, minus-digits, some-plus}
+use Rattle.methods.proofs.WideNaf.{wide-plus}
+use Rattle.methods.proofs.NonAdjacentForm.{naf-counts}
+use Rattle.method_naf.proofs.Signs.{plus-digits, minus-digits}
 use borrow.Author.Needs.{needs}
 use Rattle.method_naf.proofs.counts.Statement.{statement}
 use Rattle.method_naf.proofs.counts.Tie as tie
@@ -26,8 +27,7 @@ sub-t3 c =
 sub-t4 : tie.Need-sub-t4
 sub-t4 c =
     let e : ℕ = bytesValue (c .before .before .before .before .args .number .now) in
-    let ds : List ℤ = canonical (pos e) in
-    omega (arith, c .before .before .tally-of .ensures .0, plus-digits e, some-plus ds (length ds - 1) (top-digit e (search needs)))
+    omega (arith, c .before .before .tally-of .ensures .0, plus-digits e, wide-plus e 2 (search needs) (omega arith))
 
 returns : tie.Need-returns
 returns c =

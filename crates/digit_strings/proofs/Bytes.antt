@@ -15,6 +15,7 @@ use Rattle.signed_digits.specs.Naf.{naf}
 use Rattle.signed_digits.specs.Bytes.{digitByte, digitBytes, byteDigit, stringOf}
 use Rattle.signed_digits.proofs.Exists.{naf-form, naf-value}
 use Rattle.digit_strings.specs.Admission.{isDigit, stringValue, DigitString}
+use Rattle.digit_strings.specs.Places.{placeByte}
 use Rattle.digit_strings.proofs.Digits.{digit-is, zero-digit, bound-fits}
 
 back : (d : ℤ) → natAbs d ≤ 127 → (digitByte d < 256) × (byteDigit (digitByte d) ≡ d)
@@ -53,6 +54,11 @@ module _ (w : ℕ) (h : w ≤ largestWidth) where
 
     pub naf-back : stringOf (digitBytes (naf w z)) ≡ naf w z
     naf-back = string-bytes (naf w z) digit
+
+    -- digit by digit
+    pub place-back : (i : ℕ) → byteDigit (placeByte (naf w z) i) ≡ digitAt (naf w z) i
+    unfolding placeByte
+    place-back i = digit-byte (digitAt (naf w z) i) (digit i) .0
 
     pub naf-bytes-value : stringValue (digitBytes (naf w z)) ≡ z
     naf-bytes-value = ap value naf-back ∙ naf-value w z least

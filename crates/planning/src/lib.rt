@@ -29,6 +29,7 @@ fn counts(number: &[u8], method: Method) -> Counts
         Method::FixedWindows(d) => method_fixed_windows::counts(number, d),
         Method::SlidingWindows(d) => method_sliding_windows::counts(number, d),
         Method::Naf => method_naf::counts(number),
+        Method::WideNaf(w) => method_wide_naf::counts(number, w),
     }
 }
 
@@ -44,6 +45,7 @@ fn write(number: &[u8], method: Method, out: &mut [u8])
         Method::FixedWindows(d) => method_fixed_windows::write(number, d, out),
         Method::SlidingWindows(d) => method_sliding_windows::write(number, d, out),
         Method::Naf => method_naf::write(number, out),
+        Method::WideNaf(w) => method_wide_naf::write(number, w, out),
     }
 }
 

@@ -1,5 +1,5 @@
 -- `planning::counts` meets its contract: each method counts its own steps. Assumes nothing.
-use Rattle.methods.proofs.Every.{fixed-widths, sliding-widths}
+use Rattle.methods.proofs.Every.{fixed-widths, sliding-widths, wide-widths}
 use borrow.Author.Needs.{needs}
 use Rattle.planning.proofs.counts.Statement.{statement}
 use Rattle.planning.proofs.counts.Tie as tie
@@ -28,6 +28,12 @@ enum-told-2 c = search needs
 counts-requires-4 : tie.Need-counts-requires-4
 counts-requires-4 c κs = search needs
 
+enum-known-method-3 : tie.Need-enum-known-method-3
+enum-known-method-3 c = search needs
+
+counts-requires-5 : tie.Need-counts-requires-5
+counts-requires-5 c κs = let w = wide-widths (rw (c .before .method3 .given .1) at (c .before .before .before .before .pre .1)) in search needs
+
 returns : tie.Need-returns
 returns c = rw (c .before .enum-told .given .1) (c .counts .ensures)
 
@@ -39,6 +45,9 @@ returns-3 c = rw (c .before .before .method2 .given .1) (c .counts3 .ensures)
 
 returns-4 : tie.Need-returns-4
 returns-4 c = rw (c .before .enum-told2 .given .1) (c .counts4 .ensures)
+
+returns-5 : tie.Need-returns-5
+returns-5 c = rw (c .before .before .method3 .given .1) (c .counts5 .ensures)
 
 pub counts-spec : {M : Type 1} → statement M
 counts-spec =
@@ -52,7 +61,10 @@ counts-spec =
     counts-requires-3
     enum-told-2
     counts-requires-4
+    enum-known-method-3
+    counts-requires-5
     returns
     returns-2
     returns-3
-    returns-4)
+    returns-4
+    returns-5)

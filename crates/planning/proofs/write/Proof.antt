@@ -1,5 +1,5 @@
 -- `planning::write` meets its contract: each method writes its own steps. Assumes nothing.
-use Rattle.methods.proofs.Every.{fixed-widths, sliding-widths}
+use Rattle.methods.proofs.Every.{fixed-widths, sliding-widths, wide-widths}
 use borrow.Author.Needs.{needs}
 use Rattle.planning.proofs.write.Statement.{statement}
 use Rattle.planning.proofs.write.Tie as tie
@@ -34,6 +34,15 @@ enum-told-2 c = search needs
 write-requires-4 : tie.Need-write-requires-4
 write-requires-4 c κs = let room = rw (c .before .enum-told2 .given .1) at (c .before .before .before .before .before .pre .1 .1) in search needs
 
+enum-known-method-3 : tie.Need-enum-known-method-3
+enum-known-method-3 c = search needs
+
+write-requires-5 : tie.Need-write-requires-5
+write-requires-5 c κs =
+    let pre = rw (c .before .before .method3 .given .1) at (c .before .before .before .before .before .before .pre .1) in
+    let w = wide-widths (pre .0) in
+    search needs
+
 same-length : tie.Need-same-length
 same-length c = search needs
 
@@ -58,6 +67,12 @@ same-length-4 c = search needs
 returns-4 : tie.Need-returns-4
 returns-4 c = rw (c .before .before .before .before .enum-told2 .given .1) (c .before .before .write4 .ensures)
 
+same-length-5 : tie.Need-same-length-5
+same-length-5 c = search needs
+
+returns-5 : tie.Need-returns-5
+returns-5 c = rw (c .before .before .before .before .before .method3 .given .1) (c .before .before .write5 .ensures)
+
 pub write-spec : {M : Type 1} → statement M
 write-spec =
     tie.close
@@ -70,6 +85,8 @@ write-spec =
     write-requires-3
     enum-told-2
     write-requires-4
+    enum-known-method-3
+    write-requires-5
     same-length
     returns
     same-length-2
@@ -77,4 +94,6 @@ write-spec =
     same-length-3
     returns-3
     same-length-4
-    returns-4)
+    returns-4
+    same-length-5
+    returns-5)

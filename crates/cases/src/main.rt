@@ -171,20 +171,34 @@ fn of_value(a: Value) -> Fields {
 
 fn of_counts(a: Counts) -> Fields {
     Fields {
-        values: [a.refusal, a.place, a.doublings, a.additions, a.subtractions, 0],
+        values: [
+            a.refusal,
+            a.place,
+            a.doublings,
+            a.additions,
+            a.subtractions,
+            0,
+        ],
         count: 5,
     }
 }
 
 fn of_accepted(a: Accepted) -> Fields {
     Fields {
-        values: [a.refusal, a.place, a.doublings, a.additions, a.subtractions, a.largest_bits],
+        values: [
+            a.refusal,
+            a.place,
+            a.doublings,
+            a.additions,
+            a.subtractions,
+            a.largest_bits,
+        ],
         count: 6,
     }
 }
 
 // Makes the call of a name. No call has no fields.
-fn call(name: u64, input: &[u8], plan: &[u8], method: u32, width: u32, out: &mut [u8]) -> Fields {
+fn made(name: u64, input: &[u8], plan: &[u8], method: u32, width: u32, out: &mut [u8]) -> Fields {
     match name {
         RECODE => of_length(lesmutka_recode(input, out)),
         BYWORDS => of_length(lesmutka_recode_words(input, out)),
@@ -219,6 +233,19 @@ fn put_fields(fields: Fields) {
     }
 }
 
+// Makes a call, and writes what it answered and left.
+fn call(name: u64, input: &[u8], plan: &[u8], method: u32, width: u32, out: &mut [u8]) {
+    let fields = made(name, input, plan, method, width, out);
+    if fields.count == 0 {
+        put(b" unknown");
+        return;
+    }
+    put_fields(fields);
+    if name != FORECAST {
+        put_buffer(out);
+    }
+}
+
 // Answers a line, if it is a request.
 fn answer(line: Line, bytes: &[u8; LINE_BYTES]) {
     if line.names[0] <= COMMENT {
@@ -241,7 +268,7 @@ fn answer(line: Line, bytes: &[u8; LINE_BYTES]) {
         return;
     }
     let mut space = [FILL; ROOM_BYTES];
-    let fields = call(
+    call(
         name,
         input,
         part(bytes, line.starts[3], line.starts[4]),
@@ -249,14 +276,6 @@ fn answer(line: Line, bytes: &[u8; LINE_BYTES]) {
         (line.numbers[4] % 0x100000000) as u32,
         &mut space[0..room],
     );
-    if fields.count == 0 {
-        put(b" unknown");
-        return;
-    }
-    put_fields(fields);
-    if name != FORECAST {
-        put_buffer(&space[0..room]);
-    }
 }
 
 // Copies a byte of the input. Where it ends a line, the answer comes before it.

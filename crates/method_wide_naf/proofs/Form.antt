@@ -24,7 +24,6 @@ use Rattle.digit_strings.specs.Places.{placeByte}
 use Rattle.digit_strings.proofs.Digits.{bound-fits}
 use Rattle.digit_strings.proofs.Bytes.{place-back}
 use Rattle.wide_digits.specs.Form.{FormIn}
-use Rattle.chains.specs.Steps.{Step}
 use Rattle.chains.specs.Counts.{counts, countsOf, total}
 use Rattle.chains.proofs.Counts.{length-counted}
 use Rattle.methods.specs.PartialPlan.{PartialPlan, downFrom}
@@ -153,12 +152,8 @@ atPlace e w i b = atDigit (digitAt (naf w (pos e)) i) b
 pub place-grows : (e w i : ℕ) (b : PartialPlan) → length (b .steps) ≤ length (atPlace e w i b .steps)
 place-grows e w i b = omega (arith, length-at-digit (digitAt (naf w (pos e)) i) b)
 
--- from the table on
-abbrev pub afterTable : ℕ → ℕ → ℕ → List Step
-afterTable e w i = downFrom (atPlace e w) i (atTop (wideTable e w) (naf w (pos e))) .steps
-
 module _ {e w n : ℕ} {digits : List ℕ} (h : Recoded e w digits n) where
-  pub steps-are : afterTable e w (n - 1) ≡ wideNafSteps e w
+  pub steps-are : downFrom (atPlace e w) (n - 1) (atTop (wideTable e w) (naf w (pos e))) .steps ≡ wideNafSteps e w
   unfolding wideNafSteps digitSteps
   steps-are = rw (h .form .count)
 

@@ -41,7 +41,7 @@ fn position_of(digit: u8) -> usize
     }
 }
 
-// How many steps of the table come first. A number that is its own digit ends the table.
+// How many steps of the table come first. With one digit, which is the number, it is cut there.
 fn table_steps(length: usize, top: usize, width: usize) -> usize
     requires { ⌜ (leastWidth ≤ width) × (width ≤ largestWidth) ⌝ }
     ensures { λ r. ⌜ r ≡ cond (eqb length 1) top (tableLength (width - 1)) ⌝ }
@@ -55,7 +55,7 @@ fn table_steps(length: usize, top: usize, width: usize) -> usize
 
 // The counts of the steps for a number above zero: those of the table, a doubling for each digit
 // below the top one, an addition for each of these that is above zero, and a subtraction for each
-// below. A digit is odd, or zero.
+// below. A digit is odd, or zero. In sums of 16 bits the compiler counts eight digits at once.
 pub fn counts(number: &[u8], width: usize) -> Counts
     requires { ⌜ Positive (now number) ⌝ }
     requires { ⌜ (leastWidth ≤ width) × (width ≤ largestWidth) ⌝ }

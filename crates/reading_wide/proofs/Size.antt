@@ -16,30 +16,19 @@ use Rattle.integers.proofs.Bits.{power-of-bytes}
 use Rattle.integers.proofs.Shortest.{bytes-fit}
 use Rattle.signed_digits.specs.Strings.{value}
 use Rattle.signed_digits.specs.Bytes.{byteDigit, stringOf}
-use Rattle.signed_digits.proofs.Width.{UpTo, value-bound}
 use Rattle.digit_strings.specs.Admission.{largestDigit, isDigit, stringValue, DigitString}
 use Rattle.digit_strings.proofs.Digits.{OddUpTo, up-to-is, bound-fits}
-use Rattle.digit_strings.proofs.Scan.{digit-at}
+use Rattle.digit_strings.proofs.Sizes.{string-bound}
 use Rattle.widths.specs.Width.{AllowedWidth}
 use Rattle.reading.specs.ReadBack.{sizeBytes}
-
--- every digit has at most the size of the largest
-sizes : (w : ℕ) (digits : List ℕ) → DigitString w digits → UpTo (largestDigit w) (stringOf digits)
-sizes w digits d i = rw (List·getD-map byteDigit digits i 0) (go (up-to-is (largestDigit w) _ .0 (digit-at d i) .1))
-  where
-    go : {b : ℕ} → (b ≡ 0) ⊎ OddUpTo (largestDigit w) b → natAbs (byteDigit b) ≤ largestDigit w
-    go (inl z) = rw z (omega arith)
-    go (inr o) = o .1
 
 -- n digits come to at most the largest, 2 ^ n - 1 times
 pub size-room : (w : ℕ) (digits : List ℕ) → DigitString w digits → natAbs (stringValue digits) ≤ (2 ^ (w - 1) - 1) * (2 ^ length digits - 1)
 size-room w digits d =
     let n : ℕ = length digits in
     let t : ℕ = largestDigit w in
-    let b : natAbs (stringValue digits) + t ≤ t * 2 ^ length (stringOf digits) = value-bound t (stringOf digits) (sizes w digits d) in
-    let l : length (stringOf digits) ≡ n = length-map digits byteDigit in
     let e : 2 ^ n ≡ 2 ^ n - 1 + 1 = omega (arith, pow-pos n) in
-    omega (arith, rw l at b, ap (λ (x : ℕ). t * x) e)
+    omega (arith, string-bound w digits d, ap (λ (x : ℕ). t * x) e)
 
 module _ (w : ℕ) (a : AllowedWidth w) where
   -- so the size has at most one byte more than an eighth of the most digits

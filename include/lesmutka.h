@@ -174,7 +174,7 @@ extern "C" {
 
 /* No call takes more stack than this: its return address, what it uses of the red zone and glibc's
  * memcpy and memset included, but not the dynamic linker, where it binds these two at first use. */
-#define LESMUTKA_STACK_BYTES 1024
+#define LESMUTKA_STACK_BYTES 1536
 
 /* The work space that the check of a plan of this many steps takes. */
 #define LESMUTKA_WORK_SPACE(steps) (LESMUTKA_RECORD_BYTES * ((size_t)(steps) + 1))

@@ -15,8 +15,8 @@ ghost use Rattle.integers.specs.Signed.{signOf};
 ghost use Rattle.digit_strings.specs.Admission.{largestDigit, stringValue, DigitString};
 ghost use Rattle.reading_digits.specs.Sums.{SizesUpTo, raisedSum, raisedZeros, bySign, carryZero};
 
-// Enough bytes for the size of every digit string within the limit, with one byte above those of
-// its digits, and for a load of eight bytes from that one on.
+// Enough bytes for the size of every digit string within the limit: one for every eight digits, and
+// one for the carry above them. A load of eight bytes from that one on stays within.
 pub const SIZE_BYTES: usize = STRING_DIGITS / 8 + 8;
 
 // A carry of zero. Carries are raised by this, which is above every digit, so that none is below
@@ -83,8 +83,8 @@ fn raised_sum(digits: &[u8], from: usize, count: usize, largest: u64) -> u64
     sum
 }
 
-// The next byte of the size, and 256 times the next carry: what these digits come to in size, and
-// the carry.
+// What these digits come to in size, with the carry into them: the next byte of the size, and 256
+// times the carry out of them.
 fn byte_of(digits: &[u8], from: usize, count: usize, largest: u64, sign: u8, carry: u64) -> u64
     requires { ⌜ SizesUpTo largest (now digits) ⌝ }
     requires { ⌜ largest < carryZero ⌝ }

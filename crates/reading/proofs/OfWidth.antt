@@ -4,7 +4,7 @@ use mathlib.Core.List.{List, [], _∷_, _++_}
 use Prim.Native.Nat.{ℕ, _+_, _*_, _≤_}
 use native.Mathlib.Omega.{arith}
 use lib.IntN.{ℤ, pos}
-use lib.ListN.{length, drop, length-map}
+use lib.ListN.{length, drop}
 use Rattle.rules.specs.Limits.{leastWidth, largestWidth}
 use Rattle.rules.specs.Outcome.{Outcome, answered, outcomeOf}
 use Rattle.rules.specs.declared.Written.{Written}
@@ -12,17 +12,14 @@ use Rattle.rules.specs.declared.Written.the-variants.{Length, Refused}
 use Rattle.rules.proofs.Memory as memory
 use Rattle.integers.specs.Positional.{bytesValue, bytesOf}
 use Rattle.integers.specs.Signed.{signOf}
-use Rattle.integers.proofs.Bits.{power-of-bytes}
-use Rattle.integers.proofs.Positional.{Below, positional-lt}
+use Rattle.integers.proofs.Positional.{Below}
 use Rattle.numbers.specs.Admission.{Admitted}
 use Rattle.numbers.proofs.Spelling.{own-bytes}
-use Rattle.signed_digits.specs.Naf.{naf}
-use Rattle.signed_digits.specs.Bytes.{digitByte}
-use Rattle.signed_digits.proofs.Width.{form-length}
 use Rattle.digit_strings.specs.Admission.{stringVerdict, stringValue, DigitString}
 use Rattle.digit_strings.proofs.Bytes.{naf-digits, naf-bytes-value}
 use Rattle.digit_strings.proofs.Given as string
 use Rattle.recoding.specs.Recode.{recodingOf}
+use Rattle.recoding.proofs.Promises.{recoding-length-of}
 use Rattle.reading.specs.ReadBack.{sizeBytes, readLengthOf, withSign, readAnswerOf, readBufferOf, readBackOutcome}
 
 -- the sign goes with the length
@@ -44,21 +41,13 @@ module _ (w : ℕ) (digits : List ℕ) (room : ℕ) where
 -- ---- what recode writes
 
 module _ (w : ℕ) (least : leastWidth ≤ w) (number : List ℕ) (bytes : Below 256 number) where
-  -- n bytes have at most 8 n + 1 digits
-  pub recoding-length : length (recodingOf w number) ≤ 8 * length number + 1
-  unfolding recodingOf
-  recoding-length =
-      let n : ℕ = length number in
-      rw (length-map (naf w (pos (bytesValue number))) digitByte)
-      (form-length w least (8 * n) (pos (bytesValue number)) (omega (arith, power-of-bytes n, positional-lt 256 n number (omega arith) bytes)))
-
   module _ (most : w ≤ largestWidth) (admitted : Admitted number) where
     -- a digit string of the number's value
     pub recoding-reads : DigitString w (recodingOf w number) × (stringValue (recodingOf w number) ≡ pos (bytesValue number))
     unfolding recodingOf
     recoding-reads =
         let z : ℤ = pos (bytesValue number) in
-        (naf-digits w most z least (omega (arith, recoding-length, admitted .short)), naf-bytes-value w most z least)
+        (naf-digits w most z least (omega (arith, recoding-length-of w number least bytes, admitted .short)), naf-bytes-value w most z least)
 
     -- read back with room enough, it gives the number's own bytes
     pub reads-recoding : (out : List ℕ) → length number ≤ length out

@@ -4,25 +4,26 @@ use mathlib.Core.Logic.{_↔_}
 use mathlib.Core.List.{List, [], _∷_, _++_}
 use Prim.Native.Nat.{ℕ, _+_, _*_, _<_, _≤_}
 use lib.IntN.{ℤ, pos}
-use lib.ListN.{length, drop}
-use Rattle.rules.specs.Limits.{numberBytes}
+use native.Mathlib.Omega.{arith}
+use lib.ListN.{length, drop, length-map}
+use Rattle.rules.specs.Limits.{numberBytes, leastWidth}
 use Rattle.rules.specs.declared.Refusal.{Refusal}
 use Rattle.rules.specs.declared.Verdict.the-variants.{Failed}
 use Rattle.rules.specs.Outcome.{Outcome, refused, answered, refusal, writtenOutcome, lengthValue}
 use Rattle.rules.proofs.Memory as memory
 use Rattle.rules.proofs.Memory.{Writes, stopped, no-room, all-fits, writes-only, writes-one}
 use Rattle.integers.specs.Positional.{positional, bytesValue}
-use Rattle.integers.proofs.Positional.{Below}
+use Rattle.integers.proofs.Bits.{power-of-bytes}
+use Rattle.integers.proofs.Positional.{Below, positional-lt}
 use Rattle.numbers.specs.Admission.{Padded, numberVerdict, Admitted}
 use Rattle.numbers.proofs.Tests.{NumberTest, too-long, padded, number-only, number-test, admitted-is}
 use Rattle.signed_digits.specs.Strings.{value}
 use Rattle.signed_digits.specs.Form.{Canonical}
-use Rattle.signed_digits.specs.Naf.{canonical, naf, digitsOf}
-use Rattle.signed_digits.specs.Bytes.{digitBytes}
+use Rattle.signed_digits.specs.Naf.{canonical, canonicalWidth, naf, digitsOf}
+use Rattle.signed_digits.specs.Bytes.{digitByte, digitBytes}
+use Rattle.signed_digits.proofs.Width.{form-length}
 use Rattle.signed_digits.proofs.Canonical.{canonical-form, canonical-value, canonical-only}
-use Rattle.recoding_digits.proofs.TopByte.{most-digits}
 use Rattle.recoding.specs.Recode.{recodingOf, recoding, recodeAnswer, recodeBuffer}
-use Rattle.recoding.proofs.Outcomes.{length-recoding}
 
 -- ---- each refusal is given exactly when the rules say, and no other
 
@@ -97,9 +98,16 @@ pub recoding-empty : recoding [] ≡ []
 unfolding recodingOf positional naf digitsOf
 recoding-empty = refl
 
--- n bytes have at most 8 n + 1 digits
+-- n bytes have at most 8 n + 1 digits, of every width
+pub recoding-length-of : (w : ℕ) (number : List ℕ) → leastWidth ≤ w → Below 256 number → length (recodingOf w number) ≤ 8 * length number + 1
+unfolding recodingOf
+recoding-length-of w number least b =
+    let n : ℕ = length number in
+    rw (length-map (naf w (pos (bytesValue number))) digitByte)
+    (form-length w least (8 * n) (pos (bytesValue number)) (omega (arith, power-of-bytes n, positional-lt 256 n number (omega arith) b)))
+
 pub recoding-length : (number : List ℕ) → Below 256 number → length (recoding number) ≤ 8 * length number + 1
-recoding-length number b = rw (length-recoding number) (most-digits number b)
+recoding-length number b = recoding-length-of canonicalWidth number (omega arith) b
 
 -- ---- memory
 

@@ -4,7 +4,7 @@ use mathlib.Core.Logic.{_↔_}
 use mathlib.Core.List.{List, [], _∷_, _++_}
 use Prim.Native.Nat.{ℕ, _+_, _*_, _<_, _≤_}
 use lib.IntN.{ℤ, pos}
-use lib.ListN.{length, drop, length-map}
+use lib.ListN.{length, drop}
 use Rattle.rules.specs.Limits.{numberBytes, leastWidth}
 use Rattle.rules.specs.declared.Refusal.{Refusal}
 use Rattle.rules.specs.declared.Refusal.the-variants.{NumberTooLong, HighestByteIsZero, MethodOrWidth}
@@ -20,14 +20,13 @@ use Rattle.numbers.proofs.Tests.{NumberTest, too-long, padded, admitted, number
 use Rattle.signed_digits.specs.Strings.{value}
 use Rattle.signed_digits.specs.Form.{NonAdjacent}
 use Rattle.signed_digits.specs.Naf.{naf, digitsOf, canonicalWidth}
-use Rattle.signed_digits.specs.Bytes.{digitByte, digitBytes}
+use Rattle.signed_digits.specs.Bytes.{digitBytes}
 use Rattle.signed_digits.proofs.Exists.{naf-form, naf-value}
 use Rattle.signed_digits.proofs.Unique.{naf-only}
-use Rattle.signed_digits.proofs.Width.{form-length}
 use Rattle.widths.specs.Width.{AllowedWidth, widthVerdict}
 use Rattle.widths.proofs.Tests.{WidthTest, not-allowed, allowed, width-test, allowed-is, not-allowed-is}
 use Rattle.recoding.specs.Recode.{recodingOf, recodeAnswer, recodeBuffer}
-use Rattle.wide_digits.proofs.Padded.{bytes-bits}
+use Rattle.recoding.proofs.Promises.{recoding-length-of}
 use Rattle.recoding_wide.specs.RecodeWide.{recodeWideVerdict, recodeWideAnswer, recodeWideBuffer}
 
 -- ---- each refusal is given exactly when the rules say, and no other
@@ -135,8 +134,7 @@ module _ (w : ℕ) (least : leastWidth ≤ w) (number : List ℕ) where
 
   -- n bytes have at most 8 n + 1 digits
   pub recoding-length : Below 256 number → length (recodingOf w number) ≤ 8 * length number + 1
-  unfolding recodingOf
-  recoding-length b = rw (length-map (naf w (pos (bytesValue number))) digitByte) (form-length w least (8 * length number) (pos (bytesValue number)) (bytes-bits number b))
+  recoding-length b = recoding-length-of w number least b
 
 -- no bytes mean zero, which is the empty string
 pub recoding-empty : (w : ℕ) → recodingOf w [] ≡ []

@@ -1,10 +1,9 @@
 // Cleaning a digit string of a width from 2 to 8 into the non-adjacent form of the same value: its sign and
-// its size, and the digits of these.
-use digit_strings::string_verdict;
-use integers::significant;
+// its size are read back, and the digits of these written.
 use output::put;
-use reading_digits::sign_of;
-use reading_digits::size_of;
+use reading::ReadBack;
+use reading::read_of_width;
+use reading_digits::SIZE_BYTES;
 use rules::LARGEST_WIDTH;
 use rules::STRING_DIGITS;
 use rules::Verdict;
@@ -27,13 +26,13 @@ pub fn clean_wide(digits: &[u8], width: u32, out: &mut [u8]) -> Written
         return Written::Refused(refusal);
     }
     let w = width as usize;
-    if let Verdict::Failed(refusal) = string_verdict(digits, w) {
-        return Written::Refused(refusal);
+    let mut size = [0u8; SIZE_BYTES];
+    match read_of_width(digits, w, &mut size) {
+        ReadBack::Refused(refusal) => Written::Refused(refusal),
+        ReadBack::Value { sign, length: _ } => {
+            let mut form = [0u8; DIGIT_ROOM];
+            let length = write(&size, digits.len() + (w - 1), w, sign, &mut form);
+            put(&form[..length], out)
+        }
     }
-    let count = significant(digits);
-    let sign = sign_of(digits, count, w);
-    let size = size_of(digits, count, w, sign);
-    let mut form = [0u8; DIGIT_ROOM];
-    let length = write(&size, digits.len() + (w - 1), w, sign, &mut form);
-    put(&form[..length], out)
 }

@@ -1,18 +1,21 @@
 -- `cleaning_wide::clean_wide` meets its contract: at each return the tests that led there say which outcome holds. Assumes nothing.
-use mathlib.Core.Path.{_≡_, sym, _∙_}
-use Prim.Native.Nat.{_+_}
+use mathlib.Core.Path.{_≡_, sym, ap, _∙_}
+use mathlib.Core.List.{List}
+use Prim.Native.Nat.{ℕ, _+_}
 use native.Mathlib.Omega.{arith}
+use lib.IntN.{natAbs}
 use lib.Seq.{length-take-le}
 use Rattle.rules.specs.Limits.{stringDigits, largestWidth}
 use Rattle.rules.specs.declared.Verdict.the-variants.{Passed}
 use Rattle.integers.specs.Positional.{bytesValue}
-use Rattle.digit_strings.specs.Admission.{stringVerdict, DigitString}
+use Rattle.integers.specs.Signed.{signOf}
+use Rattle.digit_strings.specs.Admission.{stringVerdict, stringValue}
 use Rattle.digit_strings.proofs.Tests.{digit-string-is}
 use Rattle.digit_strings.proofs.Sizes.{string-bits}
 use Rattle.widths.specs.Width.{AllowedWidth, widthVerdict}
 use Rattle.widths.proofs.Tests.{allowed-is}
 use Rattle.wide_digits.proofs.Padded.{zeros-blank}
-use Rattle.cleaning_wide.proofs.Value.{cleaned}
+use Rattle.cleaning_wide.proofs.Value.{read-refused, read-value, cleaned}
 use borrow.Author.Needs.{needs}
 use Rattle.cleaning_wide.proofs.clean_wide.Statement.{statement}
 use Rattle.cleaning_wide.proofs.clean_wide.Tie as tie
@@ -24,12 +27,19 @@ width-passed c = sym (c .before .before .width-verdict .ensures) ∙ c .enum-tol
 width : (c : tie.After-enum-told) → AllowedWidth (c .before .before .before .before .before .args .width)
 width c = allowed-is _ .0 (width-passed c)
 
--- and 5 and 4
-string-passed : (c : tie.After-enum-told2) → stringVerdict (c .before .before .before .before .before .before .before .before .args .width) (c .before .before .before .before .before .before .before .before .args .digits .now) ≡ Passed
-string-passed c = sym (c .before .before .string-verdict .ensures) ∙ c .enum-told2 .given .1
+-- what is read
+abbrev widthOf : tie.After-read-of-width → ℕ
+widthOf c = c .before .before .before .before .before .before .before .args .width
 
-string : (c : tie.After-enum-told2) → DigitString (c .before .before .before .before .before .before .before .before .args .width) (c .before .before .before .before .before .before .before .before .args .digits .now)
-string c = digit-string-is _ _ .0 (string-passed c)
+abbrev digitsOf : tie.After-read-of-width → List ℕ
+digitsOf c = c .before .before .before .before .before .before .before .args .digits .now
+
+read : (c : tie.After-sign)
+    → (stringVerdict (widthOf (c .before .before .before)) (digitsOf (c .before .before .before)) ≡ Passed) × (c .sign .given .0 .0 ≡ signOf (stringValue (digitsOf (c .before .before .before)))) × (bytesValue (c .before .before .before .read-of-width .last .1 .1 .0) ≡ natAbs (stringValue (digitsOf (c .before .before .before))))
+read c =
+    let r = c .before .before .before in
+    let v = read-value (widthOf r) (width (r .before .before)) (digitsOf r) (sym (r .read-of-width .ensures .0) ∙ c .sign .given .1) in
+    (v .0, v .1, ap bytesValue (r .read-of-width .ensures .1) ∙ v .2)
 
 width-verdict-requires : tie.Need-width-verdict-requires
 width-verdict-requires c κs = search needs
@@ -43,35 +53,23 @@ returns c = let e = sym (c .before .before .before .width-verdict .ensures) ∙ 
 enum-told : tie.Need-enum-told
 enum-told c = search needs
 
-string-verdict-requires : tie.Need-string-verdict-requires
-string-verdict-requires c κs = let a = width c in (a .least, a .most)
+slice-aggregate-read-of-width : tie.Need-slice-aggregate-read-of-width
+slice-aggregate-read-of-width c = search needs
+
+read-of-width-requires : tie.Need-read-of-width-requires
+read-of-width-requires c κs = let a = width (c .before) in (a .least, a .most)
 
 enum-known-refusal-2 : tie.Need-enum-known-refusal-2
 enum-known-refusal-2 c = search needs
 
-returns-2 : tie.Need-returns-2
-returns-2 c =
-    let n = width-passed (c .before .before .before .before) in
-    let e = sym (c .before .before .before .string-verdict .ensures) ∙ c .before .refusal2 .given .1 in
-    (rw (n, e), rw (n, e))
-
-enum-told-2 : tie.Need-enum-told-2
-enum-told-2 c = search needs
-
-significant-requires : tie.Need-significant-requires
-significant-requires c κs = search needs
-
-sign-of-requires : tie.Need-sign-of-requires
-sign-of-requires c κs = let a = width (c .before .before .before .before) in (string (c .before), ((a .least, a .most), c .significant .ensures))
-
-size-of-requires : tie.Need-size-of-requires
-size-of-requires c κs = let a = width (c .before .before .before .before .before) in (string (c .before .before), ((a .least, a .most), (c .before .significant .ensures, c .sign-of .ensures)))
+enum-known-sign : tie.Need-enum-known-sign
+enum-known-sign c = search needs
 
 slice-aggregate-write : tie.Need-slice-aggregate-write
 slice-aggregate-write c = search needs
 
 sub-write : tie.Need-sub-write
-sub-write c = omega (arith, width (c .before .before .before .before .before .before .before) .least)
+sub-write c = let told : tie.After-enum-told = search in omega (arith, width told .least)
 
 add-write : tie.Need-add-write
 add-write c = search needs
@@ -81,11 +79,12 @@ slice-aggregate-write-2 c = search needs
 
 write-requires : tie.Need-write-requires
 write-requires c κs =
-    let told : tie.After-enum-told2 = search in
-    let size : tie.After-size-of = search in
-    let a = width (told .before .before .before) in
-    let within = string told .within in
-    ((a .least, a .most), (rw (size .size-of .ensures) (string-bits _ _ (string told)), (omega (arith, a .most), (omega (arith, a .most), zeros-blank (stringDigits + largestWidth)))))
+    let told : tie.After-enum-told = search in
+    let value : tie.After-sign = search in
+    let a = width told in
+    let string = digit-string-is _ _ .0 (read value .0) in
+    let within = string .within in
+    ((a .least, a .most), (rw (read value .2) (string-bits _ _ string), (omega (arith, a .most), (omega (arith, a .most), zeros-blank (stringDigits + largestWidth)))))
 
 array-share-prefix-form : tie.Need-array-share-prefix-form
 array-share-prefix-form c = search needs
@@ -96,21 +95,26 @@ slice-aggregate-put c = sym (length-take-le (c .before .before .write .result) _
 put-requires : tie.Need-put-requires
 put-requires c κs = search needs
 
+returns-2 : tie.Need-returns-2
+returns-2 c =
+    let r : tie.After-read-of-width = search in
+    let n = width-passed (r .before .before) in
+    let e = read-refused (widthOf r) (width (r .before .before)) (digitsOf r) (sym (r .read-of-width .ensures .0) ∙ c .before .refusal2 .given .1) in
+    (rw (n, e), rw (n, e))
+
 same-length : tie.Need-same-length
 same-length c = search needs
 
 returns-3 : tie.Need-returns-3
 returns-3 c =
-    let told : tie.After-enum-told2 = search in
-    let sign : tie.After-sign-of = search in
-    let size : tie.After-size-of = search in
+    let r : tie.After-read-of-width = search in
+    let value : tie.After-sign = search in
     let form : tie.After-write = search in
-    let args = told .before .before .before .before .before .before .before .before .args in
-    let n = width-passed (told .before .before .before) in
-    let s = string-passed told in
-    let e = cleaned (args .width) (args .digits .now) (sign .sign-of .result) (bytesValue (size .size-of .result)) _ (form .write .result) (sign .sign-of .ensures) (size .size-of .ensures) (form .write .ensures) in
+    let n = width-passed (r .before .before) in
+    let s = read value in
+    let e = cleaned (widthOf r) (digitsOf r) (value .sign .given .0 .0) (bytesValue (r .read-of-width .last .1 .1 .0)) _ (form .write .result) (s .1) (s .2) (form .write .ensures) in
     let put = c .before .before .put in
-    (put .ensures .0 ∙ rw (n, s, e), put .ensures .1 ∙ rw (n, s, e))
+    (put .ensures .0 ∙ rw (n, s .0, e), put .ensures .1 ∙ rw (n, s .0, e))
 
 pub clean-wide-spec : {M : Type 1} → statement M
 clean-wide-spec =
@@ -120,13 +124,10 @@ clean-wide-spec =
     enum-known-refusal
     returns
     enum-told
-    string-verdict-requires
+    slice-aggregate-read-of-width
+    read-of-width-requires
     enum-known-refusal-2
-    returns-2
-    enum-told-2
-    significant-requires
-    sign-of-requires
-    size-of-requires
+    enum-known-sign
     slice-aggregate-write
     sub-write
     add-write
@@ -135,5 +136,6 @@ clean-wide-spec =
     array-share-prefix-form
     slice-aggregate-put
     put-requires
+    returns-2
     same-length
     returns-3)

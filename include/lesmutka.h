@@ -372,7 +372,8 @@ lesmutka_length lesmutka_clean(const uint8_t *digits, size_t digits_length, uint
 /** Clean a wide digit string: write the width-w NAF of the same value. Two strings of width w have
  *  the same value if and only if they give the same bytes.
  *
- *  Returns: the length of the NAF, the bytes written; it may be w more than the longest input.
+ *  Returns: the length of the NAF, the bytes written; it may be w more than the longest
+ *           input, at width 2 one more.
  *           Refused: 3 for a width that is none, then 5, then 4 for a byte that is no digit of
  *           width w, then 6; nothing is written.
  *  In:      digits: the digit string, digits_length bytes.

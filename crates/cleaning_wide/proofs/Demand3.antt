@@ -1,6 +1,6 @@
 -- Demand 3 (docs/PROMISES.md) for each width, the non-adjacent form of that width in place of the canonical string; all of it but the fewest digits, which stays with
 -- width 2. Assumes nothing.
-use mathlib.Core.Path.{_≡_, ap, sym, _∙_}
+use mathlib.Core.Path.{_≡_}
 use mathlib.Core.Logic.{_↔_}
 use mathlib.Core.List.{List, [], _∷_}
 use Prim.Native.Nat.{ℕ, _<_, _≤_}

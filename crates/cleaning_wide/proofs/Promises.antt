@@ -1,5 +1,5 @@
 -- What is promised of clean wide (docs/RULES.md, "Calls", "Refusals" and "Memory"), as theorems about the definitions that its statement cites. Assumes nothing.
-use mathlib.Core.Path.{_≡_, refl, sym, ap, _∙_}
+use mathlib.Core.Path.{_≡_, refl, _∙_}
 use mathlib.Core.Logic.{_↔_}
 use mathlib.Core.List.{List, [], _∷_, _++_}
 use Prim.Native.Nat.{ℕ, _+_, _-_, _<_, _≤_}

@@ -1,5 +1,5 @@
 -- What clean wide reads of a digit string, its sign and its size, and what it writes. Assumes nothing.
-use mathlib.Core.Path.{_≡_, refl, sym, _∙_}
+use mathlib.Core.Path.{_≡_, refl, _∙_}
 use mathlib.Core.List.{List}
 use Prim.Native.Nat.{ℕ, _+_, _/_, _≤_}
 use native.Mathlib.Omega.{arith}
@@ -9,17 +9,15 @@ use Rattle.rules.specs.Limits.{stringDigits}
 use Rattle.rules.specs.declared.Refusal.{Refusal}
 use Rattle.rules.specs.declared.Verdict.{Verdict}
 use Rattle.rules.specs.declared.Verdict.the-variants.{Passed, Failed}
-use Rattle.rules.specs.Memory.{written, leaves}
 use Rattle.rules.proofs.Fitted.{fits}
 use Rattle.integers.specs.Positional.{bytesValue}
 use Rattle.integers.specs.Signed.{signOf}
 use Rattle.integers.proofs.Shortest.{bytes-value}
-use Rattle.digit_strings.specs.Admission.{stringVerdict, stringValue, DigitString}
+use Rattle.digit_strings.specs.Admission.{stringVerdict, stringValue}
 use Rattle.digit_strings.proofs.Tests.{digit-string-is}
 use Rattle.widths.specs.Width.{AllowedWidth}
-use Rattle.reading.specs.declared.ReadBack.{ReadBack}
 use Rattle.reading.specs.declared.ReadBack.the-variants.{Value, Refused}
-use Rattle.reading.specs.ReadBack.{sizeBytes, withSign, readAnswerOf, readBufferOf}
+use Rattle.reading.specs.ReadBack.{sizeBytes, readAnswerOf, readBufferOf}
 use Rattle.reading_wide.proofs.Size.{bytes-room}
 use Rattle.cleaning.specs.Clean.{cleaningOf}
 use Rattle.wide_digits.specs.Form.{turned, FormIn}

@@ -1,15 +1,14 @@
 -- How large the value of a digit string is, over the width of its digits. Assumes nothing.
-use mathlib.Core.Path.{_≡_, sym, ap, _∙_}
+use mathlib.Core.Path.{_≡_}
 use mathlib.Core.Logic.{_⊎_, inl, inr}
 use mathlib.Core.List.{List}
 use Prim.Native.Nat.{ℕ, _+_, _*_, _-_, _^_, _<_, _≤_}
 use native.Mathlib.Decide.{decLt}
 use native.Mathlib.Nat.{mul-le-mul-right}
 use native.Mathlib.Omega.{arith}
-use lib.IntN.{ℤ, pos, natAbs}
+use lib.IntN.{natAbs}
 use lib.ListN.{length, getD, length-map, List·getD-map, List·getD-eq-default}
-use lib.Pow.{pow-add, pow-pos}
-use Rattle.signed_digits.specs.Strings.{digitAt}
+use lib.Pow.{pow-add}
 use Rattle.signed_digits.specs.Form.{OddDigit}
 use Rattle.signed_digits.specs.Bytes.{byteDigit, stringOf}
 use Rattle.signed_digits.proofs.Width.{UpTo, value-bound}

@@ -1,13 +1,11 @@
 -- How many canonical digits of a number e are 1, and how many -1, by what 3 e and e have in binary. Assumes nothing.
-use mathlib.Core.Path.{_≡_, refl, sym, ap, _∙_}
-use mathlib.Core.List.{List, [], _∷_}
+use mathlib.Core.Path.{_≡_, refl, sym, _∙_}
 use Prim.Native.Nat.{ℕ, zero, suc, _+_, _-_, _*_, _/_, _%_, _≤_, min}
 use native.Mathlib.Nat.{min-le-left}
 use native.Mathlib.Omega.{arith}
 use lib.Bits.{bitAnd, and-step, and-le-l}
 use lib.Count.{ones, onesIn, ones-step}
-use lib.IntN.{ℤ, pos, natAbs}
-use Rattle.signed_digits.specs.Strings.{digitAt}
+use lib.IntN.{pos}
 use Rattle.signed_digits.specs.Naf.{lowDigit, rest, canonical}
 use Rattle.signed_digits.proofs.Steps.{naf-zero, naf-step, low-digit-2, by-four, rest-less}
 use Rattle.signed_digits.proofs.Triple.{rest-halved}

@@ -48,7 +48,7 @@ module _ (e : ℕ) (some : 0 < e) where
   suited-alone : Suited (suc (e + 1)) 0 ds
   suited-alone = suited (lt-suc-self (e + 1))
 
-  top-digit : digitAt (canonical (pos e)) (length (canonical (pos e)) - 1) ≡ pos 1
+  pub top-digit : digitAt (canonical (pos e)) (length (canonical (pos e)) - 1) ≡ pos 1
   top-digit =
       let top : ℕ = length ds - 1 in
       let v = top-above-zero 0 ds suited-alone in

@@ -1,6 +1,6 @@
 -- How large the size of a digit string of width w is, and how many bytes it has. Assumes nothing.
 use mathlib.Core.Path.{_≡_, refl, ap, _∙_}
-use mathlib.Core.Logic.{_⊎_, inl, inr}
+use mathlib.Core.Logic.{inr}
 use mathlib.Core.Bool.{true}
 use mathlib.Core.List.{List}
 use Prim.Native.Nat.{ℕ, zero, suc, _+_, _-_, _*_, _/_, _^_, _<_, _≤_}
@@ -8,16 +8,16 @@ use native.Mathlib.Nat.{pow-suc, lt-of-lt-of-le, mul-le-mul-left}
 use native.Mathlib.Omega.{arith}
 use borrow.Author.Tests.{lt-ltb}
 use lib.IntN.{pos, natAbs}
-use lib.ListN.{length, replicate, length-replicate, getD-replicate, length-map, List·getD-map}
+use lib.ListN.{length, replicate, length-replicate, getD-replicate}
 use lib.Pow.{pow-add, pow-pos, pow-mono}
 use Rattle.rules.specs.Limits.{stringDigits, largestWidth}
 use Rattle.integers.specs.Positional.{bytesOf, bytesUpTo}
 use Rattle.integers.proofs.Bits.{power-of-bytes}
 use Rattle.integers.proofs.Shortest.{bytes-fit}
 use Rattle.signed_digits.specs.Strings.{value}
-use Rattle.signed_digits.specs.Bytes.{byteDigit, stringOf}
+use Rattle.signed_digits.specs.Bytes.{byteDigit}
 use Rattle.digit_strings.specs.Admission.{largestDigit, isDigit, stringValue, DigitString}
-use Rattle.digit_strings.proofs.Digits.{OddUpTo, up-to-is, bound-fits}
+use Rattle.digit_strings.proofs.Digits.{up-to-is, bound-fits}
 use Rattle.digit_strings.proofs.Sizes.{string-bound}
 use Rattle.widths.specs.Width.{AllowedWidth}
 use Rattle.reading.specs.ReadBack.{sizeBytes}

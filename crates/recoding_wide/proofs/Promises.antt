@@ -20,9 +20,10 @@ use Rattle.numbers.proofs.Tests.{NumberTest, too-long, padded, admitted, number
 use Rattle.signed_digits.specs.Strings.{value}
 use Rattle.signed_digits.specs.Form.{NonAdjacent}
 use Rattle.signed_digits.specs.Naf.{naf, digitsOf, canonicalWidth}
-use Rattle.signed_digits.specs.Bytes.{digitBytes}
+use Rattle.signed_digits.specs.Bytes.{digitBytes, stringOf}
 use Rattle.signed_digits.proofs.Exists.{naf-form, naf-value}
 use Rattle.signed_digits.proofs.Unique.{naf-only}
+use Rattle.digit_strings.proofs.Bytes.{naf-back}
 use Rattle.widths.specs.Width.{AllowedWidth, widthVerdict}
 use Rattle.widths.proofs.Tests.{WidthTest, not-allowed, allowed, width-test, allowed-is, not-allowed-is}
 use Rattle.recoding.specs.Recode.{recodingOf, recodeAnswer, recodeBuffer}
@@ -135,6 +136,11 @@ module _ (w : ℕ) (least : leastWidth ≤ w) (number : List ℕ) where
   -- n bytes have at most 8 n + 1 digits
   pub recoding-length : Below 256 number → length (recodingOf w number) ≤ 8 * length number + 1
   recoding-length b = recoding-length-of w number least b
+
+-- the bytes written, each read in two's complement, are the form
+pub written-form : (w : ℕ) (number : List ℕ) → AllowedWidth w → stringOf (recodingOf w number) ≡ naf w (pos (bytesValue number))
+unfolding recodingOf
+written-form w number a = naf-back w (a .most) (pos (bytesValue number)) (a .least)
 
 -- no bytes mean zero, which is the empty string
 pub recoding-empty : (w : ℕ) → recodingOf w [] ≡ []

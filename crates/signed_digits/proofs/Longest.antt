@@ -1,18 +1,18 @@
 -- How much longer than a string the form of its value can be: n digits of width w come to at most n + w, and from width 3 on that many are reached. (At width 2 it
 -- is n + 1: cleaning_digits/proofs/Length.antt.) Assumes nothing.
-use mathlib.Core.Path.{_≡_, refl, sym, ap, _∙_}
+use mathlib.Core.Path.{_≡_, refl, ap, _∙_}
 use mathlib.Core.Logic.{_≢_}
 use mathlib.Core.List.{List, [], _∷_, _++_}
 use Prim.Native.Nat.{ℕ, zero, suc, _+_, _*_, _-_, _<_, _≤_, _^_, _%_}
 use native.Mathlib.Nat.{pow-suc, sub-zero, mul-le-mul-right}
 use native.Mathlib.Omega.{arith}
-use lib.IntN.{ℤ, pos, negsuc, negℤ, natAbs}
+use lib.IntN.{ℤ, pos, negsuc, negℤ}
 use lib.ListN.{length, replicate, length-append, length-replicate}
 use lib.Pow.{pow-add, pow-pos, pow-mono}
 use Rattle.signed_digits.specs.Strings.{value, digitAt}
-use Rattle.signed_digits.specs.Form.{OddDigit, NonAdjacent}
+use Rattle.signed_digits.specs.Form.{OddDigit}
 use Rattle.signed_digits.specs.Naf.{naf}
-use Rattle.signed_digits.proofs.Parts.{positivePart, negativePart, from-parts, size-parts, opposite-parts, positiveSum, negativeSum, value-parts}
+use Rattle.signed_digits.proofs.Parts.{from-parts, size-parts, opposite-parts, positiveSum, negativeSum, value-parts}
 use Rattle.signed_digits.proofs.Spaced.{Spaced, empty, blank, digit, form-of-spaced}
 use Rattle.signed_digits.proofs.Exists.{even-power}
 use Rattle.signed_digits.proofs.Unique.{naf-only}
@@ -63,7 +63,7 @@ zeros-spaced w (suc k) g ds h s = let e : g - suc k ≡ g - 1 - k = omega arith 
 pub longString : ℕ → ℕ → List ℤ
 longString w m = replicate m (pos 1) ++ (pos 3 ∷ (pos (2 ^ (w - 1) - 1) ∷ []))
 
--- its form: -1 at the lowest place, the largest digit below zero under the top place of the string, and 1 at w places above that
+-- its form: -1 at the lowest place, the opposite of the largest digit at the top place of the string, and 1 at w places above that
 longForm : ℕ → ℕ → List ℤ
 longForm w m = negsuc 0 ∷ zeros m (negℤ (pos (largest w)) ∷ zeros (w - 1) (pos 1 ∷ []))
 

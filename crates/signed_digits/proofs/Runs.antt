@@ -1,6 +1,6 @@
 -- Several digits of width w at once: the zeros where what is left is a multiple of a power of two, and an odd digit with the zeros above it; and the digits
 -- of an opposite. Assumes nothing.
-use mathlib.Core.Path.{_≡_, refl, sym, _∙_, ap}
+use mathlib.Core.Path.{_≡_, refl, _∙_, ap}
 use mathlib.Core.List.{map}
 use Prim.Native.Nat.{ℕ, zero, suc, _+_, _*_, _-_, _<_, _≤_, _^_, _%_, _/_}
 use native.Mathlib.Omega.{arith}

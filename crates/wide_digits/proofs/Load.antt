@@ -7,7 +7,7 @@ use native.Mathlib.Nat.{pow-suc, mul-assoc, mod-lt, div-one}
 use native.Mathlib.Omega.{arith}
 use lib.Arith.{digits-mod}
 use lib.Count.{under, trailingZeros}
-use lib.ListN.{length, take, drop}
+use lib.ListN.{take, drop}
 use lib.Pow.{pow-add, pow-pos, shr-shr, field, split}
 use Rattle.integers.specs.Positional.{bytesValue}
 use Rattle.integers.proofs.Bits.{power-of-bytes}

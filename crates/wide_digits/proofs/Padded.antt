@@ -1,6 +1,6 @@
 -- A number with zeros above it, and an array of zeros. Assumes nothing.
-use mathlib.Core.Path.{_≡_, refl, ap, _∙_}
-use mathlib.Core.List.{List, [], _∷_}
+use mathlib.Core.Path.{_≡_, refl}
+use mathlib.Core.List.{List}
 use Prim.Native.Nat.{ℕ, zero, suc, _*_, _-_, _≤_, _^_}
 use native.Mathlib.Nat.{sub-zero, zero-sub, suc-sub-suc, le-of-lt}
 use lib.ListN.{length, drop, replicate}

@@ -3,7 +3,7 @@ use mathlib.Core.Path.{_≡_, refl, sym, _∙_, ap}
 use mathlib.Core.Logic.{_≢_}
 use mathlib.Core.Bool.{Bool, true, false, cond}
 use mathlib.Core.List.{List}
-use Prim.Native.Nat.{ℕ, zero, suc, _+_, _*_, _-_, _<_, _≤_, _^_, _%_, _/_}
+use Prim.Native.Nat.{ℕ, _+_, _*_, _-_, _<_, _≤_, _^_, _%_, _/_}
 use native.Mathlib.Decide.{decLt, ℕ-discrete}
 use native.Mathlib.Nat.{mod-lt, div-one, mul-div-cancel-left, div-lt-iff-lt-mul}
 use native.Mathlib.Omega.{arith}
@@ -15,7 +15,7 @@ use lib.IntN.{ℤ, pos, negℤ}
 use lib.Pow.{pow-add, pow-pos, shr-shr, split, mod-mod-pow}
 use lib.Seq.{getD-set-same, getD-set-other}
 use Rattle.signed_digits.specs.Strings.{digitAt}
-use Rattle.signed_digits.specs.Naf.{residue, lowDigit, naf}
+use Rattle.signed_digits.specs.Naf.{residue, naf}
 use Rattle.signed_digits.specs.Bytes.{digitByte}
 use Rattle.signed_digits.proofs.Cons.{length-by-top}
 use Rattle.signed_digits.proofs.Exists.{even-power, naf-form}

@@ -4,7 +4,7 @@ use mathlib.Core.Bool.{cond}
 use mathlib.Core.List.{List}
 use Prim.Native.Nat.{ℕ, _≤_}
 use lib.Dec.{eqb}
-use lib.IntN.{ℤ, pos, negℤ}
+use lib.IntN.{ℤ, negℤ}
 use lib.ListN.{length, getD}
 use Rattle.signed_digits.specs.Naf.{naf}
 use Rattle.digit_strings.specs.Places.{placeByte}

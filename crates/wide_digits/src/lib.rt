@@ -19,7 +19,8 @@ ghost use Rattle.wide_digits.specs.Internal.{leftAt, nearest};
 // Of eight bytes up to seven bits stand below a place.
 const LOAD_BITS: usize = 57;
 
-// Where a load has no digit of the largest width in full, this many places hold zeros.
+// Where this many places of a load hold zeros, they are passed: a digit of the largest width above
+// them could reach past the load. One place is given away.
 const BLANK_PLACES: usize = LOAD_BITS - LARGEST_WIDTH;
 
 // What is left of a number at a place, by the bits that one load tells.

@@ -1,16 +1,15 @@
 -- `recoding_wide::recode_wide` meets its contract: at each return the tests that led there say which outcome holds. Assumes nothing.
-use mathlib.Core.Path.{_≡_, refl, sym, _∙_}
+use mathlib.Core.Path.{_≡_, sym, _∙_}
 use Prim.Native.Nat.{_+_, _*_}
 use native.Mathlib.Omega.{arith}
 use lib.IntN.{pos}
-use lib.ListN.{take}
 use lib.Seq.{length-take-le}
 use Rattle.rules.specs.Limits.{numberBytes}
 use Rattle.rules.specs.declared.Verdict.the-variants.{Passed}
 use Rattle.integers.specs.Positional.{bytesValue}
 use Rattle.numbers.specs.Admission.{numberVerdict}
 use Rattle.numbers.proofs.Tests.{admitted-is}
-use Rattle.widths.specs.Width.{AllowedWidth, widthVerdict}
+use Rattle.widths.specs.Width.{widthVerdict}
 use Rattle.widths.proofs.Tests.{allowed-is}
 use Rattle.recoding.specs.Recode.{recodingOf}
 use Rattle.wide_digits.proofs.Padded.{zeros-blank}

@@ -1,6 +1,6 @@
 -- `refusal_words::write_words` meets its contract: what is copied is the number's text. Assumes nothing.
 use borrow.Author.Needs.{needs}
-use Rattle.refusal_words.specs.Words.{textBytes, texts, words}
+use Rattle.refusal_words.specs.Words.{textBytes, texts}
 use Rattle.refusal_words.proofs.Texts.{joined, starts, no-such, ordered, within, its-words}
 use Rattle.refusal_words.proofs.write_words.Statement.{statement}
 use Rattle.refusal_words.proofs.write_words.Tie as tie

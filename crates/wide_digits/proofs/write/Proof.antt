@@ -1,12 +1,12 @@
 -- `wide_digits::write` meets its contract: the digits below the place are written. Assumes nothing.
 use mathlib.Core.Path.{_≡_, refl}
-use Prim.Native.Nat.{ℕ, _≤_, _+_, _*_, _-_, _^_, _%_, _/_}
+use Prim.Native.Nat.{_≤_, _+_, _*_, _-_, _^_, _%_, _/_}
 use native.Mathlib.Omega.{arith}
 use lib.Count.{trailingZeros}
 use lib.ListN.{length}
 use Rattle.integers.specs.Positional.{bytesValue}
 use Rattle.digit_strings.proofs.Digits.{bound-fits}
-use Rattle.wide_digits.specs.Internal.{loadBits, leftAt}
+use Rattle.wide_digits.specs.Internal.{loadBits}
 use Rattle.wide_digits.proofs.Scan.{Scanned, Taken, scanned-none, scanned-blank, digit-taken, scanned-all}
 use borrow.Author.Needs.{needs}
 use Rattle.wide_digits.proofs.write.Statement.{statement}

@@ -329,7 +329,7 @@ lesmutka_length lesmutka_recode_words(const uint8_t *number, size_t number_lengt
 /** Recode a number into its width-w NAF.
  *
  *  Returns: the length of the string, the bytes written.
- *           Refused: 1, then 13, then 3 for a width that is none, then 6; nothing is written.
+ *           Refused: 1, then 13, then 3 for any other width, then 6; nothing is written.
  *  In:      number: the number, number_length bytes.
  *           width: w, from LESMUTKA_LEAST_WIDTH to LESMUTKA_LARGEST_WIDTH.
  *  Out:     out: room for the digits, out_length bytes. LESMUTKA_RECODE_ROOM is always enough.
@@ -374,7 +374,7 @@ lesmutka_length lesmutka_clean(const uint8_t *digits, size_t digits_length, uint
  *
  *  Returns: the length of the NAF, the bytes written; it may be w more than the longest
  *           input, at width 2 one more.
- *           Refused: 3 for a width that is none, then 5, then 4 for a byte that is no digit of
+ *           Refused: 3 for any other width, then 5, then 4 for a byte that is no digit of
  *           width w, then 6; nothing is written.
  *  In:      digits: the digit string, digits_length bytes.
  *           width: w, from LESMUTKA_LEAST_WIDTH to LESMUTKA_LARGEST_WIDTH.
@@ -398,7 +398,7 @@ lesmutka_value lesmutka_read_back(const uint8_t *digits, size_t digits_length, u
  *  the most significant digit: 1, -3 stands for -1.
  *
  *  Returns: the sign, and the length of the size, the bytes written.
- *           Refused: 3 for a width that is none, then 5, then 4 for a byte that is no digit of
+ *           Refused: 3 for any other width, then 5, then 4 for a byte that is no digit of
  *           width w, then 6; nothing is written.
  *  In:      digits: the digit string, digits_length bytes.
  *           width: w, from LESMUTKA_LEAST_WIDTH to LESMUTKA_LARGEST_WIDTH.

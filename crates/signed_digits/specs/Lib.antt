@@ -3,4 +3,5 @@ pub mod Strings
 pub mod Form
 pub mod Naf
 pub mod Weight
+pub mod Modified
 pub mod Bytes

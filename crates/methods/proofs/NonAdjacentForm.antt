@@ -12,7 +12,7 @@ use lib.ListN.{length}
 use Rattle.signed_digits.specs.Strings.{digitAt}
 use Rattle.signed_digits.specs.Naf.{lowDigit, canonical}
 use Rattle.signed_digits.proofs.Parts.{size-parts}
-use Rattle.signed_digits.proofs.Left.{rests, digit-left}
+use Rattle.signed_digits.proofs.Leading.{canonical-top}
 use Rattle.signed_digits.proofs.Width.{low-small}
 use Rattle.signed_digits.proofs.Exists.{naf-value}
 use Rattle.rules.specs.Limits.{planSteps}
@@ -29,7 +29,7 @@ use Rattle.methods.specs.Forecast.{plusDigits, minusDigits}
 use Rattle.methods.specs.Largest.{slidingLargestBits, nafLargestBits, wideLargestBits}
 use Rattle.methods.proofs.Laws.{Made, Fit, Plannable, plannable-small}
 use Rattle.methods.proofs.OddMultiples.{tableValue, halved}
-use Rattle.methods.proofs.DigitSteps.{Suited, top-above-zero, digits-made, digits-counts, digits-short}
+use Rattle.methods.proofs.DigitSteps.{Suited, digits-made, digits-counts, digits-short}
 use Rattle.methods.proofs.WideNaf.{wide-bits, wide-suited, wide-largest, wide-table-at-2, wide-at-2}
 
 -- ---- the canonical digits: method 5 at width 2
@@ -49,11 +49,7 @@ module _ (e : ℕ) (some : 0 < e) where
   suited-alone = suited (lt-suc-self (e + 1))
 
   pub top-digit : digitAt (canonical (pos e)) (length (canonical (pos e)) - 1) ≡ pos 1
-  top-digit =
-      let top : ℕ = length ds - 1 in
-      let v = top-above-zero 0 ds suited-alone in
-      let positive = suited-alone .positive top (omega (arith, suited-alone .some)) in
-      v ∙ ap pos (omega (arith, ap natAbs v, ap natAbs (digit-left 2 (omega arith) top e), low-small 2 (omega arith) (rests 2 top e)))
+  top-digit = canonical-top e some
 
   -- with no table, the steps begin at position 0
   pub naf-down : nafSteps e ≡ downFrom (λ i b. atDigit (digitAt (canonical (pos e)) i) b) (length (canonical (pos e)) - 1) none .steps

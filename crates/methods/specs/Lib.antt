@@ -9,6 +9,7 @@ pub mod FixedWindows
 pub mod SlidingWindows
 pub mod NonAdjacentForm
 pub mod WideNaf
+pub mod ModifiedNaf
 pub mod Method
 pub mod Forecast
 pub mod Largest

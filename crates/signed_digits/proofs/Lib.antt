@@ -15,3 +15,4 @@ pub mod Length
 pub mod Runs
 pub mod Longest
 pub mod Triple
+pub mod Leading

@@ -15,4 +15,6 @@ pub mod Length
 pub mod Runs
 pub mod Longest
 pub mod Triple
+pub mod Tops
 pub mod Leading
+pub mod Modified

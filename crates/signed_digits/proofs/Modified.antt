@@ -1,0 +1,118 @@
+-- The modified form: a signed digit string for the number, with 1 on top and as many nonzero digits as the canonical string has. It is that string, or a digit
+-- shorter where that leads with 1 0 -1. Assumes nothing.
+use mathlib.Core.Path.{_≡_, refl, sym, _∙_, ap, subst}
+use mathlib.Core.Bool.{Bool, true, false, cond}
+use mathlib.Core.List.{List, [], _∷_, _++_}
+use Prim.Native.Nat.{ℕ, suc, _+_, _-_, _<_, _≤_, _^_}
+use native.Mathlib.Nat.{le-of-lt}
+use native.Mathlib.Omega.{arith}
+use lib.IntN.{ℤ, pos, negsuc, pos-ne-negsuc}
+use lib.ListN.{length, take, drop, take-append-drop, drop-of-length-le}
+use lib.Pow.{pow-mono}
+use lib.Seq.{drop-cons, getD-append-add}
+use Rattle.signed_digits.specs.Strings.{value, digitAt}
+use Rattle.signed_digits.specs.Form.{SignedBits}
+use Rattle.signed_digits.specs.Naf.{digitsOf, naf, canonical}
+use Rattle.signed_digits.specs.Weight.{nonzero, nonzeros}
+use Rattle.signed_digits.specs.Modified.{topDigit, leads, shortened, modified, saved}
+use Rattle.signed_digits.proofs.Parts.{positiveSum, negativeSum}
+use Rattle.signed_digits.proofs.Canonical.{canonical-form, canonical-value}
+use Rattle.signed_digits.proofs.Width.{form-length}
+use Rattle.signed_digits.proofs.Leading.{leads-is, canonical-top}
+use Rattle.signed_digits.proofs.Tops.{worth, below-power, joined, retopped, pair-bits}
+
+-- a string that leads with 1 0 -1 has these three above the others: 1 is not -1, nor is 0, so they stand at three places
+lead : (ds : List ℤ) → leads ds ≡ true → ds ≡ take (length ds - 3) ds ++ (negsuc 0 ∷ pos 0 ∷ pos 1 ∷ [])
+lead ds e =
+    let k : ℕ = length ds - 3 in
+    let (first, second, third) = leads-is ds .0 e in
+    let a : length ds - 1 ≡ k → ⊥ = λ q. pos-ne-negsuc 1 0 (sym first ∙ ap (digitAt ds) q ∙ third) in
+    let b : length ds - 2 ≡ k → ⊥ = λ q. pos-ne-negsuc 0 0 (sym second ∙ ap (digitAt ds) q ∙ third) in
+    let e₁ : length ds - 1 ≡ suc (suc k) = omega arith in
+    let e₂ : length ds - 2 ≡ suc k = omega arith in
+    let tops : drop k ds ≡ negsuc 0 ∷ pos 0 ∷ pos 1 ∷ [] = rw (
+      drop-cons ds k (pos 0) (omega arith),
+      drop-cons ds (suc k) (pos 0) (omega arith),
+      drop-cons ds (suc (suc k)) (pos 0) (omega arith),
+      drop-of-length-le ds {i = suc (suc (suc k))} (omega arith),
+      ← e₁,
+      ← e₂,
+      first,
+      second,
+      third,
+    ) in
+    sym (take-append-drop k ds) ∙ ap (λ (l : List ℤ). take k ds ++ l) tops
+
+-- ---- the two cases
+
+pub modified-zero : modified 0 ≡ []
+unfolding modified shortened leads naf digitsOf
+modified-zero = refl
+
+pub modified-kept : (n : ℕ) → leads (canonical (pos n)) ≡ false → modified n ≡ canonical (pos n)
+unfolding modified shortened
+modified-kept n f = rw f
+
+pub modified-cut : (n : ℕ) → leads (canonical (pos n)) ≡ true →
+    (low : List ℤ) × (canonical (pos n) ≡ low ++ (negsuc 0 ∷ pos 0 ∷ pos 1 ∷ [])) × (modified n ≡ low ++ (pos 1 ∷ pos 1 ∷ []))
+unfolding modified shortened
+modified-cut n t = let c : List ℤ = canonical (pos n) in (take (length c - 3) c, lead c t, rw t)
+
+-- ---- both at once
+
+-- a signed digit string for n with 1 on top, of as many nonzero digits as the canonical one, and `fewer` digits shorter
+record Stands (n fewer : ℕ) (ds : List ℤ) : Type 0 where
+  worth-n : value ds ≡ pos n
+  bits : SignedBits ds
+  top : 0 < n → topDigit ds ≡ pos 1
+  weight : nonzeros ds ≡ nonzeros (canonical (pos n))
+  size : length ds + fewer ≡ length (canonical (pos n))
+
+module _ (n : ℕ) where
+  cut : (low : List ℤ) → canonical (pos n) ≡ low ++ (negsuc 0 ∷ pos 0 ∷ pos 1 ∷ []) → Stands n 1 (low ++ (pos 1 ∷ pos 1 ∷ []))
+  unfolding positiveSum negativeSum nonzeros nonzero
+  cut low e =
+      let c : List ℤ = canonical (pos n) in
+      let three : List ℤ = negsuc 0 ∷ pos 0 ∷ pos 1 ∷ [] in
+      let two : List ℤ = pos 1 ∷ pos 1 ∷ [] in
+      let j₃ = joined low three in
+      let j₂ = joined low two in
+      let k : length (low ++ two) - 1 ≡ length low + 1 = omega arith in
+      record {
+        worth-n = worth (low ++ two) n .1 (omega (arith, worth c n .0 (canonical-value (pos n)), ap positiveSum e, ap negativeSum e));
+        bits = retopped low three two (subst SignedBits e (canonical-form (pos n) .digits)) (pair-bits 1 1 (omega arith) (omega arith));
+        top = λ h. rw (k, getD-append-add low two 1 (pos 0));
+        weight = omega (arith, ap nonzeros e);
+        size = omega (arith, ap length e);
+      }
+
+  stands : Stands n (saved n) (modified n)
+  stands = go (leads (canonical (pos n))) refl
+    where
+      go : (b : Bool) → leads (canonical (pos n)) ≡ b → Stands n (cond b 1 0) (modified n)
+      go true t = let (low, e, f) = modified-cut n t in rw f (cut low e)
+      go false t =
+          rw (modified-kept n t)
+          (record { worth-n = canonical-value (pos n); bits = canonical-form (pos n) .digits; top = canonical-top n; weight = refl; size = omega arith })
+
+  pub modified-value : value (modified n) ≡ pos n
+  modified-value = stands .worth-n
+
+  pub modified-bits : SignedBits (modified n)
+  modified-bits = stands .bits
+
+  pub modified-top : 0 < n → topDigit (modified n) ≡ pos 1
+  modified-top = stands .top
+
+  pub modified-weight : nonzeros (modified n) ≡ nonzeros (canonical (pos n))
+  modified-weight = stands .weight
+
+  -- one digit fewer exactly where the canonical string leads with 1 0 -1
+  pub modified-size : length (modified n) + saved n ≡ length (canonical (pos n))
+  modified-size = stands .size
+
+  -- a number of k + 1 bits has k + 1 digits or k + 2
+  pub modified-length-by-power : (k : ℕ) → 2 ^ k ≤ n → n < 2 ^ (k + 1) → (k + 1 ≤ length (modified n)) × (length (modified n) ≤ k + 2)
+  modified-length-by-power k l h =
+      let short : length (modified n) ≤ k → ⊥ = λ s. omega (arith, below-power (modified n) n modified-bits modified-value, pow-mono s) in
+      (omega arith, omega (arith, modified-size, form-length 2 (omega arith) (k + 1) (pos n) (le-of-lt h)))

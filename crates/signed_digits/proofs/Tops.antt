@@ -1,0 +1,60 @@
+-- A string as its low digits and those above them, and other digits in place of the latter. Assumes nothing.
+use mathlib.Core.Path.{_≡_, _∙_, ap}
+use mathlib.Core.Logic.{_↔_}
+use mathlib.Core.List.{List, [], _∷_, _++_}
+use Prim.Native.Nat.{ℕ, zero, suc, _+_, _*_, _-_, _<_, _≤_, _^_}
+use native.Mathlib.Nat.{pow-suc}
+use native.Mathlib.Omega.{arith}
+use lib.IntN.{ℤ, pos, natAbs}
+use lib.ListN.{length, take, drop-of-length-le}
+use lib.Seq.{split-at}
+use Rattle.signed_digits.specs.Strings.{value}
+use Rattle.signed_digits.specs.Form.{SignedBits}
+use Rattle.signed_digits.specs.Weight.{nonzeros}
+use Rattle.signed_digits.specs.Modified.{topDigit}
+use Rattle.signed_digits.proofs.Parts.{positivePart, negativePart, from-parts, positiveSum, negativeSum, value-parts}
+use Rattle.signed_digits.proofs.Width.{value-bound}
+
+-- the value n, as a fact that omega reads
+pub worth : (ds : List ℤ) (n : ℕ) → (value ds ≡ pos n) ↔ (positiveSum ds ≡ n + negativeSum ds)
+worth ds n = (λ e. omega (arith, value-parts ds, ap positivePart e, ap negativePart e), λ h. omega (arith, from-parts, value-parts ds))
+
+-- it is below 2 ^ length
+pub below-power : (ds : List ℤ) (n : ℕ) → SignedBits ds → value ds ≡ pos n → n < 2 ^ length ds
+below-power ds n bits e = omega (arith, value-bound 1 ds bits, ap natAbs e)
+
+-- ---- low digits and others above them
+
+pub record Joined (low tops : List ℤ) : Type 0 where
+  pub positive : positiveSum (low ++ tops) ≡ positiveSum low + 2 ^ length low * positiveSum tops
+  pub negative : negativeSum (low ++ tops) ≡ negativeSum low + 2 ^ length low * negativeSum tops
+  pub count : nonzeros (low ++ tops) ≡ nonzeros low + nonzeros tops
+  pub size : length (low ++ tops) ≡ length low + length tops
+
+pub joined : (low tops : List ℤ) → Joined low tops
+unfolding positiveSum negativeSum nonzeros
+joined [] tops = omega arith
+joined (d ∷ low) tops =
+    let j = joined low tops in
+    record { positive = rw pow-suc (omega arith); negative = rw pow-suc (omega arith); count = omega arith; size = omega arith }
+
+-- others in their place
+pub retopped : (low tops others : List ℤ) → SignedBits (low ++ tops) → SignedBits others → SignedBits (low ++ others)
+retopped [] tops others h k i = k i
+retopped (d ∷ low) tops others h k zero = h 0
+retopped (d ∷ low) tops others h k (suc i) = retopped low tops others (λ i. h (suc i)) k i
+
+pub pair-bits : (a b : ℕ) → a ≤ 1 → b ≤ 1 → SignedBits (pos a ∷ pos b ∷ [])
+pair-bits a b h k zero = h
+pair-bits a b h k (suc zero) = k
+pair-bits a b h k (suc (suc i)) = omega arith
+
+-- ---- a string with 1 on top
+
+pub some-digit : (ds : List ℤ) → topDigit ds ≡ pos 1 → 0 < length ds
+some-digit [] t = absurd (omega (arith, ap natAbs t))
+some-digit (d ∷ ds) t = omega arith
+
+pub with-top : (ds : List ℤ) → topDigit ds ≡ pos 1 → ds ≡ take (length ds - 1) ds ++ (pos 1 ∷ [])
+with-top ds t =
+    split-at ds (length ds - 1) (pos 0) (omega (arith, some-digit ds t)) ∙ rw (t, drop-of-length-le ds {i = suc (length ds - 1)} (omega arith))

@@ -67,7 +67,7 @@ canonical-top n h =
 
 -- a string of i + 3 digits, so that 3 n is from 4 to 8 times 2 ^ (i + 1)
 module _ (n i : ℕ) (size : length (canonical (pos n)) ≡ suc (suc (suc i))) where
-  pub low-leads : 3 * n < 5 * 2 ^ suc i → leads (canonical (pos n)) ≡ true
+  low-leads : 3 * n < 5 * 2 ^ suc i → leads (canonical (pos n)) ≡ true
   low-leads h =
       let b = length-is n (suc (suc i)) .0 size in
       let p = pow-suc 2 (suc i) in

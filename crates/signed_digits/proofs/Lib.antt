@@ -18,3 +18,4 @@ pub mod Triple
 pub mod Tops
 pub mod Leading
 pub mod Modified
+pub mod Optimal

@@ -1,25 +1,29 @@
 -- The modified form: a signed digit string for the number, with 1 on top and as many nonzero digits as the canonical string has. It is that string, or a digit
 -- shorter where that leads with 1 0 -1. Assumes nothing.
 use mathlib.Core.Path.{_≡_, refl, sym, _∙_, ap, subst}
+use mathlib.Core.Logic.{_↔_}
 use mathlib.Core.Bool.{Bool, true, false, cond}
 use mathlib.Core.List.{List, [], _∷_, _++_}
-use Prim.Native.Nat.{ℕ, suc, _+_, _-_, _<_, _≤_, _^_}
-use native.Mathlib.Nat.{le-of-lt}
+use Prim.Native.Nat.{ℕ, suc, _+_, _*_, _-_, _<_, _≤_, _^_, _/_}
+use native.Mathlib.Decide.{decLt}
+use native.Mathlib.Nat.{pow-suc, div-lt-iff-lt-mul, div-eq-of-lt-le}
+use native.Mathlib.Numerals.{add-one}
 use native.Mathlib.Omega.{arith}
+use borrow.Author.Tests.{eqb-true, eqb-false}
 use lib.IntN.{ℤ, pos, negsuc, pos-ne-negsuc}
 use lib.ListN.{length, take, drop, take-append-drop, drop-of-length-le}
-use lib.Pow.{pow-mono}
+use lib.Pow.{pow-pos, pow-add}
 use lib.Seq.{drop-cons, getD-append-add}
 use Rattle.signed_digits.specs.Strings.{value, digitAt}
 use Rattle.signed_digits.specs.Form.{SignedBits}
 use Rattle.signed_digits.specs.Naf.{digitsOf, naf, canonical}
 use Rattle.signed_digits.specs.Weight.{nonzero, nonzeros}
 use Rattle.signed_digits.specs.Modified.{topDigit, leads, shortened, modified, saved}
-use Rattle.signed_digits.proofs.Parts.{positiveSum, negativeSum}
+use Rattle.signed_digits.proofs.Parts.{cond-cases, positiveSum, negativeSum}
 use Rattle.signed_digits.proofs.Canonical.{canonical-form, canonical-value}
-use Rattle.signed_digits.proofs.Width.{form-length}
-use Rattle.signed_digits.proofs.Leading.{leads-is, canonical-top}
-use Rattle.signed_digits.proofs.Tops.{worth, below-power, joined, retopped, pair-bits}
+use Rattle.signed_digits.proofs.Length.{length-at-most}
+use Rattle.signed_digits.proofs.Leading.{leads-is, length-is, canonical-top, leads-top}
+use Rattle.signed_digits.proofs.Tops.{worth, joined, retopped, pair-bits}
 
 -- a string that leads with 1 0 -1 has these three above the others: 1 is not -1, nor is 0, so they stand at three places
 lead : (ds : List ℤ) → leads ds ≡ true → ds ≡ take (length ds - 3) ds ++ (negsuc 0 ∷ pos 0 ∷ pos 1 ∷ [])
@@ -111,8 +115,41 @@ module _ (n : ℕ) where
   pub modified-size : length (modified n) + saved n ≡ length (canonical (pos n))
   modified-size = stands .size
 
+  pub saved-at-most : saved n ≤ 1
+  saved-at-most = cond-cases (leads (canonical (pos n))) 1 0 (λ k. k ≤ 1) (λ t. omega arith) (λ f. omega arith)
+
+  -- it has at most m digits just where 6 n < 5 * 2 ^ m. Where the canonical string has m + 1, the top three bits of 3 n are 6 n / 2 ^ m.
+  pub modified-at-most : (m : ℕ) → length (modified n) ≤ m ↔ 6 * n < 5 * 2 ^ m
+  modified-at-most m = go (decLt m size) (decLt (suc m) size)
+    where
+      size : ℕ
+      size = length (canonical (pos n))
+
+      p : 2 ^ (m + 1) ≡ 2 * 2 ^ m
+      p = rw (add-one, pow-suc) (omega arith)
+
+      q : 2 ^ (suc m + 1) ≡ 4 * 2 ^ m
+      q = rw (add-one, pow-suc, pow-suc) (omega arith)
+
+      at : size ≡ suc m → (b : Bool) → leads (canonical (pos n)) ≡ b → length (modified n) ≤ m ↔ 6 * n < 5 * 2 ^ m
+      at e true t =
+          let four : 8 * (3 * n) / 2 ^ (suc m + 1) ≡ 4 = eqb-true _ _ (sym (rw (t, e) at (leads-top n))) in
+          let one : saved n ≡ 1 = rw t in
+          let small : 8 * (3 * n) < 5 * 2 ^ (suc m + 1) = div-lt-iff-lt-mul (pow-pos (suc m + 1)) .0 (omega arith) in
+          (λ l. omega (arith, q), λ h. omega (arith, modified-size))
+      at e false t =
+          let other : 8 * (3 * n) / 2 ^ (suc m + 1) ≡ 4 → ⊥ = eqb-false _ _ (sym (rw (t, e) at (leads-top n))) in
+          let none : saved n ≡ 0 = rw t in
+          let b = length-is n m .0 e in
+          (λ l. absurd (omega (arith, modified-size)), λ h. absurd (other (div-eq-of-lt-le (2 ^ (suc m + 1)) (omega (arith, q)) (omega (arith, q)))))
+
+      go : Dec (m < size) → Dec (suc m < size) → length (modified n) ≤ m ↔ 6 * n < 5 * 2 ^ m
+      go (no l) _ = (λ _. omega (arith, p, pow-pos m, length-at-most n m .0 (omega arith)), λ _. omega (arith, modified-size))
+      go (yes _) (yes l) = (λ h. absurd (omega (arith, modified-size, saved-at-most)), λ h. absurd (omega (arith, length-at-most n (suc m) .1 (omega (arith, q)))))
+      go (yes l) (no h) = at (omega arith) (leads (canonical (pos n))) refl
+
   -- a number of k + 1 bits has k + 1 digits or k + 2
   pub modified-length-by-power : (k : ℕ) → 2 ^ k ≤ n → n < 2 ^ (k + 1) → (k + 1 ≤ length (modified n)) × (length (modified n) ≤ k + 2)
   modified-length-by-power k l h =
-      let short : length (modified n) ≤ k → ⊥ = λ s. omega (arith, below-power (modified n) n modified-bits modified-value, pow-mono s) in
-      (omega arith, omega (arith, modified-size, form-length 2 (omega arith) (k + 1) (pos n) (le-of-lt h)))
+      let short : length (modified n) ≤ k → ⊥ = λ s. omega (arith, modified-at-most k .0 s) in
+      (omega arith, modified-at-most (k + 2) .1 (rw pow-add (omega (arith, rw (add-one, pow-suc) at h))))

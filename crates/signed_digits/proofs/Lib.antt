@@ -19,3 +19,4 @@ pub mod Tops
 pub mod Leading
 pub mod Modified
 pub mod Optimal
+pub mod Examples

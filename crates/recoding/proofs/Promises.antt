@@ -7,16 +7,13 @@ use lib.IntN.{ℤ, pos}
 use native.Mathlib.Omega.{arith}
 use lib.ListN.{length, drop, length-map}
 use Rattle.rules.specs.Limits.{numberBytes, leastWidth}
-use Rattle.rules.specs.declared.Refusal.{Refusal}
-use Rattle.rules.specs.declared.Verdict.the-variants.{Failed}
-use Rattle.rules.specs.Outcome.{Outcome, refused, answered, refusal, writtenOutcome, lengthValue}
+use Rattle.rules.specs.Outcome.{Outcome, refused, answered, writtenOutcome, lengthValue}
 use Rattle.rules.proofs.Memory as memory
-use Rattle.rules.proofs.Memory.{Writes, stopped, no-room, all-fits, writes-only, writes-one}
 use Rattle.integers.specs.Positional.{positional, bytesValue}
 use Rattle.integers.proofs.Bits.{power-of-bytes}
 use Rattle.integers.proofs.Positional.{Below, positional-lt}
 use Rattle.numbers.specs.Admission.{Padded, numberVerdict, Admitted}
-use Rattle.numbers.proofs.Tests.{NumberTest, too-long, padded, number-only, number-test, admitted-is}
+use Rattle.numbers.proofs.Given as of-number
 use Rattle.signed_digits.specs.Strings.{value}
 use Rattle.signed_digits.specs.Form.{Canonical}
 use Rattle.signed_digits.specs.Naf.{canonical, canonicalWidth, naf, digitsOf}
@@ -32,53 +29,29 @@ module _ (number : List ℕ) (room : ℕ) where
   abbrev pub outcome : Outcome
   outcome = writtenOutcome (recodeAnswer number room)
 
-  -- each outcome, with what led there
-  pub data Given : Outcome → Type 0 where
-    one : numberBytes < length number → Given (refused 1 0)
-    thirteen : length number ≤ numberBytes → Padded number → Given (refused 13 0)
-    six : {p : ℕ} → Admitted number → room < length (recoding number) → p ≡ length (recoding number) → Given (refused 6 p)
-    fits : {vs : List ℕ} → Admitted number → length (recoding number) ≤ room → vs ≡ length (recoding number) ∷ [] → Given (answered vs)
-
-  only : {o : Outcome} → Writes lengthValue (numberVerdict number) (recoding number) room o → outcome ≡ o
-  only = writes-only lengthValue (numberVerdict number) (recoding number) room
-
-  given-only : {o : Outcome} → Given o → outcome ≡ o
-  given-only (one h) = only (stopped (number-only number (too-long h)))
-  given-only (thirteen h p) = only (stopped (number-only number (padded h p)))
-  given-only (six a h e) = rw e (only (no-room (admitted-is number .1 a) h))
-  given-only (fits a h e) = rw e (only (all-fits (admitted-is number .1 a) h))
-
-  stops : {r : Refusal} → NumberTest number (Failed r) → Given (refusal r)
-  stops (too-long h) = one h
-  stops (padded h p) = thirteen h p
+  -- each outcome, with what it is given for
+  abbrev pub Given : Outcome → Type 0
+  Given = of-number.Given lengthValue number (recoding number) room
 
   -- every outcome is one of these
   pub no-other : Given outcome
-  no-other = go (writes-one lengthValue (numberVerdict number) (recoding number) room)
-    where
-      go : {o : Outcome} → Writes lengthValue (numberVerdict number) (recoding number) room o → Given o
-      go (stopped t) = stops (rw t at (number-test number))
-      go (no-room t h) = six (admitted-is number .0 t) h refl
-      go (all-fits t h) = fits (admitted-is number .0 t) h refl
-
-  given : {o : Outcome} → outcome ≡ o → Given o
-  given e = rw e at no-other
+  no-other = of-number.no-other lengthValue number (recoding number) room
 
   -- 1, place 0: the number is longer than the limit
   pub refuses-1 : outcome ≡ refused 1 0 ↔ numberBytes < length number
-  refuses-1 = (λ e. elim (given e) [ one h ↦ h ], λ h. given-only (one h))
+  refuses-1 = of-number.refuses-1 lengthValue number (recoding number) room
 
   -- 13, place 0: its highest byte is zero
   pub refuses-13 : outcome ≡ refused 13 0 ↔ (length number ≤ numberBytes) × Padded number
-  refuses-13 = (λ e. elim (given e) [ thirteen h p ↦ (h, p) ], λ h. given-only (thirteen (h .0) (h .1)))
+  refuses-13 = of-number.refuses-13 lengthValue number (recoding number) room
 
   -- 6, place the bytes needed: the digits are more than the bytes lent
   pub refuses-6 : (p : ℕ) → outcome ≡ refused 6 p ↔ Admitted number × (room < length (recoding number)) × (p ≡ length (recoding number))
-  refuses-6 p = (λ e. elim (given e) [ six a h q ↦ (a, h, q) ], λ h. given-only (six (h .0) (h .1) (h .2)))
+  refuses-6 = of-number.refuses-6 lengthValue number (recoding number) room
 
   -- otherwise the length is answered
   pub answers : (vs : List ℕ) → outcome ≡ answered vs ↔ Admitted number × (length (recoding number) ≤ room) × (vs ≡ length (recoding number) ∷ [])
-  answers vs = (λ e. elim (given e) [ fits a h q ↦ (a, h, q) ], λ h. given-only (fits (h .0) (h .1) (h .2)))
+  answers = of-number.answers lengthValue number (recoding number) room
 
 -- ---- what is written
 

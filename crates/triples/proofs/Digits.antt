@@ -1,6 +1,7 @@
 -- How many canonical digits a number has, by its bits and one bit of three times it. Assumes nothing.
-use mathlib.Core.Path.{_≡_, refl}
+use mathlib.Core.Path.{_≡_, refl, sym, _∙_}
 use mathlib.Core.Logic.{_↔_}
+use mathlib.Core.Bool.{Bool, true, false, cond}
 use mathlib.Core.List.{List}
 use Prim.Native.Nat.{ℕ, zero, suc, _+_, _*_, _/_, _%_, _^_, _<_, _≤_}
 use native.Mathlib.Nat.{pow-succ', div-lt-iff-lt-mul}
@@ -8,12 +9,16 @@ use native.Mathlib.Numerals.{add-one}
 use native.Mathlib.Omega.{arith}
 use lib.IntN.{pos}
 use lib.ListN.{length, getD}
-use lib.Pow.{pow-pos}
+use lib.Dec.{eqb}
+use lib.Pow.{pow-pos, shr-shr}
+use mir.Val.{boolByte}
 use Rattle.integers.specs.Bits.{bit, bitLength}
 use Rattle.integers.specs.Positional.{wordsValue}
 use Rattle.integers.proofs.Bits.{bit-length-iff, bit-of-element}
 use Rattle.integers.proofs.Positional.{Below}
 use Rattle.signed_digits.specs.Naf.{canonical}
+use Rattle.signed_digits.specs.Modified.{saved}
+use Rattle.signed_digits.proofs.Leading.{leads-top}
 use Rattle.signed_digits.proofs.Length.{length-at-most}
 
 twice : (k : ℕ) → 2 ^ (k + 1) ≡ 2 * 2 ^ k
@@ -53,3 +58,19 @@ count-is triple e n word b whole bits at =
     let top : ℕ = n + 1 in
     let place : 64 * (top / 64) + top % 64 ≡ top = omega arith in
     rw (at, bit-of-element 64 triple (top / 64) (top % 64) (omega arith) b, place, whole) (digits-by-bits e n bits)
+
+as-byte : (b : Bool) → boolByte b ≡ cond b 1 0
+as-byte true = refl
+as-byte false = refl
+
+-- the top three bits of three times it are 100 exactly where its digits lead with 1 0 -1
+pub saved-is : (e n bits : ℕ) → n ≡ length (canonical (pos e)) → bits ≡ 2 ^ 64 * (3 * e) / 2 ^ (n + 1) % 2 ^ 64 → boolByte (eqb (bits / 2 ^ 61) 4) ≡ saved e
+saved-is e n bits count at =
+    let X : ℕ = 2 ^ 64 * (3 * e) in
+    let q : ℕ = 8 * (3 * e) / 2 ^ (n + 1) in
+    let small : q < 8 = div-lt-iff-lt-mul (pow-pos (n + 1)) .1 (omega (arith, length-at-most e n .0 (omega arith))) in
+    let s : n + 1 + 61 ≡ 61 + (n + 1) = omega arith in
+    let eight : X / 2 ^ 61 ≡ 8 * (3 * e) = omega arith in
+    let three : X / 2 ^ (n + 1) / 2 ^ 61 ≡ q = shr-shr X (n + 1) 61 ∙ rw s (sym (shr-shr X 61 (n + 1)) ∙ rw eight) in
+    let top : bits / 2 ^ 61 ≡ q = omega arith in
+    rw (top, count, leads-top e) (as-byte (eqb (8 * (3 * e) / 2 ^ (length (canonical (pos e)) + 1)) 4))

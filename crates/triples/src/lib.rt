@@ -1,16 +1,18 @@
 // Three times a number e, by the words of e and 2 e. The canonical digit of e at place i is the bit of
 // 3 e at i + 1, less that of e: with the words of 3 e at hand no digit waits for another, and they
-// show how many digits there are.
+// show how many digits there are, and how they begin.
 use integers::bit_length;
 use rules::NUMBER_WORDS;
+use words::bits_down;
 use words::word_in;
 ghost use mathlib.Core.Path.{_≡_};
-ghost use Prim.Native.Nat.{_+_, _*_, _^_, _≤_};
+ghost use Prim.Native.Nat.{ℕ, _+_, _*_, _^_, _≤_};
 ghost use lib.IntN.{pos};
 ghost use lib.ListN.{length};
 ghost use Rattle.integers.specs.Positional.{bytesValue, wordsValue};
 ghost use Rattle.numbers.specs.Admission.{Admitted};
 ghost use Rattle.signed_digits.specs.Naf.{canonical};
+ghost use Rattle.signed_digits.specs.Modified.{saved};
 
 // The words of 3 e: one more than those of e, for the last carry.
 pub const TRIPLE_WORDS: usize = NUMBER_WORDS + 1;
@@ -64,4 +66,12 @@ pub fn count(number: &[u8], triple: &[u64]) -> usize
     let bits = bit_length(number);
     let top = bits + 1;
     bits + ((word_in(triple, top / 64) >> (top % 64)) % 2) as usize
+}
+
+// How many digits fewer the modified form has: 1 where the canonical digits lead with 1 0 -1. 3 e has a
+// bit more than there are digits, and begins with 100 exactly there.
+pub fn saved(triple: &[u64], count: usize) -> usize
+    ensures { λ r. ⌜ ((e : ℕ) → wordsValue (now (triple .entry)) ≡ 3 * e → count ≡ length (canonical (pos e)) → r ≡ saved e) ⌝ }
+{
+    (bits_down(triple, count) >> 61 == 4) as usize
 }

@@ -1,6 +1,6 @@
 -- The digits that stand in an array, each one place up, and their steps. Assumes nothing.
 use mathlib.Core.Path.{_≡_, sym, ap, _∙_}
-use mathlib.Core.List.{List, [], _∷_}
+use mathlib.Core.List.{List, []}
 use Prim.Native.Nat.{ℕ, _+_, _-_, _<_, _≤_}
 use native.Mathlib.Omega.{arith}
 use lib.IntN.{ℤ, pos, natAbs}
@@ -10,6 +10,7 @@ use Rattle.signed_digits.specs.Strings.{digitAt}
 use Rattle.signed_digits.specs.Form.{SignedBits}
 use Rattle.signed_digits.specs.Modified.{topDigit}
 use Rattle.signed_digits.specs.Bytes.{byteDigit}
+use Rattle.signed_digits.proofs.Tops.{some-digit}
 use Rattle.digit_strings.specs.Places.{placeByte}
 use Rattle.digit_strings.proofs.Bytes.{back}
 use Rattle.methods.specs.PartialPlan.{PartialPlan, none, downFrom}
@@ -18,10 +19,6 @@ use Rattle.methods.specs.OddMultiples.{oddPosition}
 use Rattle.methods.specs.DigitSteps.{atDigit, digitSteps}
 use Rattle.methods.proofs.DigitSteps.{length-at-digit}
 use Rattle.digit_plans.specs.Raised.{raised, mostDigits, Recoded, Plain}
-
-some-digit : (ds : List ℤ) → topDigit ds ≡ pos 1 → 0 < length ds
-some-digit [] t = absurd (omega (arith, ap natAbs t))
-some-digit (d ∷ ds) t = omega arith
 
 module _ (bytes : List ℕ) (n : ℕ) (h : n < length bytes) where
   pub raised-length : length (raised bytes n) ≡ n

@@ -18,7 +18,7 @@ use Rattle.digit_strings.specs.Admission.{isDigit, stringValue, DigitStr
 use Rattle.digit_strings.specs.Places.{placeByte}
 use Rattle.digit_strings.proofs.Digits.{digit-is, zero-digit, bound-fits}
 
-back : (d : ℤ) → natAbs d ≤ 127 → (digitByte d < 256) × (byteDigit (digitByte d) ≡ d)
+pub back : (d : ℤ) → natAbs d ≤ 127 → (digitByte d < 256) × (byteDigit (digitByte d) ≡ d)
 back (pos n) h = (omega arith, rw (lt-ltb n 128 (omega arith)))
 back (negsuc n) h = let e : 255 - (255 - n) ≡ n = omega arith in (omega arith, rw (le-ltb (255 - n) 128 (omega arith), e))
 

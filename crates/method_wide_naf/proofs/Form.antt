@@ -4,8 +4,8 @@ use mathlib.Core.Logic.{_≢_}
 use mathlib.Core.Bool.{cond}
 use mathlib.Core.List.{List, _∷_}
 use Prim.Native.Nat.{ℕ, zero, suc, _+_, _-_, _/_, _%_, _<_, _≤_}
-use borrow.Author.Tests.{eq-eqb, ne-eqb, lt-ltb, le-ltb}
-use native.Mathlib.Decide.{decLt, ℕ-discrete}
+use borrow.Author.Tests.{eq-eqb, ne-eqb}
+use native.Mathlib.Decide.{ℕ-discrete}
 use native.Mathlib.Numerals.{add-one}
 use native.Mathlib.Omega.{arith}
 use lib.Dec.{eqb}
@@ -62,15 +62,6 @@ one-sign : (d : ℤ) → isPlus d + isMinus d ≤ 1
 one-sign (pos zero) = omega arith
 one-sign (pos (suc n)) = omega arith
 one-sign (negsuc n) = omega arith
-
--- a byte that is not 0 takes a step beside the doubling
-pub step-more : (b : ℕ) → b ≢ 0 → isPlus (byteDigit b) + isMinus (byteDigit b) ≡ 1
-step-more zero n = absurd (n refl)
-step-more (suc b) n =
-    elim (decLt (suc b) 128) [
-      | yes l ↦ rw (lt-ltb (suc b) 128 l)
-      | no l ↦ rw (le-ltb (suc b) 128 (omega arith))
-    ]
 
 module _ {e w n : ℕ} {digits : List ℕ} (h : Recoded e w digits n) where
   pub some-places : 1 ≤ n

@@ -15,7 +15,8 @@ use Rattle.methods.specs.WideNaf.{wideTable, wideNafSteps}
 use Rattle.methods.proofs.DigitSteps.{length-at-digit}
 use Rattle.plan_writing.specs.Writing.{Writing}
 use Rattle.plan_writing.proofs.Underway.{Underway, down-one, underway-next, underway-room, underway-end}
-use Rattle.method_wide_naf.proofs.Form.{Recoded, some-places, read, step-more, table-is, table-written, atPlace, place-grows, steps-are, table-room}
+use Rattle.plan_writing.proofs.Digits.{step-more}
+use Rattle.method_wide_naf.proofs.Form.{Recoded, some-places, read, table-is, table-written, atPlace, place-grows, steps-are, table-room}
 use borrow.Author.Needs.{needs}
 use Rattle.method_wide_naf.proofs.write.Statement.{statement}
 use Rattle.method_wide_naf.proofs.write.Tie as tie

@@ -1,2 +1,0 @@
--- What the private functions of method 4 share.
-pub mod Digits

@@ -11,7 +11,7 @@ use native.Mathlib.Numerals.{add-one}
 use native.Mathlib.Omega.{arith}
 use borrow.Author.Tests.{eqb-true, eqb-false}
 use lib.IntN.{ℤ, pos, negsuc, pos-ne-negsuc}
-use lib.ListN.{length, take, drop, take-append-drop, drop-of-length-le}
+use lib.ListN.{length, take, drop, length-append, List·getD-append, take-append-drop, drop-of-length-le}
 use lib.Pow.{pow-pos, pow-add}
 use lib.Seq.{drop-cons, getD-append-add}
 use Rattle.signed_digits.specs.Strings.{value, digitAt}
@@ -153,3 +153,27 @@ module _ (n : ℕ) where
   modified-length-by-power k l h =
       let short : length (modified n) ≤ k → ⊥ = λ s. omega (arith, modified-at-most k .0 s) in
       (omega arith, modified-at-most (k + 2) .1 (rw pow-add (omega (arith, rw (add-one, pow-suc) at h))))
+
+  -- ---- its digits: those of the canonical string, but for the three that become 1 1
+
+  pub modified-low : (i : ℕ) → i < length (canonical (pos n)) - 3 * saved n → digitAt (canonical (pos n)) i ≡ digitAt (modified n) i
+  modified-low i h = go (leads (canonical (pos n))) refl
+    where
+      go : (b : Bool) → leads (canonical (pos n)) ≡ b → digitAt (canonical (pos n)) i ≡ digitAt (modified n) i
+      go false f = rw (modified-kept n f)
+      go true t =
+          let (low, e, m) = modified-cut n t in
+          let below : i < length low = omega (arith, rw t at h, ap length e, length-append low (negsuc 0 ∷ pos 0 ∷ pos 1 ∷ [])) in
+          rw (e, m, List·getD-append low (negsuc 0 ∷ pos 0 ∷ pos 1 ∷ []) (pos 0) i below, List·getD-append low (pos 1 ∷ pos 1 ∷ []) (pos 0) i below)
+
+  pub modified-ones : saved n ≡ 1 → (3 ≤ length (canonical (pos n))) × (digitAt (modified n) (length (canonical (pos n)) - 3) ≡ pos 1) × (digitAt (modified n) (length (canonical (pos n)) - 3 + 1) ≡ pos 1)
+  modified-ones one = go (leads (canonical (pos n))) refl
+    where
+      go : (b : Bool) → leads (canonical (pos n)) ≡ b → (3 ≤ length (canonical (pos n))) × (digitAt (modified n) (length (canonical (pos n)) - 3) ≡ pos 1) × (digitAt (modified n) (length (canonical (pos n)) - 3 + 1) ≡ pos 1)
+      go false f = absurd (omega (arith, rw f at one))
+      go true t =
+          let (low, e, m) = modified-cut n t in
+          let size = ap length e ∙ length-append low (negsuc 0 ∷ pos 0 ∷ pos 1 ∷ []) in
+          let at : length (canonical (pos n)) - 3 ≡ length low + 0 = omega arith in
+          let next : length (canonical (pos n)) - 3 + 1 ≡ length low + 1 = omega arith in
+          (omega arith, rw (at, m) (getD-append-add low (pos 1 ∷ pos 1 ∷ []) 0 (pos 0)), rw (next, m) (getD-append-add low (pos 1 ∷ pos 1 ∷ []) 1 (pos 0)))

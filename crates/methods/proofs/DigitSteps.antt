@@ -58,22 +58,24 @@ is-positive : (z : ℤ) → 0 < positivePart z → z ≡ pos (positivePart z)
 is-positive (pos v) h = refl
 is-positive (negsuc v) h = absurd (omega arith)
 
-module _ {limit : ℕ} (n : ℕ) (ds : List ℤ) (suited : Suited limit n ds) where
-  abbrev top : ℕ
-  top = length ds - 1
+-- values above zero from every place on
+module _ (ds : List ℤ) (positive : (i : ℕ) → i < length ds → 0 < valueFrom ds i) where
+  is-from : (i : ℕ) → i < length ds → value (drop i ds) ≡ pos (valueFrom ds i)
+  is-from i h = is-positive (value (drop i ds)) (positive i h)
 
   -- from a place on: twice the value from the next one on, and the digit
   from-down : (i : ℕ) → i < length ds → value (drop i ds) ≡ digitAt ds i +ℤ pos 2 *ℤ value (drop (suc i) ds)
   unfolding value
   from-down i h = ap value (drop-cons ds i (pos 0) h)
 
-  is-from : (i : ℕ) → i < length ds → value (drop i ds) ≡ pos (valueFrom ds i)
-  is-from i h = is-positive (value (drop i ds)) (suited .positive i h)
-
-  down : (i : ℕ) → suc i < length ds → valueFrom ds i + negativePart (digitAt ds i) ≡ positivePart (digitAt ds i) + 2 * valueFrom ds (suc i)
-  down i h =
+  pub value-down : (i : ℕ) → suc i < length ds → valueFrom ds i + negativePart (digitAt ds i) ≡ positivePart (digitAt ds i) + 2 * valueFrom ds (suc i)
+  value-down i h =
       let f : pos (valueFrom ds i) ≡ digitAt ds i +ℤ pos (2 * valueFrom ds (suc i)) = sym (is-from i (omega arith)) ∙ from-down i (omega arith) ∙ rw (is-from (suc i) h) in
       omega (arith, sum-parts (digitAt ds i) (pos (2 * valueFrom ds (suc i))), ap positivePart f, ap negativePart f)
+
+module _ {limit : ℕ} (n : ℕ) (ds : List ℤ) (suited : Suited limit n ds) where
+  abbrev top : ℕ
+  top = length ds - 1
 
   -- nothing stands above the top
   top-alone : drop top ds ≡ digitAt ds top ∷ []
@@ -81,7 +83,7 @@ module _ {limit : ℕ} (n : ℕ) (ds : List ℤ) (suited : Suited limit n ds) wh
 
   pub top-above-zero : digitAt ds top ≡ pos (valueFrom ds top)
   unfolding value
-  top-above-zero = let some = suited .some in sym (ap value top-alone ∙ +ℤ-idr (digitAt ds top)) ∙ is-from top (omega arith)
+  top-above-zero = let some = suited .some in sym (ap value top-alone ∙ +ℤ-idr (digitAt ds top)) ∙ is-from ds (suited .positive) top (omega arith)
 
   -- Above place i: the latest holds the value of the digits from i on, and the table stands. Each digit below the top took a doubling, and one step
   -- more where it is not 0. What a digit below zero was subtracted from stands.
@@ -95,7 +97,7 @@ module _ {limit : ℕ} (n : ℕ) (ds : List ℤ) (suited : Suited limit n ds) wh
 
   at-digit : (i : ℕ) (d : ℤ) (b : PartialPlan) → i < top → digitAt ds i ≡ d → Above (suc i) b → Above i (atDigit d b)
   unfolding plusDigits minusDigits
-  at-digit i d b l y a = go d y (rw y at (down i (omega arith))) (rw y at (drop-cons ds i (pos 0) (omega arith)))
+  at-digit i d b l y a = go d y (rw y at (value-down ds (suited .positive) i (omega arith))) (rw y at (drop-cons ds i (pos 0) (omega arith)))
     where
       v : ℕ
       v = valueFrom ds (suc i)
@@ -209,7 +211,7 @@ module _ {limit : ℕ} (n : ℕ) (ds : List ℤ) (suited : Suited limit n ds) wh
   pub digits-counts : countsOf (digitSteps n ds) ≡ counts (tableCounts n .doublings + (length ds - 1)) (tableCounts n .additions + (plusDigits ds - 1)) (minusDigits ds)
   digits-counts = unhidden-counts (digitSteps n ds) (digits-made .unhidden) ∙ digits-positions
 
-  digits-length : length (digitSteps n ds) ≡ n + (length ds - 1) + (plusDigits ds - 1) + minusDigits ds
+  pub digits-length : length (digitSteps n ds) ≡ n + (length ds - 1) + (plusDigits ds - 1) + minusDigits ds
   digits-length = omega (arith, length-counted (digitSteps n ds), ap total digits-counts, table-total n, ap total (no-subtractions n))
 
   -- at most two steps for each digit below the top

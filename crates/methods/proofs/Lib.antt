@@ -3,6 +3,7 @@ pub mod Counted
 pub mod Tables
 pub mod OddMultiples
 pub mod DigitSteps
+pub mod SignedBits
 pub mod Binary
 pub mod FixedWindows
 pub mod SlidingWindows

@@ -1,18 +1,18 @@
 -- A string as its low digits and those above them, and other digits in place of the latter. Assumes nothing.
-use mathlib.Core.Path.{_≡_, _∙_, ap}
+use mathlib.Core.Path.{_≡_, _∙_, ap, subst}
 use mathlib.Core.Logic.{_↔_}
 use mathlib.Core.List.{List, [], _∷_, _++_}
 use Prim.Native.Nat.{ℕ, zero, suc, _+_, _*_, _-_, _<_, _≤_, _^_}
 use native.Mathlib.Nat.{pow-suc}
 use native.Mathlib.Omega.{arith}
 use lib.IntN.{ℤ, pos, natAbs}
-use lib.ListN.{length, take, drop-of-length-le}
-use lib.Seq.{split-at}
-use Rattle.signed_digits.specs.Strings.{value}
+use lib.ListN.{length, take, drop, length-drop, drop-of-length-le}
+use lib.Seq.{split-at, getD-drop}
+use Rattle.signed_digits.specs.Strings.{value, digitAt}
 use Rattle.signed_digits.specs.Form.{SignedBits}
 use Rattle.signed_digits.specs.Weight.{nonzeros}
 use Rattle.signed_digits.specs.Modified.{topDigit}
-use Rattle.signed_digits.proofs.Parts.{positivePart, negativePart, from-parts, positiveSum, negativeSum, value-parts}
+use Rattle.signed_digits.proofs.Parts.{positivePart, negativePart, from-parts, size-parts, positiveSum, negativeSum, value-parts}
 use Rattle.signed_digits.proofs.Width.{value-bound}
 
 -- the value n, as a fact that omega reads
@@ -58,3 +58,23 @@ some-digit (d ∷ ds) t = omega arith
 pub with-top : (ds : List ℤ) → topDigit ds ≡ pos 1 → ds ≡ take (length ds - 1) ds ++ (pos 1 ∷ [])
 with-top ds t =
     split-at ds (length ds - 1) (pos 0) (omega (arith, some-digit ds t)) ∙ rw (t, drop-of-length-le ds {i = suc (length ds - 1)} (omega arith))
+
+-- its value is above zero: the digits below come to less than the top one
+pub top-positive : (ds : List ℤ) → SignedBits ds → topDigit ds ≡ pos 1 → 0 < positivePart (value ds)
+unfolding positiveSum negativeSum
+top-positive ds bits t =
+    let low : List ℤ = take (length ds - 1) ds in
+    let one : List ℤ = pos 1 ∷ [] in
+    let s : ds ≡ low ++ one = with-top ds t in
+    let j₁ = joined low one in
+    let j₀ = joined low [] in
+    let below = value-bound 1 (low ++ []) (retopped low one [] (subst SignedBits s bits) (λ i. omega arith)) in
+    let p : 2 ^ length (low ++ []) ≡ 2 ^ length low = ap (λ (k : ℕ). 2 ^ k) (omega arith) in
+    omega (arith, value-parts ds, ap positiveSum s, ap negativeSum s, value-parts (low ++ []), size-parts (value (low ++ [])))
+
+-- from any place on it has 1 on top
+pub dropped-top : (ds : List ℤ) (i : ℕ) → i < length ds → topDigit (drop i ds) ≡ topDigit ds
+dropped-top ds i h = rw (length-drop, getD-drop) (ap (digitAt ds) (omega arith))
+
+pub dropped-bits : (ds : List ℤ) (i : ℕ) → SignedBits ds → SignedBits (drop i ds)
+dropped-bits ds i bits j = rw getD-drop (bits (i + j))

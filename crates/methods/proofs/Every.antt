@@ -16,7 +16,7 @@ use Rattle.integers.specs.Bits.{bitLength}
 use Rattle.chains.specs.Counts.{NoHiddenDoubling}
 use Rattle.chains.specs.Largest.{largestBits}
 use Rattle.methods.specs.declared.Method.{Method}
-use Rattle.methods.specs.declared.Method.the-variants.{Binary, FixedWindows, SlidingWindows, Naf, WideNaf}
+use Rattle.methods.specs.declared.Method.the-variants.{Binary, FixedWindows, SlidingWindows, Naf, WideNaf, ModifiedNaf}
 use Rattle.methods.specs.declared.Chosen.{Chosen}
 use Rattle.methods.specs.Widths.{fixedWindowBits, slidingWindowBits}
 use Rattle.methods.specs.Method.{stepsBy, methodNumber, methodWidth, Entry, methods, within, numbered, methodOf, Allowed, countFrom, everyWidth, choices}
@@ -27,6 +27,7 @@ use Rattle.methods.proofs.FixedWindows.{fixed-fit, fixed-short, fixed-u
 use Rattle.methods.proofs.SlidingWindows.{sliding-fit, sliding-short, sliding-unhidden, sliding-largest}
 use Rattle.methods.proofs.NonAdjacentForm.{naf-fit, naf-short, naf-bits, naf-unhidden, naf-largest}
 use Rattle.methods.proofs.WideNaf.{wide-fit, wide-short, wide-unhidden, wide-largest}
+use Rattle.methods.proofs.ModifiedNaf.{modified-length, modified-fit, modified-short, modified-unhidden, modified-largest}
 
 -- ---- what two numbers ask for
 
@@ -66,7 +67,8 @@ asked (suc (suc zero)) width e = let w = within-is (FixedWindows width) width 1 
 asked (suc (suc (suc zero))) width e = let w = within-is (SlidingWindows width) width 1 slidingWindowBits e in rw (w .0) (refl, refl)
 asked (suc (suc (suc (suc zero)))) width e = let w = within-is Naf width 0 0 e in rw (w .0) (refl, omega arith)
 asked (suc (suc (suc (suc (suc zero))))) width e = let w = within-is (WideNaf width) width leastWidth largestWidth e in rw (w .0) (refl, refl)
-asked (suc (suc (suc (suc (suc (suc n)))))) width e = let z : _≡_ {A = ℕ} 0 1 = cc in absurd (omega arith)
+asked (suc (suc (suc (suc (suc (suc zero)))))) width e = let w = within-is ModifiedNaf width 0 0 e in rw (w .0) (refl, omega arith)
+asked (suc (suc (suc (suc (suc (suc (suc n))))))) width e = let z : _≡_ {A = ℕ} 0 1 = cc in absurd (omega arith)
 
 pub is-allowed : (method width : ℕ) {m : Method} → methodOf method width ≡ Chosen.Method m → Allowed m
 is-allowed method width e = let a = asked method width e in rw (a .0, a .1) e
@@ -151,6 +153,7 @@ every-fit (FixedWindows d) e a p = let w = fixed-widths a in fixed-fit e d p (w 
 every-fit (SlidingWindows d) e a p = let w = sliding-widths a in sliding-fit e d p (w .0) (w .1)
 every-fit Naf e a p = naf-fit e p
 every-fit (WideNaf w) e a p = let v = wide-widths a in wide-fit e w p (v .0) (v .1)
+every-fit ModifiedNaf e a p = modified-fit e p
 
 -- ---- how many there are, over the bit length, however large the number
 
@@ -161,6 +164,7 @@ tableBits (FixedWindows d) = d
 tableBits (SlidingWindows d) = d
 tableBits Naf = 0
 tableBits (WideNaf w) = w - 1
+tableBits ModifiedNaf = 0
 
 pub every-short : (m : Method) (e : ℕ) → Allowed m → 0 < e → length (stepsBy m e) ≤ 2 ^ tableBits m + 2 * bitLength e
 every-short Binary e a some = omega (arith, binary-short e some)
@@ -168,6 +172,7 @@ every-short (FixedWindows d) e a some = omega (arith, fixed-short e d some (fixe
 every-short (SlidingWindows d) e a some = omega (arith, sliding-short e d some (sliding-widths a .0))
 every-short Naf e a some = omega (arith, naf-short e some, naf-bits e)
 every-short (WideNaf w) e a some = omega (arith, wide-short e w some (wide-widths a .0))
+every-short ModifiedNaf e a some = omega (arith, modified-short e some, modified-length e)
 
 -- and that is below the limit
 pub every-below : (m : Method) (e : ℕ) → Allowed m → Plannable e → 2 ^ tableBits m + 2 * bitLength e < planSteps
@@ -176,6 +181,7 @@ every-below (FixedWindows d) e a p = omega (arith, p .bits, pow-mono {i = d} {j 
 every-below (SlidingWindows d) e a p = omega (arith, p .bits, pow-mono {i = d} {j = slidingWindowBits} (sliding-widths a .1))
 every-below Naf e a p = omega (arith, p .bits)
 every-below (WideNaf w) e a p = omega (arith, p .bits, pow-mono {i = w - 1} {j = largestWidth - 1} (omega (arith, wide-widths a .1)))
+every-below ModifiedNaf e a p = omega (arith, p .bits)
 
 -- ---- no doubling is hidden, whatever the method and however large the number
 
@@ -185,6 +191,7 @@ every-unhidden (FixedWindows d) e a some = fixed-unhidden e d
 every-unhidden (SlidingWindows d) e a some = sliding-unhidden e d some (sliding-widths a .0)
 every-unhidden Naf e a some = naf-unhidden e some
 every-unhidden (WideNaf w) e a some = wide-unhidden e w some (wide-widths a .0)
+every-unhidden ModifiedNaf e a some = modified-unhidden e some
 
 -- ---- the bits of the largest size, however large the number
 
@@ -194,3 +201,4 @@ every-largest (FixedWindows d) e a some = fixed-largest e d some (fixed-widths a
 every-largest (SlidingWindows d) e a some = sliding-largest e d some (sliding-widths a .0)
 every-largest Naf e a some = naf-largest e some
 every-largest (WideNaf w) e a some = wide-largest e w some (wide-widths a .0)
+every-largest ModifiedNaf e a some = modified-largest e some

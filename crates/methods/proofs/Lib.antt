@@ -9,5 +9,6 @@ pub mod FixedWindows
 pub mod SlidingWindows
 pub mod WideNaf
 pub mod NonAdjacentForm
+pub mod ModifiedNaf
 pub mod Every
 pub mod Examples

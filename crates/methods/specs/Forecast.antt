@@ -49,7 +49,7 @@ slidingWindowCounts e d =
     (cond (eqb (e % 2) 1) (tableCounts (oddPosition e)) (scanCounts e d (bitLength e - 1)))
     (scanCounts e d (bitLength e - 1))
 
--- ---- methods 4 and 5: the digits above zero and those below
+-- ---- methods 4 to 6: the digits above zero and those below
 
 abbrev pub isPlus : ℤ → ℕ
 isPlus (pos zero) = 0

@@ -4,7 +4,7 @@ use mathlib.Core.Bool.{_&&_, cond}
 use lib.Dec.{ltb, leb, eqb}
 use Rattle.integers.specs.Bits.{bitLength}
 use Rattle.methods.specs.declared.Method.{Method}
-use Rattle.methods.specs.declared.Method.the-variants.{Binary, FixedWindows, SlidingWindows, Naf, WideNaf}
+use Rattle.methods.specs.declared.Method.the-variants.{Binary, FixedWindows, SlidingWindows, Naf, WideNaf, ModifiedNaf}
 
 -- method 3: an even number shorter than a window gets the whole table, which ends at 2^d - 1
 abbrev pub slidingLargestBits : ℕ → ℕ → ℕ
@@ -21,6 +21,10 @@ wideLargestBits e w =
     cond (eqb (e % 2) 1 && leb w (bitLength e) && ltb (2 ^ bitLength e) (e + 2 ^ (w - 1))) (bitLength e + 1)
     (slidingLargestBits e (w - 1))
 
+-- method 6: 2^L - 1 above 3 is made from 2^L
+abbrev pub modifiedLargestBits : ℕ → ℕ
+modifiedLargestBits e = cond (ltb 3 e && eqb (e + 1) (2 ^ bitLength e)) (bitLength e + 1) (bitLength e)
+
 -- in any other plan no size has more bits than the number; a line a method
 abbrev pub largestBitsBy : Method → ℕ → ℕ
 largestBitsBy Binary e = bitLength e
@@ -28,3 +32,4 @@ largestBitsBy (FixedWindows d) e = bitLength e
 largestBitsBy (SlidingWindows d) e = slidingLargestBits e d
 largestBitsBy Naf e = nafLargestBits e
 largestBitsBy (WideNaf w) e = wideLargestBits e w
+largestBitsBy ModifiedNaf e = modifiedLargestBits e

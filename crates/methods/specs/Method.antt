@@ -8,7 +8,7 @@ use Rattle.rules.specs.Limits.{leastWidth, largestWidth}
 use Rattle.rules.specs.declared.Refusal.the-variants.{MethodOrWidth}
 use Rattle.chains.specs.Steps.{Step}
 use Rattle.methods.specs.declared.Method.{Method}
-use Rattle.methods.specs.declared.Method.the-variants.{Binary, FixedWindows, SlidingWindows, Naf, WideNaf}
+use Rattle.methods.specs.declared.Method.the-variants.{Binary, FixedWindows, SlidingWindows, Naf, WideNaf, ModifiedNaf}
 use Rattle.methods.specs.declared.Chosen.{Chosen}
 use Rattle.methods.specs.Widths.{fixedWindowBits, slidingWindowBits}
 use Rattle.methods.specs.Binary.{binarySteps}
@@ -16,6 +16,7 @@ use Rattle.methods.specs.FixedWindows.{fixedWindowSteps}
 use Rattle.methods.specs.SlidingWindows.{slidingWindowSteps}
 use Rattle.methods.specs.NonAdjacentForm.{nafSteps}
 use Rattle.methods.specs.WideNaf.{wideNafSteps}
+use Rattle.methods.specs.ModifiedNaf.{modifiedNafSteps}
 
 -- the steps that a method gives for e
 abbrev pub stepsBy : Method → ℕ → List Step
@@ -24,6 +25,7 @@ stepsBy (FixedWindows d) e = fixedWindowSteps e d
 stepsBy (SlidingWindows d) e = slidingWindowSteps e d
 stepsBy Naf e = nafSteps e
 stepsBy (WideNaf w) e = wideNafSteps e w
+stepsBy ModifiedNaf e = modifiedNafSteps e
 
 -- the two numbers that ask for it
 abbrev pub methodNumber : Method → ℕ
@@ -32,6 +34,7 @@ methodNumber (FixedWindows d) = 2
 methodNumber (SlidingWindows d) = 3
 methodNumber Naf = 4
 methodNumber (WideNaf w) = 5
+methodNumber ModifiedNaf = 6
 
 abbrev pub methodWidth : Method → ℕ
 methodWidth Binary = 0
@@ -39,6 +42,7 @@ methodWidth (FixedWindows d) = d
 methodWidth (SlidingWindows d) = d
 methodWidth Naf = 0
 methodWidth (WideNaf w) = w
+methodWidth ModifiedNaf = 0
 
 -- a method by its width, from the least to the most that it allows
 pub record Entry : Type 0 where
@@ -49,7 +53,7 @@ pub record Entry : Type 0 where
 abbrev pub entry : (ℕ → Method) → ℕ → ℕ → Entry
 entry method least most = record { method = method; least = least; most = most }
 
--- methods 1 to 5: width is 0 for methods 1 and 4, from 1 on for methods 2 and 3, and that of a non-adjacent form for method 5
+-- methods 1 to 6: width is 0 for methods 1, 4 and 6, from 1 on for methods 2 and 3, and that of a non-adjacent form for method 5
 abbrev pub methods : List Entry
 methods =
     entry (λ width. Binary) 0 0
@@ -57,7 +61,8 @@ methods =
     ∷ (entry SlidingWindows 1 slidingWindowBits
     ∷ (entry (λ width. Naf) 0 0
     ∷ (entry WideNaf leastWidth largestWidth
-    ∷ []))))
+    ∷ (entry (λ width. ModifiedNaf) 0 0
+    ∷ [])))))
 
 -- the method, if its width is one that it allows
 unfoldable pub within : Method → ℕ → ℕ → ℕ → Chosen

@@ -15,6 +15,7 @@ pub enum Method {
     SlidingWindows(usize),
     Naf,
     WideNaf(usize),
+    ModifiedNaf,
 }
 
 // The method that is asked for, or why there is none.

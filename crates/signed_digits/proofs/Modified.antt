@@ -1,7 +1,7 @@
 -- The modified form: a signed digit string for the number, with 1 on top and as many nonzero digits as the canonical string has. It is that string, or a digit
 -- shorter where that leads with 1 0 -1. Assumes nothing.
 use mathlib.Core.Path.{_≡_, refl, sym, _∙_, ap, subst}
-use mathlib.Core.Logic.{_↔_}
+use mathlib.Core.Logic.{_↔_, _≢_}
 use mathlib.Core.Bool.{Bool, true, false, cond}
 use mathlib.Core.List.{List, [], _∷_, _++_}
 use Prim.Native.Nat.{ℕ, suc, _+_, _*_, _-_, _<_, _≤_, _^_, _/_}
@@ -10,7 +10,7 @@ use native.Mathlib.Nat.{pow-suc, div-lt-iff-lt-mul, div-eq-of-lt-le}
 use native.Mathlib.Numerals.{add-one}
 use native.Mathlib.Omega.{arith}
 use borrow.Author.Tests.{eqb-true, eqb-false}
-use lib.IntN.{ℤ, pos, negsuc, pos-ne-negsuc}
+use lib.IntN.{ℤ, pos, negsuc, natAbs, pos-ne-negsuc}
 use lib.ListN.{length, take, drop, length-append, List·getD-append, take-append-drop, drop-of-length-le}
 use lib.Pow.{pow-pos, pow-add}
 use lib.Seq.{drop-cons, getD-append-add}
@@ -110,6 +110,19 @@ module _ (n : ℕ) where
 
   pub modified-weight : nonzeros (modified n) ≡ nonzeros (canonical (pos n))
   modified-weight = stands .weight
+
+  -- the lowest digit is the canonical one, but for 3, which is 1 1 from 1 0 -1
+  pub modified-lowest : n ≢ 3 → digitAt (modified n) 0 ≡ digitAt (canonical (pos n)) 0
+  unfolding value
+  modified-lowest other = go (leads (canonical (pos n))) refl
+    where
+      below : (low : List ℤ) → value (low ++ (negsuc 0 ∷ pos 0 ∷ pos 1 ∷ [])) ≡ pos n → digitAt (low ++ (pos 1 ∷ pos 1 ∷ [])) 0 ≡ digitAt (low ++ (negsuc 0 ∷ pos 0 ∷ pos 1 ∷ [])) 0
+      below [] v = absurd (other (omega (arith, ap natAbs v)))
+      below (d ∷ low) v = refl
+
+      go : (b : Bool) → leads (canonical (pos n)) ≡ b → digitAt (modified n) 0 ≡ digitAt (canonical (pos n)) 0
+      go true t = let (low, e, f) = modified-cut n t in rw (f, e) (below low (ap value (sym e) ∙ canonical-value (pos n)))
+      go false t = rw (modified-kept n t)
 
   -- one digit fewer exactly where the canonical string leads with 1 0 -1
   pub modified-size : length (modified n) + saved n ≡ length (canonical (pos n))

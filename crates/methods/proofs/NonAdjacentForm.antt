@@ -1,13 +1,13 @@
 -- Method 4: its steps are sound and end at the number, how many there are, their counts, and the bits of the largest size. Assumes nothing.
 use mathlib.Core.Path.{_≡_, sym, ap, _∙_}
 use mathlib.Core.Bool.{and-false}
-use mathlib.Core.List.{List, []}
+use mathlib.Core.List.{List}
 use Prim.Native.Nat.{ℕ, suc, _+_, _*_, _-_, _%_, _^_, _<_, _≤_}
 use borrow.Author.Tests.{lt-ltb, le-ltb, le-leb, lt-leb, eq-eqb, ne-eqb}
 use native.Mathlib.Decide.{decLt, ℕ-discrete}
 use native.Mathlib.Nat.{zero-add, lt-suc-self, lt-of-not-le}
 use native.Mathlib.Omega.{arith}
-use lib.IntN.{ℤ, pos, natAbs}
+use lib.IntN.{ℤ, pos}
 use lib.ListN.{length}
 use Rattle.signed_digits.specs.Strings.{digitAt}
 use Rattle.signed_digits.specs.Naf.{lowDigit, canonical}
@@ -21,15 +21,15 @@ use Rattle.chains.specs.Largest.{largestBits}
 use Rattle.integers.specs.Bits.{bitLength}
 use Rattle.integers.proofs.Bits.{bit-length-iff, some-bits}
 use Rattle.methods.specs.PartialPlan.{none, downFrom}
-use Rattle.methods.specs.Tables.{tableBy, tableCounts}
-use Rattle.methods.specs.OddMultiples.{oddPosition}
-use Rattle.methods.specs.DigitSteps.{atDigit, digitSteps}
+use Rattle.methods.specs.Tables.{tableCounts}
+use Rattle.methods.specs.DigitSteps.{atDigit}
 use Rattle.methods.specs.NonAdjacentForm.{nafSteps}
 use Rattle.methods.specs.Forecast.{plusDigits, minusDigits}
 use Rattle.methods.specs.Largest.{slidingLargestBits, nafLargestBits, wideLargestBits}
 use Rattle.methods.proofs.Laws.{Made, Fit, Plannable, plannable-small}
 use Rattle.methods.proofs.OddMultiples.{tableValue, halved}
 use Rattle.methods.proofs.DigitSteps.{Suited, digits-made, digits-counts, digits-short}
+use Rattle.methods.proofs.SignedBits.{digits-down}
 use Rattle.methods.proofs.WideNaf.{wide-bits, wide-suited, wide-largest, wide-table-at-2, wide-at-2}
 
 -- ---- the canonical digits: method 5 at width 2
@@ -53,8 +53,8 @@ module _ (e : ℕ) (some : 0 < e) where
 
   -- with no table, the steps begin at position 0
   pub naf-down : nafSteps e ≡ downFrom (λ i b. atDigit (digitAt (canonical (pos e)) i) b) (length (canonical (pos e)) - 1) none .steps
-  unfolding nafSteps digitSteps tableBy
-  naf-down = ap (λ (d : ℤ). downFrom (λ i b. atDigit (digitAt ds i) b) (length ds - 1) (record { steps = []; latest = oddPosition (natAbs d) }) .steps) top-digit
+  unfolding nafSteps
+  naf-down = digits-down ds top-digit
 
   pub naf-made : {limit : ℕ} → e + 1 < limit → Made limit (nafSteps e) e
   unfolding nafSteps

@@ -1,5 +1,5 @@
 -- The steps of a string of the digits 0, 1 and -1 with 1 on top, which needs no table: it is suited, and how many steps there are. Assumes nothing.
-use mathlib.Core.Path.{_≡_, refl, _∙_}
+use mathlib.Core.Path.{_≡_, refl, ap, _∙_}
 use mathlib.Core.Logic.{_≢_}
 use mathlib.Core.List.{List, [], _∷_}
 use Prim.Native.Nat.{ℕ, zero, suc, _+_, _-_, _<_, _≤_}
@@ -12,7 +12,10 @@ use Rattle.signed_digits.specs.Weight.{nonzero, nonzeros}
 use Rattle.signed_digits.specs.Modified.{topDigit}
 use Rattle.signed_digits.proofs.Parts.{positivePart, negativePart, from-parts, size-parts}
 use Rattle.signed_digits.proofs.Tops.{some-digit, top-positive, dropped-top, dropped-bits}
-use Rattle.methods.specs.DigitSteps.{digitSteps}
+use Rattle.methods.specs.PartialPlan.{none, downFrom}
+use Rattle.methods.specs.Tables.{tableBy}
+use Rattle.methods.specs.OddMultiples.{oddPosition}
+use Rattle.methods.specs.DigitSteps.{atDigit, digitSteps}
 use Rattle.methods.specs.Forecast.{plusDigits, minusDigits}
 use Rattle.methods.proofs.OddMultiples.{tableValue, InTable}
 use Rattle.methods.proofs.DigitSteps.{valueFrom, Suited, value-down, digits-plus, digits-length}
@@ -31,6 +34,12 @@ one-in-table d small other =
     let some : natAbs d ≢ 0 = λ z. other (omega (arith, from-parts, size-parts d)) in
     let one : natAbs d ≡ 1 = omega arith in
     rw one (record { odd = refl; within = omega arith })
+
+-- so the steps begin there, with 1 on top, whatever the digits below are
+pub digits-down : (ds : List ℤ) → topDigit ds ≡ pos 1 → digitSteps 0 ds ≡ downFrom (λ i b. atDigit (digitAt ds i) b) (length ds - 1) none .steps
+unfolding digitSteps tableBy
+digits-down ds top =
+    ap (λ (d : ℤ). downFrom (λ i b. atDigit (digitAt ds i) b) (length ds - 1) (record { steps = []; latest = oddPosition (natAbs d) }) .steps) top
 
 module _ (ds : List ℤ) (bits : SignedBits ds) (top : topDigit ds ≡ pos 1) where
   positive : (i : ℕ) → i < length ds → 0 < valueFrom ds i

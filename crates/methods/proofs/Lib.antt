@@ -10,5 +10,6 @@ pub mod SlidingWindows
 pub mod WideNaf
 pub mod NonAdjacentForm
 pub mod ModifiedNaf
+pub mod FewestSteps
 pub mod Every
 pub mod Examples

@@ -1,4 +1,4 @@
--- The plans for 43 and 3 (docs/RULES.md, 3.3 and 5.10), and ends of longer plans, by computation from the definitions. Assumes nothing.
+-- The plans for 43 and 3 (docs/RULES.md, 3.3 and 5.10), chains of source document 004, and ends of longer plans, by computation from the definitions. Assumes nothing.
 use mathlib.Core.Path.{_≡_, refl}
 use mathlib.Core.List.{[], _∷_, map}
 use Prim.Native.Nat.{_^_, _-_}
@@ -6,6 +6,7 @@ use lib.IntN.{pos}
 use lib.ListN.{length}
 use Rattle.rules.specs.Limits.{largestWidth}
 use Rattle.signed_digits.specs.Naf.{residue, lowDigit, rest, digitsOf, naf}
+use Rattle.signed_digits.specs.Modified.{leads, shortened, modified}
 use Rattle.chains.specs.Steps.{planBytesOf, stepBytesOf}
 use Rattle.chains.specs.Values.{valuesOf, extend, stepValue, endOf}
 use Rattle.methods.specs.PartialPlan.{followed, doubled, downFrom}
@@ -18,6 +19,7 @@ use Rattle.methods.specs.FixedWindows.{windowSteps, fixedWindowSteps}
 use Rattle.methods.specs.SlidingWindows.{longest, slide, slidingWindowSteps}
 use Rattle.methods.specs.NonAdjacentForm.{nafSteps}
 use Rattle.methods.specs.WideNaf.{wideTable, wideNafSteps}
+use Rattle.methods.specs.ModifiedNaf.{modifiedNafSteps}
 
 pub steps-for-43 : (length (binarySteps 43) ≡ 8) × (length (fixedWindowSteps 43 2) ≡ 8) × (length (slidingWindowSteps 43 3) ≡ 8) × (length (nafSteps 43) ≡ 9)
 unfolding binarySteps fixedWindowSteps slidingWindowSteps nafSteps windowSteps tableBy longest slide digitSteps followed doubled downFrom lengthUpTo bitLength bit residue lowDigit rest digitsOf naf
@@ -45,3 +47,12 @@ wide-values-for-43 = refl
 pub wide-corners : (valuesOf (wideNafSteps 5 4) ≡ map pos (1 ∷ 2 ∷ 3 ∷ 5 ∷ [])) × (valuesOf (wideNafSteps 6 4) ≡ map pos (1 ∷ 2 ∷ 3 ∷ 5 ∷ 7 ∷ 6 ∷ [])) × (valuesOf (wideNafSteps 15 3) ≡ map pos (1 ∷ 2 ∷ 3 ∷ 2 ∷ 4 ∷ 8 ∷ 16 ∷ 15 ∷ [])) × (endOf (wideNafSteps (2 ^ 255 - 19) largestWidth) ≡ pos (2 ^ 255 - 19))
 unfolding wideNafSteps wideTable digitSteps tableBy followed downFrom residue lowDigit rest digitsOf naf valuesOf extend stepValue
 wide-corners = (refl, refl, refl, refl)
+
+-- method 6: 43 takes 8 steps, and 1 none; source document 004's chains by the modified form
+pub modified-steps-for-43 : (length (modifiedNafSteps 43) ≡ 8) × (modifiedNafSteps 1 ≡ [])
+unfolding modifiedNafSteps leads shortened modified digitSteps tableBy followed downFrom residue lowDigit rest digitsOf naf
+modified-steps-for-43 = (refl, refl)
+
+pub modified-chains : (valuesOf (modifiedNafSteps 15) ≡ map pos (1 ∷ 2 ∷ 4 ∷ 8 ∷ 16 ∷ 15 ∷ [])) × (valuesOf (modifiedNafSteps 23) ≡ map pos (1 ∷ 2 ∷ 3 ∷ 6 ∷ 12 ∷ 24 ∷ 23 ∷ [])) × (valuesOf (modifiedNafSteps 27) ≡ map pos (1 ∷ 2 ∷ 4 ∷ 8 ∷ 7 ∷ 14 ∷ 28 ∷ 27 ∷ [])) × (valuesOf (modifiedNafSteps 43) ≡ map pos (1 ∷ 2 ∷ 3 ∷ 6 ∷ 12 ∷ 11 ∷ 22 ∷ 44 ∷ 43 ∷ [])) × (valuesOf (modifiedNafSteps 47) ≡ map pos (1 ∷ 2 ∷ 3 ∷ 6 ∷ 12 ∷ 24 ∷ 48 ∷ 47 ∷ []))
+unfolding modifiedNafSteps leads shortened modified digitSteps tableBy followed downFrom residue lowDigit rest digitsOf naf valuesOf extend stepValue
+modified-chains = (refl, refl, refl, refl, refl)

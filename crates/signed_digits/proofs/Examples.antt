@@ -1,5 +1,5 @@
--- Source document 004's table of the numbers to 39, and 0, by computation: the canonical string and the modified form. Digits are written most significant first.
--- Assumes nothing.
+-- The canonical string and the modified form by computation: the numbers that request T-07 names, source document 004's table of the numbers to 39, and 0. Digits
+-- are written most significant first. Assumes nothing.
 use mathlib.Core.Path.{_≡_, refl}
 use mathlib.Core.List.{List, [], _∷_, map, reverse}
 use Prim.Native.Nat.{ℕ}
@@ -15,6 +15,11 @@ one = pos 1
 
 abbrev neg : ℤ
 neg = negsuc 0
+
+-- 25 gives 1 1 0 0 1, and 27 stays as it was
+pub worked : (reverse (modified 25) ≡ one ∷ one ∷ zer ∷ zer ∷ one ∷ []) × (modified 27 ≡ canonical (pos 27))
+unfolding residue lowDigit rest digitsOf naf leads shortened modified
+worked = (refl, refl)
 
 -- a number, its canonical string, its modified form
 unfoldable pub table : List (ℕ × List ℤ × List ℤ)

@@ -13,10 +13,8 @@ use Rattle.signed_digits.specs.Bytes.{byteDigit}
 use Rattle.signed_digits.proofs.Tops.{some-digit}
 use Rattle.digit_strings.specs.Places.{placeByte}
 use Rattle.digit_strings.proofs.Bytes.{back}
-use Rattle.methods.specs.PartialPlan.{PartialPlan, none, downFrom}
-use Rattle.methods.specs.Tables.{tableBy}
-use Rattle.methods.specs.OddMultiples.{oddPosition}
-use Rattle.methods.specs.DigitSteps.{atDigit, digitSteps}
+use Rattle.methods.specs.PartialPlan.{PartialPlan}
+use Rattle.methods.specs.DigitSteps.{atDigit}
 use Rattle.methods.proofs.DigitSteps.{length-at-digit}
 use Rattle.digit_plans.specs.Raised.{raised, mostDigits, Recoded, Plain}
 
@@ -51,8 +49,3 @@ atPlace ds i b = atDigit (digitAt ds i) b
 
 pub place-grows : (ds : List ℤ) (i : ℕ) (b : PartialPlan) → length (b .steps) ≤ length (atPlace ds i b .steps)
 place-grows ds i b = omega (arith, length-at-digit (digitAt ds i) b)
-
--- with no table and 1 on top, the steps begin at position 0
-pub steps-down : (ds : List ℤ) → topDigit ds ≡ pos 1 → downFrom (atPlace ds) (length ds - 1) none .steps ≡ digitSteps 0 ds
-unfolding digitSteps tableBy
-steps-down ds top = sym (ap (λ (d : ℤ). downFrom (atPlace ds) (length ds - 1) (record { steps = []; latest = oddPosition (natAbs d) }) .steps) top)

@@ -25,9 +25,7 @@ use Rattle.chains.specs.Counts.{counts, countsOf, NoHiddenDoubling}
 use Rattle.chains.specs.Largest.{largestBits}
 use Rattle.integers.specs.Bits.{bitLength}
 use Rattle.integers.proofs.Bits.{bit-length-iff}
-use Rattle.methods.specs.PartialPlan.{none, downFrom}
 use Rattle.methods.specs.Tables.{tableCounts}
-use Rattle.methods.specs.DigitSteps.{atDigit}
 use Rattle.methods.specs.NonAdjacentForm.{nafSteps}
 use Rattle.methods.specs.ModifiedNaf.{modifiedNafSteps}
 use Rattle.methods.specs.Forecast.{plusDigits, minusDigits}
@@ -35,7 +33,7 @@ use Rattle.methods.specs.Largest.{modifiedLargestBits}
 use Rattle.methods.proofs.Laws.{Made, Fit, Plannable, plannable-small, made-bits, own-bits}
 use Rattle.methods.proofs.OddMultiples.{halved}
 use Rattle.methods.proofs.DigitSteps.{Suited, digits-made, digits-before, digits-counts, digits-short}
-use Rattle.methods.proofs.SignedBits.{digits-down, bits-suited}
+use Rattle.methods.proofs.SignedBits.{bits-suited}
 use Rattle.methods.proofs.NonAdjacentForm.{naf-counts}
 
 -- the bit length, or one digit more
@@ -59,11 +57,6 @@ module _ (e : ℕ) (some : 0 < e) where
 
   suited-alone : Suited (suc before) 0 ds
   suited-alone = suited (lt-suc-self before)
-
-  -- with no table, the steps begin at position 0
-  pub modified-down : modifiedNafSteps e ≡ downFrom (λ i b. atDigit (digitAt (modified e) i) b) (length (modified e) - 1) none .steps
-  unfolding modifiedNafSteps
-  modified-down = digits-down ds (modified-top e some)
 
   made-above : {limit : ℕ} → before < limit → Made limit (modifiedNafSteps e) e
   unfolding modifiedNafSteps

@@ -81,12 +81,13 @@ module _ (n i : ℕ) (size : length (canonical (pos n)) ≡ suc (suc (suc i))) w
         rw k₃ (digit-of n i 4 1 (omega arith) (omega arith) (omega arith) (omega arith)),
       )
 
+  -- the top three bits of 3 n
   top-bits : (x : ℕ) → x * 2 ^ suc i ≤ 3 * n → 3 * n < (x + 1) * 2 ^ suc i → 8 * (3 * n) / 2 ^ (length (canonical (pos n)) + 1) ≡ x
   top-bits x a b =
       let p : 2 ^ (length (canonical (pos n)) + 1) ≡ 8 * 2 ^ suc i = rw (size, add-one, pow-suc 2 (suc (suc (suc i))), pow-suc 2 (suc (suc i)), pow-suc 2 (suc i)) (omega arith) in
       rw p (div-eq-of-lt-le (8 * 2 ^ suc i) (omega arith) (omega arith))
 
-  -- where they are no 100, the third digit is 0 or 1
+  -- where they are not 100, the third digit is 0 or 1
   high-leads : (x y : ℕ) → (pos (x % 2) -ℤ pos (y % 2)) ≢ negsuc 0 → x * 2 ^ suc i ≤ 3 * n → 3 * n < (x + 1) * 2 ^ suc i → y * 2 ^ suc i ≤ n → n < (y + 1) * 2 ^ suc i
       → leads (canonical (pos n)) ≡ false
   high-leads x y other a b c d =
@@ -116,7 +117,7 @@ leads-few (suc zero) h = refl
 leads-few (suc (suc zero)) h = refl
 leads-few (suc (suc (suc n))) h = absurd (omega arith)
 
--- the leading digits are 1 0 -1 just where the top three bits of 3 n, which has one bit more than the string has digits, are 100
+-- The leading digits are 1 0 -1 just where the top three bits of 3 n are 100: it has one bit more than the string has digits. (Of 0, which has none, neither is so.)
 pub leads-top : (n : ℕ) → leads (canonical (pos n)) ≡ eqb (8 * (3 * n) / 2 ^ (length (canonical (pos n)) + 1)) 4
 leads-top n =
     elim (decLt n 3) [

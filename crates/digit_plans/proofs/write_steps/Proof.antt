@@ -1,5 +1,5 @@
 -- `digit_plans::write_steps` meets its contract: the steps of the digits from i on are written. Assumes nothing.
-use mathlib.Core.Path.{_≡_, refl}
+use mathlib.Core.Path.{_≡_, refl, sym}
 use mathlib.Core.List.{List}
 use Prim.Native.Nat.{ℕ, suc, _+_, _-_, _<_, _≤_}
 use native.Mathlib.Omega.{arith}
@@ -10,10 +10,11 @@ use Rattle.signed_digits.specs.Bytes.{byteDigit}
 use Rattle.methods.specs.PartialPlan.{none}
 use Rattle.methods.specs.DigitSteps.{digitSteps}
 use Rattle.methods.proofs.DigitSteps.{length-at-digit}
+use Rattle.methods.proofs.SignedBits.{digits-down}
 use Rattle.plan_writing.proofs.Underway.{Underway, down-one, nothing-written, underway-next, underway-room, underway-end}
 use Rattle.plan_writing.proofs.Digits.{step-more}
 use Rattle.digit_plans.specs.Raised.{raised}
-use Rattle.digit_plans.proofs.Raised.{raised-length, raised-at, atPlace, place-grows, steps-down}
+use Rattle.digit_plans.proofs.Raised.{raised-length, raised-at, atPlace, place-grows}
 use borrow.Author.Needs.{needs}
 use Rattle.digit_plans.proofs.write_steps.Statement.{statement}
 use Rattle.digit_plans.proofs.write_steps.Tie as tie
@@ -63,7 +64,7 @@ loop-holds c =
       record {
         partial = none;
         writing = nothing-written (start .args .out .now) (first .result) (first .ensures .0) (first .ensures .1);
-        rest = rw length-is at (steps-down (raised (start .args .digits .now) (start .args .count)) (plain .top));
+        rest = rw length-is at (sym (digits-down (raised (start .args .digits .now) (start .args .count)) (plain .top)));
       },
       search needs,
       refl,

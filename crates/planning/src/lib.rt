@@ -30,6 +30,7 @@ fn counts(number: &[u8], method: Method) -> Counts
         Method::SlidingWindows(d) => method_sliding_windows::counts(number, d),
         Method::Naf => method_naf::counts(number),
         Method::WideNaf(w) => method_wide_naf::counts(number, w),
+        Method::ModifiedNaf => method_modified_naf::counts(number),
     }
 }
 
@@ -46,6 +47,7 @@ fn write(number: &[u8], method: Method, out: &mut [u8])
         Method::SlidingWindows(d) => method_sliding_windows::write(number, d, out),
         Method::Naf => method_naf::write(number, out),
         Method::WideNaf(w) => method_wide_naf::write(number, w, out),
+        Method::ModifiedNaf => method_modified_naf::write(number, out),
     }
 }
 

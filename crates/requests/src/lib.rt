@@ -36,6 +36,7 @@ fn method_of(method: u32, width: u32) -> Chosen
         3 => within(Method::SlidingWindows(d), d, 1, SLIDING_WINDOW_BITS),
         4 => within(Method::Naf, d, 0, 0),
         5 => within(Method::WideNaf(d), d, LEAST_WIDTH, LARGEST_WIDTH),
+        6 => within(Method::ModifiedNaf, d, 0, 0),
         _ => Chosen::Refused(Refusal::MethodOrWidth),
     }
 }

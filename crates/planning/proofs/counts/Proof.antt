@@ -34,6 +34,12 @@ enum-known-method-3 c = search needs
 counts-requires-5 : tie.Need-counts-requires-5
 counts-requires-5 c κs = let w = wide-widths (rw (c .before .method3 .given .1) at (c .before .before .before .before .pre .1)) in search needs
 
+enum-told-3 : tie.Need-enum-told-3
+enum-told-3 c = search needs
+
+counts-requires-6 : tie.Need-counts-requires-6
+counts-requires-6 c κs = search needs
+
 returns : tie.Need-returns
 returns c = rw (c .before .enum-told .given .1) (c .counts .ensures)
 
@@ -49,6 +55,9 @@ returns-4 c = rw (c .before .enum-told2 .given .1) (c .counts4 .ensures)
 returns-5 : tie.Need-returns-5
 returns-5 c = rw (c .before .before .method3 .given .1) (c .counts5 .ensures)
 
+returns-6 : tie.Need-returns-6
+returns-6 c = rw (c .before .enum-told3 .given .1) (c .counts6 .ensures)
+
 pub counts-spec : {M : Type 1} → statement M
 counts-spec =
     tie.close
@@ -63,8 +72,11 @@ counts-spec =
     counts-requires-4
     enum-known-method-3
     counts-requires-5
+    enum-told-3
+    counts-requires-6
     returns
     returns-2
     returns-3
     returns-4
-    returns-5)
+    returns-5
+    returns-6)

@@ -43,6 +43,12 @@ write-requires-5 c κs =
     let w = wide-widths (pre .0) in
     search needs
 
+enum-told-3 : tie.Need-enum-told-3
+enum-told-3 c = search needs
+
+write-requires-6 : tie.Need-write-requires-6
+write-requires-6 c κs = let room = rw (c .before .enum-told3 .given .1) at (c .before .before .before .before .before .pre .1 .1) in search needs
+
 same-length : tie.Need-same-length
 same-length c = search needs
 
@@ -73,6 +79,12 @@ same-length-5 c = search needs
 returns-5 : tie.Need-returns-5
 returns-5 c = rw (c .before .before .before .before .before .method3 .given .1) (c .before .before .write5 .ensures)
 
+same-length-6 : tie.Need-same-length-6
+same-length-6 c = search needs
+
+returns-6 : tie.Need-returns-6
+returns-6 c = rw (c .before .before .before .before .enum-told3 .given .1) (c .before .before .write6 .ensures)
+
 pub write-spec : {M : Type 1} → statement M
 write-spec =
     tie.close
@@ -87,6 +99,8 @@ write-spec =
     write-requires-4
     enum-known-method-3
     write-requires-5
+    enum-told-3
+    write-requires-6
     same-length
     returns
     same-length-2
@@ -96,4 +110,6 @@ write-spec =
     same-length-4
     returns-4
     same-length-5
-    returns-5)
+    returns-5
+    same-length-6
+    returns-6)

@@ -2,11 +2,12 @@
 use digit_strings::CANONICAL_WIDTH;
 use digit_strings::string_verdict;
 use integers::significant;
-use reading_digits::copy;
+use output::put;
 use reading_digits::sign_of;
 use reading_digits::size_of;
 use rules::Refusal;
 use rules::Verdict;
+use rules::Written;
 ghost use mathlib.Core.Path.{_≡_};
 ghost use Prim.Native.Nat.{_≤_};
 ghost use lib.ListN.{length};
@@ -32,12 +33,11 @@ pub fn read_of_width(digits: &[u8], width: usize, out: &mut [u8]) -> ReadBack
     let count = significant(digits);
     let sign = sign_of(digits, count, width);
     let size = size_of(digits, count, width, sign);
-    let length = significant(&size);
-    if out.len() < length {
-        return ReadBack::Refused(Refusal::RoomTooSmall(length));
+    let bytes = significant(&size);
+    match put(&size[..bytes], out) {
+        Written::Length(length) => ReadBack::Value { sign, length },
+        Written::Refused(refusal) => ReadBack::Refused(refusal),
     }
-    copy(&size, length, out);
-    ReadBack::Value { sign, length }
 }
 
 // The same of a string of the digits 0, 1 and -1.

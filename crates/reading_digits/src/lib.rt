@@ -5,10 +5,9 @@
 // with a carry. The sign, known first, says which of the two is the larger.
 use rules::STRING_DIGITS;
 ghost use mathlib.Core.Path.{_≡_};
-ghost use mathlib.Core.List.{_++_};
 ghost use Prim.Native.Nat.{_+_, _*_, _%_, _<_, _≤_};
 ghost use lib.IntN.{natAbs};
-ghost use lib.ListN.{length, take, drop};
+ghost use lib.ListN.{length};
 ghost use Rattle.rules.specs.Limits.{leastWidth, largestWidth};
 ghost use Rattle.integers.specs.Positional.{bytesValue, Significant};
 ghost use Rattle.integers.specs.Signed.{signOf};
@@ -126,17 +125,4 @@ pub fn size_of(digits: &[u8], count: usize, width: usize, sign: u8) -> [u8; SIZE
     size[k] = (byte % 256) as u8;
     size[k + 1] = (byte / 256 - CARRY_ZERO) as u8;
     size
-}
-
-// Copies the first `count` bytes.
-pub fn copy(from: &[u8], count: usize, out: &mut [u8])
-    requires { ⌜ count ≤ length (now from) ⌝ }
-    requires { ⌜ count ≤ length (now out) ⌝ }
-    ensures { λ _. ⌜ now (out .exit) ≡ take count (now (from .entry)) ++ drop count (now (out .entry)) ⌝ }
-{
-    let mut i = 0;
-    while i < count {
-        out[i] = from[i];
-        i += 1;
-    }
 }

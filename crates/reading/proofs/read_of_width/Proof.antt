@@ -1,15 +1,13 @@
 -- `reading::read_of_width` meets its contract: at each return the tests that led there say which outcome holds. Assumes nothing.
 use mathlib.Core.Path.{_≡_, sym, _∙_}
-use mathlib.Core.List.{_++_}
-use lib.ListN.{length, getD, take, drop}
+use lib.ListN.{getD, take}
+use lib.Seq.{length-take-le}
 use mir.Syntax.{w8}
 use mir.Val.{Fits}
 use Rattle.rules.specs.declared.Verdict.the-variants.{Passed}
-use Rattle.rules.proofs.Returns.{returns-refused, returns-written}
-use Rattle.integers.specs.Signed.{signOf}
-use Rattle.digit_strings.specs.Admission.{stringVerdict, stringValue, DigitString}
+use Rattle.digit_strings.specs.Admission.{stringVerdict, DigitString}
 use Rattle.digit_strings.proofs.Tests.{digit-string-is}
-use Rattle.reading.specs.ReadBack.{sizeBytes, withSign}
+use Rattle.reading.specs.ReadBack.{sizeBytes}
 use Rattle.reading.proofs.Outcomes.{size-is}
 use borrow.Author.Needs.{needs}
 use Rattle.reading.proofs.read_of_width.Statement.{statement}
@@ -24,8 +22,7 @@ string c = digit-string-is _ _ .0 (passed c)
 
 -- the bytes of the size
 sized : (c : tie.After-significant2)
-    → (take (c .significant2 .result) (c .before .before .size-of .result) ≡ sizeBytes (c .before .before .before .before .before .before .before .before .before .before .args .digits .now))
-    × (c .significant2 .result ≡ length (sizeBytes (c .before .before .before .before .before .before .before .before .before .before .args .digits .now)))
+    → take (c .significant2 .result) (c .before .before .size-of .result) ≡ sizeBytes (c .before .before .before .before .before .before .before .before .before .before .args .digits .now)
 sized c =
     let size = c .before .before .size-of in
     size-is _ (size .result) (c .significant2 .result) (size .ensures) (λ i. let f : Fits w8 (getD (size .result) i 0) = search needs in f .fits) (c .significant2 .ensures)
@@ -57,31 +54,44 @@ slice-aggregate-significant c = search needs
 significant-requires-2 : tie.Need-significant-requires-2
 significant-requires-2 c κs = search needs
 
-returns-2 : tie.Need-returns-2
-returns-2 c =
-    let found : tie.After-significant2 = search in
-    let told = found .before .before .before .before .before in
-    let args = told .before .before .before .before .before .args in
-    returns-refused (withSign (signOf (stringValue (args .digits .now)))) (sizeBytes (args .digits .now)) (args .out .now) (passed told) (sized found .1) (search needs)
+array-share-prefix-size : tie.Need-array-share-prefix-size
+array-share-prefix-size c = search needs
 
-slice-aggregate-copy : tie.Need-slice-aggregate-copy
-slice-aggregate-copy c = search needs
+slice-aggregate-put : tie.Need-slice-aggregate-put
+slice-aggregate-put c = sym (length-take-le (c .before .significant2 .result) (c .before .before .before .size-of .result) (c .before .significant2 .ensures .within))
 
-copy-requires : tie.Need-copy-requires
-copy-requires c κs = search needs
+put-requires : tie.Need-put-requires
+put-requires c κs = search needs
+
+enum-known-length : tie.Need-enum-known-length
+enum-known-length c = search needs
+
+enum-known-refusal-2 : tie.Need-enum-known-refusal-2
+enum-known-refusal-2 c = search needs
 
 same-length : tie.Need-same-length
 same-length c = search needs
 
+returns-2 : tie.Need-returns-2
+returns-2 c =
+    let stored : tie.After-put = search in
+    let found = stored .before .before .before in
+    let p = passed (found .before .before .before .before .before) in
+    let e = sized found in
+    let f = rw e at (sym (stored .put .ensures .0) ∙ c .before .length .given .1) in
+    (rw (p, f, ← found .before .before .before .sign-of .ensures), stored .put .ensures .1 ∙ rw (p, e))
+
+same-length-2 : tie.Need-same-length-2
+same-length-2 c = search needs
+
 returns-3 : tie.Need-returns-3
 returns-3 c =
-    let found = c .before .before .before .before .before .before in
-    let n = found .significant2 in
-    let told = found .before .before .before .before .before in
-    let sign = found .before .before .before .sign-of in
-    let args = told .before .before .before .before .before .args in
-    let w : _ ≡ take (n .result) (found .before .before .size-of .result) ++ drop (n .result) (args .out .now) = c .before .before .copy .ensures in
-    rw (sign .ensures) (returns-written (withSign (signOf (stringValue (args .digits .now)))) (sizeBytes (args .digits .now)) (args .out .now) (passed told) (sized found .1) (search needs) (rw (sized found .0) at w))
+    let stored : tie.After-put = search in
+    let found = stored .before .before .before in
+    let p = passed (found .before .before .before .before .before) in
+    let e = sized found in
+    let f = rw e at (sym (stored .put .ensures .0) ∙ c .before .refusal2 .given .1) in
+    (rw (p, f), stored .put .ensures .1 ∙ rw (p, e))
 
 pub read-of-width-spec : {M : Type 1} → statement M
 read-of-width-spec =
@@ -96,8 +106,12 @@ read-of-width-spec =
     size-of-requires
     slice-aggregate-significant
     significant-requires-2
-    returns-2
-    slice-aggregate-copy
-    copy-requires
+    array-share-prefix-size
+    slice-aggregate-put
+    put-requires
+    enum-known-length
+    enum-known-refusal-2
     same-length
+    returns-2
+    same-length-2
     returns-3)

@@ -24,7 +24,7 @@ use Rattle.signed_digits.proofs.Runs.{run-zeros, run-left, odd-digit, odd-zeros
 use Rattle.signed_digits.proofs.Width.{low-odd, form-length}
 use Rattle.digit_strings.specs.Places.{placeByte}
 use Rattle.wide_digits.specs.Form.{Blank, turned, FormIn}
-use Rattle.wide_digits.specs.Internal.{loadBits, leftAt, nearest}
+use Rattle.wide_digits.specs.Internal.{loadBits, blankPlaces, leftAt, nearest}
 use Rattle.wide_digits.proofs.Load.{Trailing, trailing}
 
 -- ---- the bits of a load
@@ -58,7 +58,7 @@ carried n c g small few z = go (decLt (n % p + c) p)
         omega (arith, split n g, ap (λ (x : ℕ). p * x) one)
 
 -- What stands above the t trailing zeros of a load, o, and of what is left, m, differ by a multiple of 2 ^ 8.
-above-zeros : (n c t w : ℕ) → c ≤ 1 → w ≤ 8 → Trailing (loadBits - 8) (n % 2 ^ loadBits + c) t
+above-zeros : (n c t w : ℕ) → c ≤ 1 → w ≤ 8 → Trailing blankPlaces (n % 2 ^ loadBits + c) t
     → (n + c ≡ 2 ^ t * (n / 2 ^ t + c)) × ((n / 2 ^ t + c) % 2 ^ w ≡ (n % 2 ^ loadBits + c) / 2 ^ t % 2 ^ w) × ((n / 2 ^ t + c) % 2 ≡ 1)
 above-zeros n c t w small narrow tail = (multiple, low w narrow, rw (low 1 (omega arith)) (tail .odd))
   where
@@ -176,16 +176,16 @@ module _ (w : ℕ) (wide : 2 ≤ w) (narrow : w ≤ 8) (sign n : ℕ) where
 
     -- past the trailing zeros of a load: what is left there is odd, and the load tells its low bits
     record Found (t : ℕ) : Type 0 where
-      few : t < loadBits - 8
+      few : t < blankPlaces
       scanned : Scanned w sign n (place + t) carry top out
       odd : (n / 2 ^ (place + t) + carry) % 2 ≡ 1
       told : leftAt n place carry / 2 ^ t % 2 ^ w ≡ (n / 2 ^ (place + t) + carry) % 2 ^ w
 
-    scanned-zeros : leftAt n place carry % 2 ^ (loadBits - 8) ≢ 0 → Found (trailingZeros 64 (leftAt n place carry))
+    scanned-zeros : leftAt n place carry % 2 ^ blankPlaces ≢ 0 → Found (trailingZeros 64 (leftAt n place carry))
     unfolding leftAt
     scanned-zeros some =
         let t : ℕ = trailingZeros 64 (leftAt n place carry) in
-        let tail = trailing 64 (loadBits - 8) (leftAt n place carry) (omega arith) some in
+        let tail = trailing 64 blankPlaces (leftAt n place carry) (omega arith) some in
         let a = above-zeros (n / 2 ^ place) carry t w (inv .small) narrow tail in
         record { few = tail .few; scanned = past t (a .0); odd = rw (← shr-shr n place t) (a .2); told = rw (← shr-shr n place t) (sym (a .1)) }
 
@@ -275,14 +275,14 @@ module _ (w : ℕ) (wide : 2 ≤ w) (narrow : w ≤ 8) (sign n : ℕ) where
 
     -- The digit past the t trailing zeros of a load, by its remainder r: it has room, and is taken with the zeros above it.
     pub record Taken (place : ℕ) (out : List ℕ) (t half r : ℕ) : Type 0 where
-      pub few : t < loadBits - 8
+      pub few : t < blankPlaces
       pub odd : r % 2 ≡ 1
       pub below : r < 2 * half
       pub within : place + t ≤ bits
       pub scanned : Scanned w sign n (place + t + w) (r / half) (place + t + 1) (set out (place + t) (digitByte (turned sign (nearest half r))))
 
     pub digit-taken : (place carry top : ℕ) (out : List ℕ) → Scanned w sign n place carry top out → bits < length out
-        → (left half : ℕ) → left ≡ leftAt n place carry → left % 2 ^ (loadBits - 8) ≢ 0 → half ≡ 2 ^ (w - 1)
+        → (left half : ℕ) → left ≡ leftAt n place carry → left % 2 ^ blankPlaces ≢ 0 → half ≡ 2 ^ (w - 1)
         → Taken place out (trailingZeros 64 left) half (left / 2 ^ trailingZeros 64 left % (2 * half))
     digit-taken place carry top out inv room left half load some e = rw load (at (scanned-zeros place carry top out inv (rw load at some)))
       where

@@ -6,16 +6,11 @@ use lib.Count.{trailingZeros}
 use lib.ListN.{length}
 use Rattle.integers.specs.Positional.{bytesValue}
 use Rattle.digit_strings.proofs.Digits.{bound-fits}
-use Rattle.wide_digits.specs.Internal.{loadBits}
+use Rattle.wide_digits.specs.Internal.{loadBits, blankPlaces}
 use Rattle.wide_digits.proofs.Scan.{Scanned, Taken, scanned-none, scanned-blank, digit-taken, scanned-all}
 use borrow.Author.Needs.{needs}
 use Rattle.wide_digits.proofs.write.Statement.{statement}
 use Rattle.wide_digits.proofs.write.Tie as tie
-use Rattle.wide_digits.proofs.write.Reads as reads
-use Rattle.wide_digits.proofs.write.Lts as lts
-use Rattle.integers.proofs.power_of_two.Reads as power-of-two-reads
-use Rattle.wide_digits.proofs.digit_byte.Reads as digit-byte-reads
-use Rattle.wide_digits.proofs.left_at.Reads as left-at-reads
 
 abbrev Inv-loop : tie.InvT-loop
 Inv-loop bytes bits width sign out₀ half place₀ carry₀ length₀ out place carry top =
@@ -70,7 +65,7 @@ loop-again : tie.Need-loop-again Inv-loop μ-loop
 loop-again c =
     let start = c .before .before .before .before .before .before .before in
     let loop = c .before .before .before .loop in
-    (search needs, search needs, search needs, scanned-blank (start .args .width) (start .pre .0 .0) (start .pre .0 .1) (start .args .sign) (bytesValue (start .args .bytes .now)) (loop .place) (loop .carry) (loop .length) (loop .out) (loop .inv .3) (loadBits - 8) (omega arith) (rw (c .before .left-at .ensures) at (c .if1 .taken)))
+    (search needs, search needs, search needs, scanned-blank (start .args .width) (start .pre .0 .0) (start .pre .0 .1) (start .args .sign) (bytesValue (start .args .bytes .now)) (loop .place) (loop .carry) (loop .length) (loop .out) (loop .inv .3) blankPlaces (omega arith) (rw (c .before .left-at .ensures) at (c .if1 .taken)))
 
 cast-zeros : tie.Need-cast-zeros Inv-loop μ-loop
 cast-zeros c = omega (arith, taken c .few)

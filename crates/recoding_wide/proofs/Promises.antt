@@ -7,7 +7,7 @@ use lib.IntN.{ℤ, pos}
 use lib.ListN.{length, drop}
 use Rattle.rules.specs.Limits.{numberBytes, leastWidth}
 use Rattle.rules.specs.declared.Refusal.{Refusal}
-use Rattle.rules.specs.declared.Refusal.the-variants.{NumberTooLong, HighestByteIsZero, MethodOrWidth}
+use Rattle.rules.specs.declared.Refusal.the-variants.{MethodOrWidth}
 use Rattle.rules.specs.declared.Verdict.{Verdict}
 use Rattle.rules.specs.declared.Verdict.the-variants.{Passed, Failed}
 use Rattle.rules.specs.Outcome.{Outcome, refused, answered, refusal, writtenOutcome, lengthValue, andThen}
@@ -44,20 +44,28 @@ module _ (w : ℕ) (number : List ℕ) where
     no-width : Admitted number → (AllowedWidth w → ⊥) → RecodeTest (Failed MethodOrWidth)
     taken : Taken w number → RecodeTest Passed
 
+  recode-only : {v : Verdict} → RecodeTest v → recodeWideVerdict w number ≡ v
+  recode-only (no-number t) = rw (number-only number t)
+  recode-only (no-width a n) = rw (admitted-is number .1 a) (not-allowed-is w .1 n)
+  recode-only (taken t) = rw (admitted-is number .1 (t .short)) (allowed-is w .1 (t .width))
+
   recode-test : RecodeTest (recodeWideVerdict w number)
   recode-test = go (number-test number)
     where
-      by-width : Admitted number → {v : Verdict} → WidthTest w v → RecodeTest v
-      by-width a (not-allowed n) = no-width a n
-      by-width a (allowed b) = taken (record { short = a; width = b })
+      be : {v : Verdict} → RecodeTest v → RecodeTest (recodeWideVerdict w number)
+      be t = rw (recode-only t) t
 
-      go : {v : Verdict} → NumberTest number v → RecodeTest (andThen v (widthVerdict w))
-      go (too-long h) = no-number (too-long h)
-      go (padded h p) = no-number (padded h p)
+      by-width : Admitted number → {v : Verdict} → WidthTest w v → RecodeTest (recodeWideVerdict w number)
+      by-width a (not-allowed n) = be (no-width a n)
+      by-width a (allowed b) = be (taken (record { short = a; width = b }))
+
+      go : {v : Verdict} → NumberTest number v → RecodeTest (recodeWideVerdict w number)
+      go (too-long h) = be (no-number (too-long h))
+      go (padded h p) = be (no-number (padded h p))
       go (admitted a) = by-width a (width-test w)
 
   taken-is : recodeWideVerdict w number ≡ Passed ↔ Taken w number
-  taken-is = (λ e. elim (rw e at recode-test) [ taken t ↦ t ], λ t. rw (admitted-is number .1 (t .short)) (allowed-is w .1 (t .width)))
+  taken-is = (λ e. elim (rw e at recode-test) [ taken t ↦ t ], λ t. recode-only (taken t))
 
 module _ (w : ℕ) (number : List ℕ) (room : ℕ) where
   -- the outcome, in the rules' numbers
@@ -76,11 +84,11 @@ module _ (w : ℕ) (number : List ℕ) (room : ℕ) where
   only = writes-only lengthValue (recodeWideVerdict w number) (recodingOf w number) room
 
   given-only : {o : Outcome} → Given o → outcome ≡ o
-  given-only (one h) = only (stopped {r = NumberTooLong} (rw (number-only number (too-long h))))
-  given-only (thirteen h p) = only (stopped {r = HighestByteIsZero} (rw (number-only number (padded h p))))
-  given-only (three a n) = only (stopped {r = MethodOrWidth} (rw (admitted-is number .1 a) (not-allowed-is w .1 n)))
-  given-only (six t h e) = rw e (only (no-room (taken-is w number .1 t) h))
-  given-only (fits t h e) = rw e (only (all-fits (taken-is w number .1 t) h))
+  given-only (one h) = only (stopped (recode-only w number (no-number (too-long h))))
+  given-only (thirteen h p) = only (stopped (recode-only w number (no-number (padded h p))))
+  given-only (three a n) = only (stopped (recode-only w number (no-width a n)))
+  given-only (six t h e) = rw e (only (no-room (recode-only w number (taken t)) h))
+  given-only (fits t h e) = rw e (only (all-fits (recode-only w number (taken t)) h))
 
   stops : {r : Refusal} → RecodeTest w number (Failed r) → Given (refusal r)
   stops (no-number (too-long h)) = one h

@@ -17,8 +17,6 @@ use Rattle.wide_digits.proofs.Form.{form-bytes}
 use borrow.Author.Needs.{needs}
 use Rattle.recoding_wide.proofs.recode_wide.Statement.{statement}
 use Rattle.recoding_wide.proofs.recode_wide.Tie as tie
-use Rattle.recoding_wide.proofs.recode_wide.Reads as reads
-use Rattle.recoding_wide.proofs.recode_wide.Lts as lts
 
 -- past refusals 1 and 13
 number-passed : (c : tie.After-enum-told) → numberVerdict (c .before .before .before .before .before .args .number .now) ≡ Passed

@@ -8,6 +8,7 @@ mod check;
 mod digits;
 pub mod generate;
 pub mod limits;
+mod modified;
 mod naf;
 mod number;
 mod plan;
@@ -18,6 +19,7 @@ mod words;
 
 pub use check::check;
 pub use digits::read_back;
+pub use modified::recode_modified;
 pub use naf::{clean, recode, Recoder};
 pub use plan::{forecast, plan};
 pub use refusal::Refusal;

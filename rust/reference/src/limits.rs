@@ -14,14 +14,14 @@ pub const RECORD_BYTES: usize = 50;
 pub const STEP_BYTES: usize = 5;
 /// "Record i of the space is .. a sign byte (0, or 1 below zero), then .. bytes of size."
 pub const VALUE_BYTES: usize = RECORD_BYTES - 1;
-/// "Width is 0 for methods 1 and 4, and 1 to 6 for methods 2 and 3."
+/// "Width is 0 for methods 1 and 4, and 1 to 6 for methods 2 and 3." T-07: "method 6, width 0".
 pub const WINDOW_WIDTHS: RangeInclusive<u32> = 1..=6;
 /// T-01: "the width-w NAF for w from 2 to 8".
 pub const NAF_WIDTHS: RangeInclusive<u32> = 2..=8;
 
 pub const NUMBER_BITS: usize = 8 * NUMBER_BYTES;
 
-/// Room for every answer of `recode` and `recode_wide`, and of `clean`, `read_back` and `plan`.
+/// Room for every answer of `recode`, `recode_wide` and `recode_modified`, and of `clean`, `read_back` and `plan`.
 pub const RECODE_ROOM: usize = NUMBER_BITS + 1;
 pub const CLEAN_ROOM: usize = STRING_DIGITS + 1;
 pub const READ_BACK_ROOM: usize = (STRING_DIGITS + 7) / 8;

@@ -1,6 +1,7 @@
-//! Planning by the five methods, and the forecast of a plan's counts.
+//! Planning by the six methods, and the forecast of a plan's counts.
 
 use crate::limits::{NAF_WIDTHS, RECODE_WORDS, STEP_BYTES, WINDOW_WIDTHS};
+use crate::modified::ModifiedNaf;
 use crate::naf::Naf;
 use crate::number::Number;
 use crate::refusal::METHOD_OR_WIDTH;
@@ -17,6 +18,7 @@ enum Method {
     SlidingWindows(usize),
     Naf,
     WideNaf(u32),
+    ModifiedNaf,
 }
 
 impl Method {
@@ -28,6 +30,7 @@ impl Method {
             3 if WINDOW_WIDTHS.contains(&width) => Ok(Method::SlidingWindows(width as usize)),
             4 if width == 0 => Ok(Method::Naf),
             5 if NAF_WIDTHS.contains(&width) => Ok(Method::WideNaf(width)),
+            6 if width == 0 => Ok(Method::ModifiedNaf),
             _ => Err(Refusal::new(METHOD_OR_WIDTH, 0)),
         }
     }
@@ -47,6 +50,7 @@ pub fn plan(number: &[u8], method: u32, width: u32, out: &mut [u8]) -> Result<Co
         Method::SlidingWindows(width) => sliding_windows(&number, width, &mut chain),
         Method::Naf => non_adjacent_form(&number, &mut chain),
         Method::WideNaf(width) => wide_non_adjacent_form(&number, width, &mut chain),
+        Method::ModifiedNaf => modified_non_adjacent_form(&number, &mut chain),
     }
     debug_assert_eq!(chain.filled, counts.total());
     Ok(counts)
@@ -107,6 +111,7 @@ fn count(number: &Number, method: Method) -> Counts {
         Method::SlidingWindows(width) => count_sliding_windows(number, width),
         Method::Naf => count_non_adjacent_form(number),
         Method::WideNaf(width) => count_wide_non_adjacent_form(number, width),
+        Method::ModifiedNaf => count_modified_non_adjacent_form(number),
     }
 }
 
@@ -348,4 +353,31 @@ fn count_wide_non_adjacent_form(number: &Number, width: u32) -> Counts {
         counts.subtractions += below.iter().filter(|&&digit| digit < 0).count();
     }
     counts
+}
+
+// Method 6: method 4's rule on the modified form.
+
+fn modified_non_adjacent_form(number: &Number, chain: &mut Chain) {
+    let form = ModifiedNaf::of(number);
+    for &digit in form.digits().iter().rev().skip(1) {
+        chain.double();
+        match digit {
+            1 => chain.add(0),
+            -1 => chain.subtract(0),
+            _ => {}
+        }
+    }
+}
+
+fn count_modified_non_adjacent_form(number: &Number) -> Counts {
+    let form = ModifiedNaf::of(number);
+    let below = match form.digits() {
+        [below @ .., _] => below,
+        [] => return Counts::NONE,
+    };
+    Counts {
+        doublings: below.len(),
+        additions: below.iter().filter(|&&digit| digit == 1).count(),
+        subtractions: below.iter().filter(|&&digit| digit == -1).count(),
+    }
 }

@@ -21,6 +21,13 @@ fn recoded(number: &[u8]) -> Vec<u8> {
     out[..length].to_vec()
 }
 
+fn recoded_modified(number: &[u8]) -> Vec<u8> {
+    let mut out = [7; RECODE_ROOM + 40];
+    let length = recode_modified(number, &mut out).unwrap();
+    assert!(out[length..].iter().all(|&byte| byte == 7));
+    out[..length].to_vec()
+}
+
 fn cleaned(digits: &[u8]) -> Vec<u8> {
     let mut out = [7; CLEAN_ROOM + 40];
     let length = clean(digits, &mut out).unwrap();
@@ -122,10 +129,59 @@ fn recoding() {
     }
 }
 
+/// Leading digits 1 0 -1 become 1 1, and no others: not 1 0 0 -1, nor 1 0 1, nor 1 0 -1 further down.
 #[test]
-fn bosma_example() {
-    let digits = bytes(&[1, 0, -1, 0, 0, 1, 0, 0, 0, -1, 0, -1, 0]);
-    assert_eq!(recoded(&3190u16.to_le_bytes()), digits);
+fn modified_recoding() {
+    let table: [(u8, &[i8]); 16] = [
+        (0, &[]),
+        (1, &[1]),
+        (2, &[1, 0]),
+        (3, &[1, 1]),
+        (5, &[1, 0, 1]),
+        (6, &[1, 1, 0]),
+        (7, &[1, 0, 0, -1]),
+        (11, &[1, 1, 0, -1]),
+        (12, &[1, 1, 0, 0]),
+        (13, &[1, 1, 0, 1]),
+        (25, &[1, 1, 0, 0, 1]),
+        (27, &[1, 0, 0, -1, 0, -1]),
+        (43, &[1, 1, 0, -1, 0, -1]),
+        (67, &[1, 0, 0, 0, 1, 0, -1]),
+        (107, &[1, 0, 0, -1, 0, -1, 0, -1]),
+        (255, &[1, 0, 0, 0, 0, 0, 0, 0, -1]),
+    ];
+    for (number, digits) in table {
+        let number = &[number][usize::from(number == 0)..];
+        assert_eq!(recoded_modified(number), bytes(digits), "{:?}", number);
+        // The plain form is what clean makes of it, and reading it back gives the number.
+        assert_eq!(cleaned(&bytes(digits)), recoded(number));
+        let mut size = [7; 2];
+        assert_eq!(read_back(&bytes(digits), &mut size), Ok((0, number.len())));
+        assert_eq!(size[..number.len()], *number);
+    }
+}
+
+/// 3 * 2^k leads with 1 1, 2^k - 1 with 1 0 0 from k = 3 on, and the form of the longest number has a digit more than
+/// it has bits.
+#[test]
+fn modified_forms_of_every_length() {
+    for k in 0..NUMBER_BITS - 1 {
+        let mut number = vec![0; (k + 2 + 7) / 8];
+        for place in [k, k + 1] {
+            number[place / 8] |= 1 << (place % 8);
+        }
+        let digits = [vec![0; k], vec![1, 1]].concat();
+        assert_eq!(recoded_modified(&number), digits);
+    }
+    for k in 3..=NUMBER_BITS {
+        let digits = recoded_modified(&ones(k));
+        assert_eq!(digits, [vec![0xFF], vec![0; k - 1], vec![1]].concat());
+        assert_eq!(digits, recoded(&ones(k)));
+    }
+    let mut out = [7; NUMBER_BITS];
+    let small = refusal(ROOM_TOO_SMALL, RECODE_ROOM);
+    assert_eq!(recode_modified(&[0xFF; NUMBER_BYTES], &mut out), Err(small));
+    assert_eq!(out, [7; NUMBER_BITS]);
 }
 
 /// The numbers that are recoded by hand, for all widths; from width 7 on 43 is a digit.
@@ -292,7 +348,7 @@ fn cleaning() {
 
 #[test]
 fn plans_for_43() {
-    for (method, width, steps) in [(1, 0, 8), (2, 2, 8), (3, 3, 8), (4, 0, 9)] {
+    for (method, width, steps) in [(1, 0, 8), (2, 2, 8), (3, 3, 8), (4, 0, 9), (6, 0, 8)] {
         assert_eq!(planned(&[43], method, width).len(), STEP_BYTES * steps);
     }
     assert_eq!(
@@ -301,20 +357,56 @@ fn plans_for_43() {
     );
 }
 
+/// Method 4's rule on 1 1 0 -1 0 -1; the plans of numbers whose two forms are the same; the first few numbers.
+#[test]
+fn plans_by_modified_naf() {
+    let (add, subtract) = (|j, k| step(0, j, k), |j, k| step(1, j, k));
+    let steps = [
+        add(0, 0),
+        add(1, 0),
+        add(2, 2),
+        add(3, 3),
+        subtract(4, 0),
+        add(5, 5),
+        add(6, 6),
+        subtract(7, 0),
+    ];
+    assert_eq!(planned(&[43], 6, 0), steps.concat());
+    assert_eq!(values(&[43], &steps.concat()), [1, 2, 3, 6, 12, 11, 22, 44, 43]);
+    assert_eq!(forecast(&[43], 6, 0), Ok(counts(5, 1, 2)));
+    assert_eq!(planned(&[1], 6, 0), Vec::<u8>::new());
+    assert_eq!(planned(&[2], 6, 0), add(0, 0));
+    assert_eq!(planned(&[3], 6, 0), [add(0, 0), add(1, 0)].concat());
+    assert_eq!(planned(&[6], 6, 0), [add(0, 0), add(1, 0), add(2, 2)].concat());
+    for number in [5, 7, 15, 27, 67, 255] {
+        assert_eq!(planned(&[number], 6, 0), planned(&[number], 4, 0));
+    }
+    assert_eq!(values(&[25], &planned(&[25], 6, 0)), [1, 2, 3, 6, 12, 24, 25]);
+}
+
 #[test]
 fn plan_for_3() {
     assert_eq!(planned(&[3], 1, 0), [0, 0, 0, 0, 0, 0, 1, 0, 0, 0]);
 }
 
+/// 2^k - 1.
+fn ones(k: usize) -> Vec<u8> {
+    let mut number = vec![0; (k + 7) / 8];
+    for place in 0..k {
+        number[place / 8] |= 1 << (place % 8);
+    }
+    number
+}
+
 #[test]
 fn one_below_a_power_of_two() {
     for k in 2..=NUMBER_BITS {
-        let mut number = vec![0; (k + 7) / 8];
-        for place in 0..k {
-            number[place / 8] |= 1 << (place % 8);
-        }
+        let number = ones(k);
         assert_eq!(planned(&number, 1, 0).len(), STEP_BYTES * (2 * k - 2));
         assert_eq!(planned(&number, 4, 0).len(), STEP_BYTES * (k + 1));
+        // 3 is 1 1, of two digits.
+        let steps = if k == 2 { 2 } else { k + 1 };
+        assert_eq!(planned(&number, 6, 0).len(), STEP_BYTES * steps);
     }
 }
 
@@ -335,6 +427,7 @@ fn number_too_long() {
     padded[NUMBER_BYTES] = 0;
     for number in [[0; NUMBER_BYTES + 1], [0xFF; NUMBER_BYTES + 1], padded] {
         assert_eq!(recode(&number, &mut []), Err(refusal(NUMBER_TOO_LONG, 0)));
+        assert_eq!(recode_modified(&number, &mut []), Err(refusal(NUMBER_TOO_LONG, 0)));
         assert_eq!(plan(&number, 9, 9, &mut []), Err(refusal(NUMBER_TOO_LONG, 0)));
         assert_eq!(forecast(&number, 9, 9), Err(refusal(NUMBER_TOO_LONG, 0)));
         assert_eq!(check(&number, &[1], &mut []), Err(refusal(NUMBER_TOO_LONG, 0)));
@@ -364,7 +457,8 @@ fn highest_byte_is_zero() {
         for room in [0, 1000] {
             let mut out = vec![7; room];
             assert_eq!(recode(number, &mut out), Err(refused));
-            for (method, width) in [(1, 0), (4, 0), (9, 9)] {
+            assert_eq!(recode_modified(number, &mut out), Err(refused));
+            for (method, width) in [(1, 0), (4, 0), (6, 0), (9, 9)] {
                 assert_eq!(plan(number, method, width, &mut out), Err(refused));
                 assert_eq!(forecast(number, method, width), Err(refused));
             }
@@ -814,10 +908,10 @@ fn plans_by_wide_naf() {
 
 #[test]
 fn methods_and_widths() {
-    for method in [0, 1, 2, 3, 4, 5, 6, 257, 261, u32::MAX] {
+    for method in [0, 1, 2, 3, 4, 5, 6, 7, 257, 261, 262, u32::MAX] {
         for width in (0..=NAF_WIDTHS.end() + 2).chain([256, 257, 258, u32::MAX]) {
             let allowed = match method {
-                1 | 4 => width == 0,
+                1 | 4 | 6 => width == 0,
                 2 | 3 => WINDOW_WIDTHS.contains(&width),
                 5 => NAF_WIDTHS.contains(&width),
                 _ => false,

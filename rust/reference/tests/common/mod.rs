@@ -144,6 +144,23 @@ impl Big {
         digits
     }
 
+    /// The modified non-adjacent form, lowest digit first: in the non-adjacent form as people write it, leading
+    /// digits 1 0 -1 become 1 1.
+    pub fn modified(&self) -> Vec<u8> {
+        let text: String = self
+            .canonical()
+            .iter()
+            .rev()
+            .map(|&digit| format!("{} ", digit as i8))
+            .collect();
+        let text = match text.strip_prefix("1 0 -1 ") {
+            Some(rest) => format!("1 1 {}", rest),
+            None => text,
+        };
+        let digits = text.split_whitespace().rev();
+        digits.map(|word| word.parse::<i8>().unwrap() as u8).collect()
+    }
+
     /// The width-w NAF, lowest digit first: the rest is even, or an odd digit leaves a multiple of 2^w,
     /// and then w - 1 zeros follow at once.
     pub fn naf(&self, width: u32) -> Vec<u8> {
@@ -253,6 +270,12 @@ pub fn recode(number: &[u8], out: &mut [u8]) -> Result<usize, Refusal> {
     Ok(digits.len())
 }
 
+pub fn recode_modified(number: &[u8], out: &mut [u8]) -> Result<usize, Refusal> {
+    let digits = read_number(number)?.modified();
+    put(&digits, out)?;
+    Ok(digits.len())
+}
+
 pub fn clean(digits: &[u8], out: &mut [u8]) -> Result<usize, Refusal> {
     let digits = read_digits(digits)?.canonical();
     put(&digits, out)?;
@@ -315,7 +338,7 @@ fn bits_value(bits: &[bool]) -> usize {
 /// The steps of a plan, straight from the words of docs/RULES.md, "Methods".
 fn steps_of(e: &Big, method: u32, width: u32) -> Result<Vec<Step>, Refusal> {
     let allowed = match method {
-        1 | 4 => width == 0,
+        1 | 4 | 6 => width == 0,
         2 | 3 => WINDOW_WIDTHS.contains(&width),
         5 => read_width(width).is_ok(),
         _ => false,
@@ -399,8 +422,12 @@ fn steps_of(e: &Big, method: u32, width: u32) -> Result<Vec<Step>, Refusal> {
                 at += length;
             }
         }
-        4 => {
-            for &digit in e.canonical().iter().rev().skip(1) {
+        4 | 6 => {
+            let digits = match method {
+                4 => e.canonical(),
+                _ => e.modified(),
+            };
+            for &digit in digits.iter().rev().skip(1) {
                 steps.push((0, steps.len(), steps.len()));
                 match digit {
                     1 => steps.push((0, steps.len(), 0)),

@@ -4,7 +4,9 @@
 use crate::limits::*;
 use crate::refusal::WRONG_END;
 use crate::wide::is_digit;
-use crate::{check, clean, clean_wide, forecast, plan, read_back, read_back_wide, recode, recode_wide};
+use crate::{
+    check, clean, clean_wide, forecast, plan, read_back, read_back_wide, recode, recode_modified, recode_wide,
+};
 
 /// SplitMix64.
 #[derive(Clone, Debug)]
@@ -53,7 +55,7 @@ impl Rng {
     }
 }
 
-/// Input for `recode`; `room` is the length of the output buffer.
+/// Input for `recode` and `recode_modified`; `room` is the length of the output buffer.
 #[derive(Clone, PartialEq, Eq, Debug)]
 pub struct RecodeCase {
     pub number: Vec<u8>,
@@ -123,6 +125,7 @@ pub fn methods() -> Vec<(u32, u32)> {
     methods.extend(windows(3));
     methods.push((4, 0));
     methods.extend(NAF_WIDTHS.map(|width| (5, width)));
+    methods.push((6, 0));
     methods
 }
 
@@ -166,6 +169,13 @@ impl Generator {
     pub fn recode_case(&mut self) -> RecodeCase {
         let number = self.number();
         let needed = recode(trimmed(&number), &mut [0; RECODE_ROOM]).unwrap_or(RECODE_ROOM);
+        let room = self.room(needed);
+        RecodeCase { number, room }
+    }
+
+    pub fn recode_modified_case(&mut self) -> RecodeCase {
+        let number = self.number();
+        let needed = recode_modified(trimmed(&number), &mut [0; RECODE_ROOM]).unwrap_or(RECODE_ROOM);
         let room = self.room(needed);
         RecodeCase { number, room }
     }
@@ -318,7 +328,7 @@ impl Generator {
 
     /// A number within the limit that is not zero; nor is its highest byte.
     fn nonzero_number(&mut self) -> Vec<u8> {
-        let number = match self.rng.below(14) {
+        let number = match self.rng.below(15) {
             0 | 1 => {
                 let length = self.rng.between(1, NUMBER_BYTES);
                 self.rng.bytes(length)
@@ -354,6 +364,10 @@ impl Generator {
                 value.to_le_bytes().to_vec()
             }
             12 => self.sparse(),
+            13 => {
+                let all = modified_corners(self.rng.between(1, NUMBER_BITS));
+                all[self.rng.below(all.len())].clone()
+            }
             _ => {
                 // Around a border between two words or bytes.
                 let border = 64 * self.rng.between(1, NUMBER_BITS / 64 - 1);
@@ -402,7 +416,7 @@ impl Generator {
         if !self.rng.one_in(6) {
             return self.rng.pick(&methods());
         }
-        const METHOD: [u32; 13] = [0, 1, 2, 3, 4, 5, 6, 256, 257, 258, 261, 1 << 31, u32::MAX];
+        const METHOD: [u32; 15] = [0, 1, 2, 3, 4, 5, 6, 7, 256, 257, 258, 261, 262, 1 << 31, u32::MAX];
         const WIDTH: [u32; 16] = [
             0,
             1,
@@ -424,7 +438,7 @@ impl Generator {
         let widest = *WINDOW_WIDTHS.end() as usize;
         match self.rng.below(5) {
             0 => (self.rng.pick(&METHOD), self.rng.pick(&WIDTH)),
-            1 => (self.rng.pick(&[1, 4]), self.rng.between(1, widest + 1) as u32),
+            1 => (self.rng.pick(&[1, 4, 6]), self.rng.between(1, widest + 1) as u32),
             2 => (self.rng.pick(&[2, 3]), self.rng.pick(&[0, widest as u32 + 1])),
             3 => (5, self.rng.pick(&NO_NAF_WIDTHS)),
             _ => (self.rng.pick(&METHOD), self.rng.below(widest + 2) as u32),
@@ -1260,6 +1274,38 @@ pub fn corners(bytes: usize) -> Vec<Vec<u8>> {
         of(0x01, 0x00, 0),
         of(0x01, 0xFF, 0),
     ]
+}
+
+/// Numbers of this many bits around the borders of the modified form. If the top bit is 2^k, the non-adjacent form
+/// leads with 1 0 -1 from 4/3 to 5/3 of 2^k, and with 1 0 0 above these. So 1, 4/3, 3/2, 5/3 and 2 times 2^k, rounded
+/// down, with two neighbours on each side; or all numbers, where there are few.
+pub fn modified_corners(bits: usize) -> Vec<Vec<u8>> {
+    if bits <= 5 {
+        return (1 << (bits - 1)..1 << bits).map(|number| vec![number]).collect();
+    }
+    let around = |sixths: u32| (-2..=2).map(move |by| sixths_of(sixths, bits - 1, by));
+    let mut all: Vec<Vec<u8>> = [6, 8, 9, 10, 12].into_iter().flat_map(around).collect();
+    all.retain(|number| bit_length(number) == bits);
+    all
+}
+
+/// So many sixths of 2^place, rounded down, and moved by a little.
+fn sixths_of(sixths: u32, place: usize, by: i32) -> Vec<u8> {
+    let mut number = vec![0; place / 8];
+    number.extend((sixths << (place % 8)).to_le_bytes());
+    let mut remainder = 0;
+    for byte in number.iter_mut().rev() {
+        let part = 256 * remainder + u32::from(*byte);
+        *byte = (part / 6) as u8;
+        remainder = part % 6;
+    }
+    let mut carry = by;
+    for byte in &mut number {
+        let sum = i32::from(*byte) + carry;
+        *byte = sum.rem_euclid(256) as u8;
+        carry = sum.div_euclid(256);
+    }
+    trimmed(&number).to_vec()
 }
 
 /// Every number of at most this many words, each of them 0, all ones, every second bit from the lowest or

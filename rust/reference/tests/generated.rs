@@ -5,8 +5,8 @@
 mod common;
 
 use reference::generate::{
-    bit_length, bits_by_sign, corners, hidden_doublings, largest_of, methods, mixed_words, one_bit_apart, trimmed,
-    Generator,
+    bit_length, bits_by_sign, corners, hidden_doublings, largest_of, methods, mixed_words, modified_corners,
+    one_bit_apart, trimmed, Generator,
 };
 use reference::limits::*;
 use reference::refusal::{HIGHEST_BYTE_IS_ZERO, LAST, STRING_TOO_LONG, WRONG_END};
@@ -94,6 +94,70 @@ fn recode_cases() {
     }
     tally.assert_all(&[0, 1, 6, 13]);
     tally.assert_without(&[6]);
+}
+
+#[test]
+fn recode_modified_cases() {
+    let mut generator = Generator::new(21);
+    let mut tally = Tally::new("modified");
+    // Forms that lead with 1 1, that are the non-adjacent form, and those of one digit more than there are bits.
+    let mut seen = [0; 3];
+    for _ in 0..CASES {
+        let case = generator.recode_modified_case();
+        let mut expected_out = generator.rng().bytes(case.room);
+        let mut out = expected_out.clone();
+        let result = recode_modified(&case.number, &mut out);
+        let expected = common::recode_modified(&case.number, &mut expected_out);
+        assert_eq!((&result, &out), (&expected, &expected_out), "{:?}", case);
+        tally.note_number(&result, &case.number, |number| {
+            recode_modified(number, &mut vec![0; case.room])
+        });
+        if let Ok(length) = result {
+            seen[usize::from(!out[..length].ends_with(&[1, 1]))] += 1;
+            seen[2] += usize::from(length > bit_length(&case.number));
+        }
+    }
+    tally.assert_all(&[0, 1, 6, 13]);
+    tally.assert_without(&[6]);
+    assert!(seen.iter().all(|&times| times > 1000), "{:?}", seen);
+}
+
+/// The corners of the modified form are numbers of just so many bits, and for each such length the non-adjacent form
+/// leads with 1 0 -1, with 1 0 0 -1, with 1 0 1 and with zeros alone. Clean makes the non-adjacent form of the modified
+/// one, and reading that back gives the number.
+#[test]
+fn modified_corners_of_every_length() {
+    for bits in 1..=NUMBER_BITS {
+        let mut leads = Vec::new();
+        for number in modified_corners(bits) {
+            assert_eq!((bit_length(&number), trimmed(&number)), (bits, &number[..]));
+            let (mut out, mut expected_out) = ([7; RECODE_ROOM], [7; RECODE_ROOM]);
+            let expected = common::recode_modified(&number, &mut expected_out);
+            let length = recode_modified(&number, &mut out).unwrap();
+            assert_eq!((Ok(length), &out), (expected, &expected_out), "{:x?}", number);
+
+            let (mut naf, mut cleaned) = ([7; RECODE_ROOM], [7; RECODE_ROOM]);
+            let digits = recode(&number, &mut naf).unwrap();
+            assert_eq!(clean(&out[..length], &mut cleaned), Ok(digits), "{:x?}", number);
+            assert_eq!(cleaned, naf, "{:x?}", number);
+            let mut size = [7; NUMBER_BYTES];
+            assert_eq!(read_back(&out[..length], &mut size), Ok((0, number.len())));
+            assert_eq!(size[..number.len()], number[..]);
+            leads.push(naf[digits.saturating_sub(4)..digits].to_vec());
+        }
+        if bits > 5 {
+            for lead in [[0xFF, 0, 1].as_slice(), &[0xFF, 0, 0, 1], &[1, 0, 1], &[0, 0, 0, 1]] {
+                assert!(
+                    leads.iter().any(|digits| digits.ends_with(lead)),
+                    "{} bits: {:?}",
+                    bits,
+                    lead
+                );
+            }
+        }
+    }
+    assert_eq!(modified_corners(1), [[1]]);
+    assert_eq!(modified_corners(5).len(), 16);
 }
 
 /// The corners and the mixes are numbers that are taken, and none of the mixes comes twice. Three times a
@@ -552,8 +616,9 @@ fn kinds_of_padding() {
         }),
     ];
     type Next = fn(&mut Generator) -> Vec<u8>;
-    let calls: [(&str, Next); 6] = [
+    let calls: [(&str, Next); 7] = [
         ("recode", |generator| generator.recode_case().number),
+        ("recode modified", |generator| generator.recode_modified_case().number),
         ("recode wide", |generator| generator.recode_wide_case().number),
         ("take", |generator| generator.take_case().number),
         ("plan", |generator| generator.plan_case().number),
@@ -575,6 +640,7 @@ fn same_seed_same_cases() {
     let (mut a, mut b) = (Generator::new(8), Generator::new(8));
     for _ in 0..100 {
         assert_eq!(a.recode_case(), b.recode_case());
+        assert_eq!(a.recode_modified_case(), b.recode_modified_case());
         assert_eq!(a.clean_case(), b.clean_case());
         assert_eq!(a.recode_wide_case(), b.recode_wide_case());
         assert_eq!(a.clean_wide_case(), b.clean_wide_case());

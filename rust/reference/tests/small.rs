@@ -1,7 +1,6 @@
-//! Small numbers against plain integers and brute force, and the totals
-//! that Bosma, "Signed bits and fast exponentiation", publishes.
+//! Small numbers against plain integers and brute force.
 
-use reference::generate::{below_power_of_two, bit_length, hidden_doublings, methods, Generator};
+use reference::generate::{below_power_of_two, bit_length, hidden_doublings, methods, modified_corners, Generator};
 use reference::limits::*;
 use reference::refusal::HIGHEST_BYTE_IS_ZERO;
 use reference::*;
@@ -30,6 +29,12 @@ fn recoded_wide(number: u64, width: u32) -> Vec<i8> {
     out[..length].iter().map(|&digit| digit as i8).collect()
 }
 
+fn recoded_modified(number: u64) -> Vec<i8> {
+    let mut out = [0; 70];
+    let length = recode_modified(&spelled(number), &mut out).unwrap();
+    out[..length].iter().map(|&digit| digit as i8).collect()
+}
+
 fn value(digits: &[i8]) -> i64 {
     digits
         .iter()
@@ -50,6 +55,195 @@ fn recode_is_the_non_adjacent_form() {
         assert!(digits.windows(2).all(|pair| pair[0] == 0 || pair[1] == 0));
         assert_ne!(digits.last(), Some(&0));
     }
+}
+
+/// Whether digits, lowest first, lead with these, most significant first.
+fn leads_with(digits: &[i8], lead: &[i8]) -> bool {
+    digits.iter().rev().take(lead.len()).eq(lead)
+}
+
+/// Whether digits, lowest first, are as Corollary 3 of document 004 says, with 1 at the top: a digit other than 0 has a 0
+/// below it, or it is the top one and the one below it is 1.
+fn is_of_corollary_3(digits: &[i8]) -> bool {
+    let lower = match digits {
+        [lower @ .., 1, 1] => &digits[..lower.len() + 1],
+        [.., 1] => digits,
+        _ => return false,
+    };
+    lower.windows(2).all(|pair| pair[0] == 0 || pair[1] == 0)
+}
+
+/// All strings of this many digits whose top one is 1, lowest first.
+fn all_strings(length: u32) -> impl Iterator<Item = Vec<i8>> {
+    (0..3usize.pow(length - 1)).map(move |mut index| {
+        let mut digits = Vec::new();
+        for _ in 1..length {
+            digits.push((index % 3) as i8 - 1);
+            index /= 3;
+        }
+        digits.push(1);
+        digits
+    })
+}
+
+/// Every number below 2^12: the modified form has the value, is the NAF unless that leads with 1 0 -1, and has as many
+/// digits as the number has bits, or one more. No other string is such a form of the same value.
+///
+/// Corollary 3 says that there is one such string without excluding the lead 1 0 -1. Then the NAF that leads with it is
+/// another one: 3 is 1 1 and 1 0 -1.
+#[test]
+fn modified_forms_of_small_numbers() {
+    const BITS: u32 = 12;
+    let mut by_value: HashMap<i64, Vec<Vec<i8>>> = HashMap::new();
+    for digits in (1..=BITS + 1)
+        .flat_map(all_strings)
+        .filter(|digits| is_of_corollary_3(digits))
+    {
+        by_value.entry(value(&digits)).or_default().push(digits);
+    }
+    assert_eq!(recoded_modified(0), []);
+    let mut replaced = 0;
+    for number in 1..1u64 << BITS {
+        let (naf, form) = (recoded(number), recoded_modified(number));
+        assert_eq!(value(&form), number as i64);
+        assert!(
+            is_of_corollary_3(&form) && !leads_with(&form, &[1, 0, -1]),
+            "{}",
+            number
+        );
+        let bits = 64 - number.leading_zeros() as usize;
+        assert!(form.len() == bits || form.len() == bits + 1, "{}", number);
+
+        let mut all = by_value[&(number as i64)].clone();
+        match leads_with(&naf, &[1, 0, -1]) {
+            true => {
+                let kept = naf.len() - 3;
+                assert_eq!(
+                    (&form[..kept], &form[kept..]),
+                    (&naf[..kept], &[1, 1][..]),
+                    "{}",
+                    number
+                );
+                assert_eq!(all.len(), 2, "{}", number);
+                all.retain(|digits| !leads_with(digits, &[1, 0, -1]));
+                replaced += 1;
+            }
+            false => assert_eq!(form, naf),
+        }
+        assert_eq!(all, [form], "{}", number);
+    }
+    // One number in three, as L'_12 - L''_12 of document 004 says.
+    assert_eq!(replaced, ((1 << BITS) - 1) / 3);
+}
+
+/// For each length up to this one, and each value up to that one: the fewest nonzero digits of a signed digit string of
+/// just this length, its top digit 1, that has this value. None if there is no such string. The lowest digit leaves a
+/// string of one digit less.
+fn fewest_nonzero(longest: usize, most: usize) -> Vec<Vec<Option<usize>>> {
+    let mut fewest = vec![vec![None; most + 1]; 2];
+    fewest[1][1] = Some(1);
+    for length in 2..=longest {
+        let shorter: &Vec<Option<usize>> = &fewest[length - 1];
+        let row = (0..=most).map(|value| match value % 2 {
+            0 => shorter[value / 2],
+            _ => [value / 2, value / 2 + 1]
+                .iter()
+                .filter_map(|&rest| *shorter.get(rest)?)
+                .min()
+                .map(|nonzero| nonzero + 1),
+        });
+        let row = row.collect();
+        fewest.push(row);
+    }
+    fewest
+}
+
+/// Every number up to 2^12: no signed digit string of its value whose top digit is 1 has a smaller sum of length and
+/// nonzero digits than the modified form; those too long to be looked at have a greater length alone. The form is also
+/// optimal as document 004 defines it: of all strings with the fewest nonzero digits, none is shorter.
+#[test]
+fn modified_forms_are_optimal() {
+    const MOST: usize = 1 << 12;
+    const LONGEST: usize = 24;
+    let fewest = fewest_nonzero(LONGEST, MOST);
+    // As all strings of a few digits have it.
+    for length in 1..=9 {
+        let mut found: Vec<Option<usize>> = vec![None; 1 << length];
+        for digits in all_strings(length) {
+            let nonzero = &mut found[value(&digits) as usize];
+            *nonzero = Some(nonzero.map_or(weight(&digits), |least| least.min(weight(&digits))));
+        }
+        assert_eq!(fewest[length as usize][..found.len()], found);
+    }
+    let mut shorter = 0;
+    for number in 1..=MOST {
+        let form = recoded_modified(number as u64);
+        let strings = || {
+            fewest
+                .iter()
+                .enumerate()
+                .filter_map(|(length, all)| Some((length, all[number]?)))
+        };
+        let sum = form.len() + weight(&form);
+        assert!(sum <= LONGEST, "{}", number);
+        assert_eq!(
+            strings().map(|(length, nonzero)| length + nonzero).min(),
+            Some(sum),
+            "{}",
+            number
+        );
+        let least = strings().map(|(_, nonzero)| nonzero).min();
+        assert_eq!(least, Some(weight(&form)), "{}", number);
+        let shortest = strings().find(|&(_, nonzero)| Some(nonzero) == least);
+        assert_eq!(shortest, Some((form.len(), weight(&form))), "{}", number);
+        // Where the form is not the NAF, that has a greater sum.
+        let naf = recoded(number as u64);
+        shorter += usize::from(naf.len() + weight(&naf) > sum);
+        assert_eq!(naf.len() + weight(&naf) > sum, naf != form);
+    }
+    assert_eq!(shorter, (MOST - 1) / 3);
+}
+
+/// By method 6 a number takes no more steps than by methods 4 and 1: one fewer than by 4 exactly if its NAF leads with
+/// 1 0 -1, and as many otherwise.
+#[test]
+fn steps_by_the_modified_form() {
+    let mut generator = Generator::new(20);
+    let mut numbers: Vec<Vec<u8>> = (1..=1 << 12).map(spelled).collect();
+    numbers.extend((1..=NUMBER_BITS).flat_map(modified_corners));
+    numbers.extend((0..2000).map(|_| generator.number()));
+    let mut fewer = [0; 2];
+    for number in numbers {
+        let counts = match forecast(&number, 6, 0) {
+            Ok(counts) => counts,
+            Err(_) => continue,
+        };
+        let mut out = [0; RECODE_ROOM];
+        let length = recode(&number, &mut out).unwrap();
+        let naf: Vec<i8> = out[..length].iter().map(|&digit| digit as i8).collect();
+        let is_replaced = leads_with(&naf, &[1, 0, -1]);
+        let by_naf = forecast(&number, 4, 0).unwrap();
+        assert_eq!(
+            counts.total() + usize::from(is_replaced),
+            by_naf.total(),
+            "{:x?}",
+            number
+        );
+        assert!(
+            counts.total() <= forecast(&number, 1, 0).unwrap().total(),
+            "{:x?}",
+            number
+        );
+        // One doubling less, and the first subtraction is an addition.
+        let [more, less] = if is_replaced { [1, 1] } else { [0, 0] };
+        assert_eq!(counts.doublings + less, by_naf.doublings);
+        assert_eq!(counts.additions, by_naf.additions + more);
+        assert_eq!(counts.subtractions + less, by_naf.subtractions);
+        let length = recode_modified(&number, &mut out).unwrap();
+        assert_eq!(counts.doublings, length - 1);
+        fewer[usize::from(is_replaced)] += 1;
+    }
+    assert!(fewer[0] > 5_000 && fewer[1] > 3_000, "{:?}", fewer);
 }
 
 /// Whether digits, lowest first, are a width-w NAF: each nonzero one is odd with size below 2^(w-1), any two
@@ -310,7 +504,8 @@ fn method_five_of_width_two() {
 /// The largest size in the plan of a method has as many bits as the number, with these exceptions. By
 /// sliding windows, an even number of fewer bits than the width gets the whole table, which ends at
 /// 2^width - 1; by the wide NAF, whose table is that of one bit less, likewise. By NAF, 2^L - 1 with L of 2 or
-/// more is 2^L less 1; by the wide NAF, so is every odd number above 2^L - 2^(w-1), if L is at least the width.
+/// more is 2^L less 1; by the modified NAF likewise, with L of 3 or more; by the wide NAF, so is every odd number above
+/// 2^L - 2^(w-1), if L is at least the width.
 #[test]
 fn largest_bits_of_own_plans() {
     let mut generator = Generator::new(11);
@@ -322,8 +517,9 @@ fn largest_bits_of_own_plans() {
     for bits in (9..=NUMBER_BITS).step_by(5) {
         numbers.extend((1..=129).step_by(2).map(|small| below_power_of_two(bits, small)));
     }
+    numbers.extend((1..=NUMBER_BITS).flat_map(modified_corners));
     numbers.extend((0..500).map(|_| generator.number()));
-    let mut seen = [0; 5];
+    let mut seen = [0; 6];
     for number in numbers {
         for (method, width) in methods() {
             let mut out = [0; PLAN_ROOM];
@@ -343,6 +539,7 @@ fn largest_bits_of_own_plans() {
                 (5, width) if !is_even && bits >= width && less.map_or(false, |less| less < 1 << (width - 1)) => {
                     (4, bits + 1)
                 }
+                (6, _) if is_ones && bits > 2 => (5, bits + 1),
                 _ => (0, bits),
             };
             let steps = &out[..STEP_BYTES * counts.total()];
@@ -358,52 +555,6 @@ fn largest_bits_of_own_plans() {
     assert!(seen[2] >= NUMBER_BITS - 1, "{:?}", seen);
     assert!(seen[3] >= NAF_WIDTHS.map(|width| even(width - 1)).sum(), "{:?}", seen);
     assert!(seen[4] > 5_000, "{:?}", seen);
+    assert!(seen[5] >= NUMBER_BITS - 2, "{:?}", seen);
     println!("{:?}", seen);
-}
-
-/// Propositions 4, 5, 7 and 8 of Bosma, "Signed bits and fast exponentiation": the tables.
-#[test]
-fn published_totals() {
-    // Numbers with a non-adjacent form of n digits, and their nonzero digits.
-    let numbers = [1, 1, 3, 5, 11, 21, 43, 85, 171, 341, 683];
-    let nonzero = [1, 1, 5, 9, 25, 53, 125, 273, 609, 1325, 2885];
-    let mut numbers_found = [0; 13];
-    let mut nonzero_found = [0; 13];
-    // Digits and nonzero digits over all numbers of n bits.
-    let lengths = [1, 5, 14, 37, 90, 213, 490, 1109, 2474, 5461, 11946];
-    let weights = [1, 3, 7, 17, 39, 89, 199, 441, 967, 2105, 4551];
-    let mut lengths_found = [0; 13];
-    let mut weights_found = [0; 13];
-    for number in 1..1u64 << 12 {
-        let digits = recoded(number);
-        if digits.len() <= 12 {
-            numbers_found[digits.len()] += 1;
-            nonzero_found[digits.len()] += weight(&digits);
-        }
-        let bits = 64 - number.leading_zeros() as usize;
-        lengths_found[bits] += digits.len();
-        weights_found[bits] += weight(&digits);
-    }
-    assert_eq!(numbers_found[1..=11], numbers);
-    assert_eq!(nonzero_found[1..=11], nonzero);
-    assert_eq!(lengths_found[1..=11], lengths);
-    assert_eq!(weights_found[1..=11], weights);
-
-    // Corollary 9: steps by methods 1 and 4, summed over all numbers of n bits.
-    let binary_weights = [1, 3, 8, 20, 48, 112, 256, 576, 1280, 2816, 6144];
-    for bits in 1..=11usize {
-        let count = 1usize << (bits - 1);
-        let mut binary = 0;
-        let mut naf = 0;
-        for number in count..2 * count {
-            let bytes = spelled(number as u64);
-            let counts = forecast(&bytes, 1, 0).unwrap();
-            binary += counts.doublings + counts.additions;
-            assert_eq!(counts.subtractions, 0);
-            let counts = forecast(&bytes, 4, 0).unwrap();
-            naf += counts.doublings + counts.additions + counts.subtractions;
-        }
-        assert_eq!(binary, bits * count + binary_weights[bits - 1] - 2 * count);
-        assert_eq!(naf, lengths[bits - 1] + weights[bits - 1] - 2 * count);
-    }
 }

@@ -8,12 +8,12 @@
 //!
 //! writes the two files again.
 
-use crate::generate::{corners, largest_of, methods, power_of_two};
+use crate::generate::{corners, largest_of, methods, modified_corners, power_of_two};
 use crate::limits::*;
 use crate::refusal::{Refusal, LAST};
 use crate::{
-    check, clean, clean_wide, forecast, plan, read_back, read_back_wide, recode, recode_wide, text, Accepted, Counts,
-    Recoder,
+    check, clean, clean_wide, forecast, plan, read_back, read_back_wide, recode, recode_modified, recode_wide, text,
+    Accepted, Counts, Recoder,
 };
 
 /// What the program fills a buffer with before it lends it.
@@ -26,9 +26,9 @@ const DONE: usize = 0x100;
 const LINE_BYTES: usize = 2 * PLAN_ROOM;
 const MOST_ROOM: usize = work_space(PLAN_STEPS + 1);
 
-const CALLS: [&str; 16] = [
+const CALLS: [&str; 17] = [
     "recode", "bywords", "take", "clean", "readback", "plan", "forecast", "check", "hex", "decimal", "digits", "steps",
-    "words", "wrecode", "wclean", "wread",
+    "words", "wrecode", "wclean", "wread", "mrecode",
 ];
 
 // Answers.
@@ -57,6 +57,7 @@ fn answer(request: &str) -> String {
     let mut out = vec![FILL; room];
     match (words[0], &words[3..]) {
         ("recode" | "bywords", []) => fields(recode(&input, &mut out).map(|length| [length])) + &buffer(&out),
+        ("mrecode", []) => fields(recode_modified(&input, &mut out).map(|length| [length])) + &buffer(&out),
         ("take", []) => take(&input, room),
         ("clean", []) => fields(clean(&input, &mut out).map(|length| [length])) + &buffer(&out),
         ("readback", []) => {
@@ -172,8 +173,10 @@ pub fn requests() -> String {
     requests.strings();
     requests.wide_numbers();
     requests.wide_strings();
+    requests.modified_numbers();
     requests.plans();
     requests.wide_plans();
+    requests.modified_plans();
     requests.checks();
     requests.texts();
     requests.digit_texts();
@@ -316,6 +319,10 @@ impl Requests {
     fn recode(&mut self, room: usize, number: &[u8]) {
         self.line("recode", room, number, "");
         self.line("bywords", room, number, "");
+    }
+
+    fn recode_modified(&mut self, room: usize, number: &[u8]) {
+        self.line("mrecode", room, number, "");
     }
 
     fn take(&mut self, times: usize, number: &[u8]) {
@@ -724,9 +731,6 @@ impl Requests {
         for (number, width) in [(1, 2), (1, 8), (5, 8), (6, 4), (2, 8), (129, 8)] {
             self.planned(&small(number), 5, width);
         }
-        self.title("No method 6");
-        self.planned(&small(43), 6, 0);
-        self.planned(&small(43), 6, 4);
         self.title(LARGEST_WIDE);
         for (number, width) in [
             // Even, below the table's end and at it.
@@ -753,6 +757,70 @@ impl Requests {
             for number in 1..=12 {
                 self.forecast(&small(number), 5, width);
             }
+        }
+    }
+
+    fn modified_numbers(&mut self) {
+        self.title(MODIFIED);
+        for number in [0, 1, 2, 3, 6, 7, 15, 25, 27, 43] {
+            let mut out = [0; RECODE_ROOM];
+            let length = recode_modified(&small(number), &mut out).unwrap();
+            self.recode_modified(RECODE_ROOM, &small(number));
+            self.read(&out[..length]);
+        }
+        self.title("The published table of modified non-adjacent forms");
+        for number in 1..40 {
+            self.recode_modified(RECODE_ROOM, &small(number));
+        }
+        self.title(MODIFIED_CORNERS);
+        for bits in [8, 63, 64, 65, NUMBER_BITS] {
+            for number in modified_corners(bits) {
+                self.recode_modified(RECODE_ROOM, &number);
+            }
+        }
+        self.title("Room for just the digits, for one less, for more, for none");
+        for room in [6, 5, 40, 0] {
+            self.recode_modified(room, &small(43));
+        }
+        for room in [RECODE_ROOM, RECODE_ROOM - 1] {
+            self.recode_modified(room, &ones(NUMBER_BITS));
+        }
+        // A 1 1 and zeros: as many digits as bits.
+        let mut number = vec![0; NUMBER_BYTES];
+        number[NUMBER_BYTES - 1] = 0xC0;
+        for room in [RECODE_ROOM - 1, RECODE_ROOM - 2] {
+            self.recode_modified(room, &number);
+        }
+        self.recode_modified(0, &[]);
+        self.title("Order: 1, 13, 6");
+        for number in [padded(43, NUMBER_BYTES + 1), ones(NUMBER_BITS + 8)] {
+            self.recode_modified(RECODE_ROOM, &number);
+            self.recode_modified(0, &number);
+        }
+        for number in high_zeros() {
+            self.recode_modified(RECODE_ROOM, &number);
+            self.recode_modified(0, &number);
+        }
+    }
+
+    fn modified_plans(&mut self) {
+        self.title("Plans by modified NAF: numbers to try by hand, and one of the longest kind");
+        for number in [1, 2, 3, 6, 7, 25, 27, 43] {
+            self.planned(&small(number), 6, 0);
+        }
+        self.planned(&long(), 6, 0);
+        self.title("Modified NAF has no width, and there is no method 7");
+        for (method, width) in [(6, 1), (6, 2), (6, 8), (6, 256), (7, 0), (7, 4), (262, 0)] {
+            self.planned(&small(43), method, width);
+        }
+        self.title(LARGEST_MODIFIED);
+        for k in [2, 3, 8, 64] {
+            for number in [ones(k), less_one(ones(k)), power_of_two(k)] {
+                self.accepted(&number, 6, 0);
+            }
+        }
+        for number in [ones(NUMBER_BITS), long()] {
+            self.accepted(&number, 6, 0);
         }
     }
 
@@ -1020,13 +1088,15 @@ impl Requests {
     fn families(&mut self) {
         self.title(ONES);
         for k in 2..=NUMBER_BITS {
-            self.forecast(&ones(k), 1, 0);
-            self.forecast(&ones(k), 4, 0);
+            for method in [1, 4, 6] {
+                self.forecast(&ones(k), method, 0);
+            }
         }
         self.title(SMALL);
         for number in 1..1024 {
-            self.forecast(&small(number), 1, 0);
-            self.forecast(&small(number), 4, 0);
+            for method in [1, 4, 6] {
+                self.forecast(&small(number), method, 0);
+            }
         }
         self.title("Small numbers by windows of every width");
         for (method, width) in methods() {
@@ -1045,6 +1115,10 @@ pub const EDGES: [usize; 8] = [8, 9, 63, 64, 65, NUMBER_BITS, NUMBER_BITS + 1, V
 /// The titles of some sections.
 pub const WIDE_43: &str = "43 by every width of a NAF, then by some that are none";
 pub const LARGEST_WIDE: &str = "Largest sizes of plans by wide NAF: of the table, of 2^L, of the number";
+pub const MODIFIED: &str = "Numbers to try by hand, in the modified form; what is written, cleaned and read back";
+pub const MODIFIED_CORNERS: &str = "Around the numbers between which the modified form is not the NAF";
+pub const LARGEST_MODIFIED: &str =
+    "2^k - 1 by modified NAF, whose largest size has one bit more from k = 3 on, then 2^k - 2 and a power of two";
 pub const WHOLE_WORDS: &str =
     "Whole words: three times the number has no bit above them, one or two; carries through all of them";
 pub const NO_WHOLE_WORDS: &str = "The same for a byte more or less than whole words";
@@ -1058,5 +1132,5 @@ pub const LARGEST_BITS: &str =
     "Largest sizes around borders of bytes and words, then 2: powers of two, and minus all ones";
 pub const LARGEST_REFUSED: &str = "Refused after large values";
 pub const UNANSWERED: &str = "A call of another name, more room than there is, a line that is too long";
-pub const ONES: &str = "2^k - 1 for each k of 2 or more, by methods 1 and 4";
-pub const SMALL: &str = "1 to 1,023, by methods 1 and 4";
+pub const ONES: &str = "2^k - 1 for each k of 2 or more, by methods 1, 4 and 6";
+pub const SMALL: &str = "1 to 1,023, by methods 1, 4 and 6";

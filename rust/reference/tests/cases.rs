@@ -3,7 +3,7 @@
 //! agrees with the rules and with the tables of Bosma, "Signed bits and fast exponentiation".
 
 use reference::cases::*;
-use reference::generate::bits_by_sign;
+use reference::generate::{bit_length, bits_by_sign};
 use reference::limits::{NUMBER_BITS, NUMBER_BYTES, STEP_BYTES, VALUE_BITS};
 use reference::refusal::{HIGHEST_BYTE_IS_ZERO, LAST, MALFORMED_STEP, NUMBER_TOO_LONG, WRONG_END};
 
@@ -57,6 +57,12 @@ impl Stored {
     }
 }
 
+/// The bytes that a word has in hexadecimal.
+fn bytes_of(word: &str) -> Vec<u8> {
+    let byte = |i: usize| u8::from_str_radix(&word[i..i + 2], 16).unwrap();
+    (0..word.len()).step_by(2).map(byte).collect()
+}
+
 /// The answers below a title.
 fn section(title: &str) -> Vec<Stored> {
     let title = format!("# {}", title);
@@ -90,7 +96,9 @@ fn every_refusal_is_stored() {
 /// number is too long; the takes then answer done.
 #[test]
 fn highest_bytes_of_zero_are_stored() {
-    for call in ["recode", "bywords", "wrecode", "take", "plan", "forecast", "check"] {
+    for call in [
+        "recode", "bywords", "wrecode", "mrecode", "take", "plan", "forecast", "check",
+    ] {
         let mut seen = [0; 2];
         let padded = STDOUT
             .lines()
@@ -158,6 +166,78 @@ fn wide_nafs_are_stored() {
     assert_eq!(answers.len(), 7 + 6);
 }
 
+/// The modified forms by hand, each cleaned to what recode writes, and read back to the number; 1 to 39 as recode writes
+/// them, but for those whose NAF leads with 1 0 -1.
+#[test]
+fn modified_forms_are_stored() {
+    let written = |stored: &Stored| stored.answer[3].split_once('+').unwrap().0;
+    let forms: Vec<String> = section(MODIFIED)
+        .chunks(3)
+        .map(|stored| {
+            assert_eq!(
+                [0, 1, 2].map(|i| stored[i].request[0]),
+                ["mrecode", "clean", "readback"]
+            );
+            let form = written(&stored[0]);
+            assert_eq!(stored[1].request[2], if form.is_empty() { "-" } else { form });
+            let recoded = format!("recode 385 {}: ", stored[0].request[2]);
+            let recoded = STDOUT.lines().find_map(|line| line.strip_prefix(&recoded)).unwrap();
+            assert_eq!(
+                recoded.split(' ').nth(3).unwrap().split_once('+').unwrap().0,
+                written(&stored[1])
+            );
+            let size = stored[2].answer[4].split_once('+').unwrap().0;
+            assert_eq!(size, stored[0].request[2].trim_end_matches('-'));
+            form.to_string()
+        })
+        .collect();
+    assert_eq!(
+        forms,
+        [
+            "",
+            "01",
+            "0001",
+            "0101",
+            "000101",
+            "ff000001",
+            "ff00000001",
+            "0100000101",
+            "ff00ff000001",
+            "ff00ff000101",
+        ]
+    );
+    // Both forms of each number.
+    let (mut same, mut other) = (0, 0);
+    for number in 1..40 {
+        let form = |call: &str| {
+            let line = format!("{} 385 {:02x}: ", call, number);
+            STDOUT
+                .lines()
+                .find_map(|answer| answer.strip_prefix(&line))
+                .unwrap()
+                .to_string()
+        };
+        match form("mrecode") == form("recode") {
+            true => same += 1,
+            false => other += 1,
+        }
+    }
+    assert_eq!((same, other), (29, 10));
+    // Numbers of each bit length: those that lead with 1 1 have as many digits; of the others some have one more.
+    let mut seen = [0; 3];
+    for stored in section(MODIFIED_CORNERS) {
+        let more = stored.field(2) - bit_length(&bytes_of(stored.request[2]));
+        match written(&stored).ends_with("0101") {
+            true => {
+                assert_eq!(more, 0, "{:?}", stored.request);
+                seen[2] += 1;
+            }
+            false => seen[more] += 1,
+        }
+    }
+    assert_eq!(seen, [30, 20, 50]);
+}
+
 /// A doubling adds equal values or subtracts opposite ones, whatever its positions are (docs/RULES.md, 3.7).
 #[test]
 fn hidden_doublings_are_stored() {
@@ -204,6 +284,8 @@ fn largest_sizes_are_stored() {
     let wide = [2, 3, 7, 7, 7, 4, 4, 3, 8, 9, 11, 10];
     let (small, long) = (bits(LARGEST_WIDE)[..12].to_vec(), bits(LARGEST_WIDE)[12..].to_vec());
     assert_eq!((small, long), (wide.to_vec(), vec![NUMBER_BITS + 1, NUMBER_BITS]));
+    let modified = [2, 2, 3, 4, 3, 4, 9, 8, 9, 65, 64, 65, NUMBER_BITS + 1, NUMBER_BITS];
+    assert_eq!(bits(LARGEST_MODIFIED), modified);
     let below_zero = [8, 9, 63, 64, 65, VALUE_BITS];
     assert_eq!(bits(LARGEST_BITS), [&EDGES[..], &below_zero].concat());
     let refused: Vec<[usize; 6]> = section(LARGEST_REFUSED)
@@ -239,16 +321,12 @@ fn the_bits_of_stored_records() {
             continue;
         }
         let (records, _) = stored.answer[6].split_once('+').unwrap();
-        let bytes = |text: &str| -> Vec<u8> {
-            let byte = |i: usize| u8::from_str_radix(&text[i..i + 2], 16).unwrap();
-            (0..text.len()).step_by(2).map(byte).collect()
-        };
         let plan = match stored.request[3] {
             "-" => vec![],
-            plan => bytes(plan),
+            plan => bytes_of(plan),
         };
         assert_eq!(plan.len() % STEP_BYTES, 0);
-        let [above, below] = bits_by_sign(&plan, &bytes(records));
+        let [above, below] = bits_by_sign(&plan, &bytes_of(records));
         assert_eq!(stored.field(5), above.max(below), "{:?}", stored.request);
     }
     assert!(seen[0] > 50 && seen[1] > 50, "{:?}", seen);
@@ -290,15 +368,16 @@ fn requests_without_a_call() {
     assert_eq!(words(&section(UNANSWERED)), words(&all));
 }
 
-/// 2^k - 1 takes 2k - 2 steps by method 1 and k + 1 by method 4 (docs/RULES.md, 5.10).
+/// 2^k - 1 takes 2k - 2 steps by method 1, k + 1 by method 4 and, but for 3, as many by method 6 (docs/RULES.md, 5.10).
 #[test]
 fn one_below_a_power_of_two() {
     let stored = section(ONES);
-    assert_eq!(stored.len(), 2 * (NUMBER_BITS - 1));
-    for (k, pair) in (2..).zip(stored.chunks(2)) {
-        assert_eq!(pair[0].request[2], pair[1].request[2]);
-        assert_eq!(pair[0].forecast(), ("1", [k - 1, k - 1, 0]));
-        assert_eq!(pair[1].forecast(), ("4", [k, 0, 1]));
+    assert_eq!(stored.len(), 3 * (NUMBER_BITS - 1));
+    for (k, each) in (2..).zip(stored.chunks(3)) {
+        assert!(each.iter().all(|stored| stored.request[2] == each[0].request[2]));
+        assert_eq!(each[0].forecast(), ("1", [k - 1, k - 1, 0]));
+        assert_eq!(each[1].forecast(), ("4", [k, 0, 1]));
+        assert_eq!(each[2].forecast(), ("6", if k == 2 { [1, 1, 0] } else { [k, 0, 1] }));
     }
 }
 
@@ -308,7 +387,7 @@ fn one_below_a_power_of_two() {
 fn published_totals() {
     let stored = section(SMALL);
     let numbers = 1023;
-    assert_eq!(stored.len(), 2 * numbers);
+    assert_eq!(stored.len(), 3 * numbers);
     let sums = |method: &str| {
         let mut sums = [0; 3];
         for stored in &stored {
@@ -326,4 +405,9 @@ fn published_totals() {
     assert_eq!(doublings, 9894 - numbers);
     assert_eq!(additions + subtractions, 3868 - numbers);
     assert_eq!((additions, subtractions), (1252, 1593));
+    // A third of the numbers have a doubling less, and an addition for a subtraction.
+    let [doublings, additions, subtractions] = sums("6");
+    assert_eq!(doublings, 9553 - numbers);
+    assert_eq!(additions + subtractions, 3868 - numbers);
+    assert_eq!((additions, subtractions), (1252 + 341, 1593 - 341));
 }

@@ -1,9 +1,10 @@
 /*
  * Lesmutka: plans for multiplying a curve point by a public number, and their check.
  *
- * Recoding of a number into its non-adjacent form (NAF), of width 2 or wider, cleaning and reading
- * back of signed digit strings, planning of addition-subtraction chains by several methods, the
- * check of such a plan, and the reading of numbers, digits and steps from text.
+ * Recoding of a number into its non-adjacent form (NAF), of width 2 or wider, or its modified NAF,
+ * cleaning and reading back of signed digit strings, planning of addition-subtraction chains by
+ * several methods, the check of such a plan, and the reading of numbers, digits and steps from
+ * text.
  *
  * Every function of the library is proved: whatever bytes it is handed, it returns, it touches
  * only what it was lent, and its answer and every byte that it leaves are those of a written
@@ -77,6 +78,9 @@
  *              its byte is the digit in two's complement. The width-w NAF: any two digits other
  *              than 0 are at least w places apart, and the most significant digit is not 0. Zero
  *              is the empty string. With width 2, digits and NAF are those above.
+ *   Modified   The modified NAF is the NAF, except that leading digits 1 0 -1, most significant
+ *              first, become 1 1. Zero is the empty string. No digit string of the same value whose
+ *              most significant digit is 1 has a smaller sum of length and nonzero digits.
  *   Plan       At most LESMUTKA_PLAN_STEPS steps of LESMUTKA_STEP_BYTES bytes: an operation (0x00
  *              add, 0x01 subtract), then positions j and k, two bytes each. Position 0 holds 1.
  *              Step i, counted from 1, fills position i with a(j) + a(k) or a(j) - a(k), where j
@@ -137,9 +141,9 @@
 extern "C" {
 #endif
 
-/* The version, 10000 * major + 100 * minor + patch: this is 0.7.0. lesmutka_version answers that of
+/* The version, 10000 * major + 100 * minor + patch: this is 0.8.0. lesmutka_version answers that of
  * the library that is linked. */
-#define LESMUTKA_VERSION 700
+#define LESMUTKA_VERSION 800
 
 /* Limits. lesmutka_limits answers those of the library that is linked. */
 #define LESMUTKA_NUMBER_BYTES 48
@@ -198,7 +202,7 @@ enum {
 
 /* Methods, for a number e above zero. "Latest" is the position filled last, at first 0; the methods
  * with a table also set it once, after that. "Double" is add(latest, latest). The width d is 0 for
- * binary and NAF, 1 to LESMUTKA_FIXED_WINDOW_BITS for fixed windows and 1 to
+ * binary, NAF and modified NAF, 1 to LESMUTKA_FIXED_WINDOW_BITS for fixed windows and 1 to
  * LESMUTKA_SLIDING_WINDOW_BITS for sliding windows. The width w of wide NAF is LESMUTKA_LEAST_WIDTH
  * to LESMUTKA_LARGEST_WIDTH.
  *
@@ -223,13 +227,16 @@ enum {
  *                     position of the top digit of the width-w NAF. From the digit below it down:
  *                     double; for a digit v above 0 add(latest, the position of v); for one below
  *                     0 subtract(latest, the position of its size).
+ *   Modified NAF      As NAF, by the digits of the modified NAF. Where these are not the NAF, it is
+ *                     a step less; otherwise the steps are the same.
  */
 enum {
     LESMUTKA_BINARY = 1,
     LESMUTKA_FIXED_WINDOWS = 2,
     LESMUTKA_SLIDING_WINDOWS = 3,
     LESMUTKA_NAF = 4,
-    LESMUTKA_WIDE_NAF = 5
+    LESMUTKA_WIDE_NAF = 5,
+    LESMUTKA_MODIFIED_NAF = 6
 };
 
 /* What the start of taking answers. */
@@ -337,6 +344,16 @@ lesmutka_length lesmutka_recode_words(const uint8_t *number, size_t number_lengt
 lesmutka_length lesmutka_recode_wide(const uint8_t *number, size_t number_length, uint32_t width,
                                      uint8_t *out, size_t out_length);
 
+/** Recode a number into its modified NAF. lesmutka_clean makes the canonical string of it.
+ *
+ *  Returns: the length of the string, the bytes written.
+ *           Refused: 1, then 13, then 6; nothing is written.
+ *  In:      number: the number, number_length bytes.
+ *  Out:     out: room for the digits, out_length bytes. LESMUTKA_RECODE_ROOM is always enough.
+ */
+lesmutka_length lesmutka_recode_modified(const uint8_t *number, size_t number_length, uint8_t *out,
+                                         size_t out_length);
+
 /** Start taking the canonical digits of a number one by one.
  *
  *  Returns: nothing but the refusal.
@@ -416,7 +433,7 @@ lesmutka_value lesmutka_read_back_wide(const uint8_t *digits, size_t digits_leng
  *           Refused: 1, then 13, then 2, then 3, then 6; nothing is written.
  *  In:      number: the number, number_length bytes.
  *           method: LESMUTKA_BINARY, LESMUTKA_FIXED_WINDOWS, LESMUTKA_SLIDING_WINDOWS,
- *                   LESMUTKA_NAF or LESMUTKA_WIDE_NAF.
+ *                   LESMUTKA_NAF, LESMUTKA_WIDE_NAF or LESMUTKA_MODIFIED_NAF.
  *           width: the bits of a window, from 1 to the limit of the method, or the width of a wide
  *                  NAF; 0 for the methods without.
  *  Out:     out: room for the plan, out_length bytes. LESMUTKA_PLAN_ROOM is always enough.

@@ -85,7 +85,7 @@ pub const LEAST_WIDTH: u32 = 2;
 /// The largest width of a NAF.
 pub const LARGEST_WIDTH: u32 = 8;
 
-/// Room for every answer of [`recode`], [`recode_words`] and [`recode_wide`].
+/// Room for every answer of [`recode`], [`recode_words`], [`recode_wide`] and [`recode_modified`].
 pub const RECODE_ROOM: usize = 8 * NUMBER_BYTES + 1;
 /// Room for every answer of [`clean`].
 pub const CLEAN_ROOM: usize = STRING_DIGITS + 1;
@@ -180,6 +180,27 @@ pub fn recode_words<'a>(number: &[u8], out: &'a mut [i8]) -> Result<&'a [i8], Re
 /// ```
 pub fn recode_wide<'a>(number: &[u8], width: u32, out: &'a mut [i8]) -> Result<&'a [i8], Refusal> {
     let length = written(sys::recode_wide(number, width, bytes_of_mut(out)))?;
+    Ok(&out[..length])
+}
+
+/// Writes the modified NAF of a number, and hands it back: the canonical string, except that leading
+/// digits 1 0 -1, most significant first, become 1 1. No digit string of the same value whose top digit is
+/// 1 has a smaller sum of length and nonzero digits.
+///
+/// # Errors
+///
+/// Refusals 1, 13, 6. [`RECODE_ROOM`] is always enough.
+///
+/// ```
+/// let mut room = [0; lesmutka::RECODE_ROOM];
+/// // 16 + 8 + 1
+/// assert_eq!(lesmutka::recode_modified(&[25], &mut room)?, [1, 0, 0, 1, 1]);
+/// // 1 0 0 -1 0 -1, the canonical string
+/// assert_eq!(lesmutka::recode_modified(&[27], &mut room)?, [-1, 0, -1, 0, 0, 1]);
+/// # Ok::<(), lesmutka::Refusal>(())
+/// ```
+pub fn recode_modified<'a>(number: &[u8], out: &'a mut [i8]) -> Result<&'a [i8], Refusal> {
+    let length = written(sys::recode_modified(number, bytes_of_mut(out)))?;
     Ok(&out[..length])
 }
 

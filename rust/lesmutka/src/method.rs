@@ -31,10 +31,12 @@ pub enum Method {
     Naf,
     /// 5: the digits of the NAF of this width, [`LEAST_WIDTH`] to [`LARGEST_WIDTH`], from the top.
     WideNaf(u32),
+    /// 6: the digits of the modified NAF, from the top.
+    ModifiedNaf,
 }
 
 /// How many choices of a method and its width there are.
-const CHOICES: usize = 2 + (FIXED_WINDOW_BITS + SLIDING_WINDOW_BITS + LARGEST_WIDTH + 1 - LEAST_WIDTH) as usize;
+const CHOICES: usize = 3 + (FIXED_WINDOW_BITS + SLIDING_WINDOW_BITS + LARGEST_WIDTH + 1 - LEAST_WIDTH) as usize;
 
 const fn choices() -> [Method; CHOICES] {
     let mut all = [Method::Binary; CHOICES];
@@ -59,6 +61,7 @@ const fn choices() -> [Method; CHOICES] {
         next += 1;
         width += 1;
     }
+    all[next] = Method::ModifiedNaf;
     all
 }
 
@@ -66,7 +69,7 @@ impl Method {
     /// Every method with every width that it allows, in the order of their numbers.
     pub const ALL: &'static [Method] = &choices();
 
-    /// The name: `binary`, `fixed`, `sliding`, `naf` or `wide-naf`.
+    /// The name: `binary`, `fixed`, `sliding`, `naf`, `wide-naf` or `modified-naf`.
     pub const fn name(self) -> &'static str {
         match self {
             Method::Binary => "binary",
@@ -74,10 +77,11 @@ impl Method {
             Method::SlidingWindows(_) => "sliding",
             Method::Naf => "naf",
             Method::WideNaf(_) => "wide-naf",
+            Method::ModifiedNaf => "modified-naf",
         }
     }
 
-    /// The number, 1 to 5.
+    /// The number, 1 to 6.
     pub const fn number(self) -> u32 {
         match self {
             Method::Binary => 1,
@@ -85,6 +89,7 @@ impl Method {
             Method::SlidingWindows(_) => 3,
             Method::Naf => 4,
             Method::WideNaf(_) => 5,
+            Method::ModifiedNaf => 6,
         }
     }
 
@@ -92,7 +97,7 @@ impl Method {
     pub const fn width(self) -> u32 {
         match self {
             Method::FixedWindows(width) | Method::SlidingWindows(width) | Method::WideNaf(width) => width,
-            Method::Binary | Method::Naf => 0,
+            Method::Binary | Method::Naf | Method::ModifiedNaf => 0,
         }
     }
 }
@@ -151,8 +156,8 @@ impl fmt::Display for ParseMethodError {
     fn fmt(&self, f: &mut fmt::Formatter<'_>) -> fmt::Result {
         write!(
             f,
-            "a method is binary, fixed and a width of 1 to {}, sliding and a width of 1 to {}, naf, or wide-naf and \
-             a width of {} to {}; 1 to 5 may stand for the names",
+            "a method is binary, fixed and a width of 1 to {}, sliding and a width of 1 to {}, naf, wide-naf and \
+             a width of {} to {}, or modified-naf; 1 to 6 may stand for the names",
             FIXED_WINDOW_BITS, SLIDING_WINDOW_BITS, LEAST_WIDTH, LARGEST_WIDTH
         )
     }

@@ -133,6 +133,9 @@ extern "C" {
         out: *mut u8,
         out_length: usize,
     ) -> Length;
+    /// Writes the modified NAF of a number. Refused: 1, 13, 6.
+    pub fn lesmutka_recode_modified(number: *const u8, number_length: usize, out: *mut u8, out_length: usize)
+        -> Length;
     /// Starts taking the canonical digits of a number. Refused: 1, 13; the recoder is then that of zero.
     pub fn lesmutka_start(number: *const u8, number_length: usize, recoder: *mut Recoder) -> Started;
     /// Takes the lowest digit that is left: its byte, or [`DONE`].
@@ -212,6 +215,12 @@ pub fn recode_words(number: &[u8], out: &mut [u8]) -> Length {
 #[inline]
 pub fn recode_wide(number: &[u8], width: u32, out: &mut [u8]) -> Length {
     unsafe { lesmutka_recode_wide(number.as_ptr(), number.len(), width, out.as_mut_ptr(), out.len()) }
+}
+
+/// [`lesmutka_recode_modified`] over slices.
+#[inline]
+pub fn recode_modified(number: &[u8], out: &mut [u8]) -> Length {
+    unsafe { lesmutka_recode_modified(number.as_ptr(), number.len(), out.as_mut_ptr(), out.len()) }
 }
 
 /// [`lesmutka_start`] over a slice and a reference.

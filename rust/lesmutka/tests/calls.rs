@@ -121,6 +121,83 @@ fn wide_recoding_refused() {
     assert_eq!(room, [7; RECODE_ROOM]);
 }
 
+/// The modified NAF of a number, most significant digit first.
+fn modified_digits_of(number: &[u8]) -> Vec<i8> {
+    let mut room = [7; RECODE_ROOM];
+    let mut digits = recode_modified(number, &mut room).unwrap().to_vec();
+    assert!(room[digits.len()..].iter().all(|&digit| digit == 7));
+    digits.reverse();
+    digits
+}
+
+#[test]
+fn modified_recoding() {
+    for (number, digits) in [
+        (&[][..], &[][..]),
+        (&[1], &[1]),
+        (&[2], &[1, 0]),
+        (&[3], &[1, 1]),
+        (&[5], &[1, 0, 1]),
+        (&[6], &[1, 1, 0]),
+        (&[7], &[1, 0, 0, -1]),
+        (&[11], &[1, 1, 0, -1]),
+        (&[25], &[1, 1, 0, 0, 1]),
+        (&[27], &[1, 0, 0, -1, 0, -1]),
+        (&[43], &[1, 1, 0, -1, 0, -1]),
+    ] {
+        assert_eq!(modified_digits_of(number), digits);
+    }
+    let ones = modified_digits_of(&[0xff; NUMBER_BYTES]);
+    assert_eq!((ones.len(), ones[0], ones[RECODE_ROOM - 1]), (RECODE_ROOM, 1, -1));
+    // The canonical string with another lead, of which clean makes that again; read back it is the number.
+    let mut noise = Noise(4);
+    let mut replaced = [0; 2];
+    for bytes in 0..=NUMBER_BYTES {
+        for high in [0x80, 0xaa, 0xab, 0xc0, 0xd5, 0xd6, 0xff, noise.byte() | 1] {
+            let mut number: Vec<u8> = (0..bytes).map(|_| noise.byte()).collect();
+            if let Some(top) = number.last_mut() {
+                *top = high;
+            }
+            let (canonical, modified) = (digits_of(&number), modified_digits_of(&number));
+            let expected = match canonical.strip_prefix(&[1, 0, -1]) {
+                Some(rest) => [&[1, 1], rest].concat(),
+                None => canonical.clone(),
+            };
+            assert_eq!(modified, expected, "{:x?}", number);
+            replaced[usize::from(modified != canonical)] += 1;
+            let lowest_first: Vec<i8> = modified.iter().rev().copied().collect();
+            let mut room = [7; CLEAN_ROOM];
+            let cleaned = clean(&lowest_first, &mut room).unwrap();
+            assert!(cleaned.iter().rev().eq(&canonical), "{:x?}", number);
+            let mut room = [7; READ_BACK_ROOM];
+            let value = read_back(&lowest_first, &mut room).unwrap();
+            assert_eq!((value.is_negative, value.size), (false, &number[..]));
+        }
+    }
+    assert!(replaced[0] > 100 && replaced[1] > 100, "{:?}", replaced);
+}
+
+#[test]
+fn modified_recoding_refused() {
+    let mut room = [7; RECODE_ROOM];
+    for number in [[0; NUMBER_BYTES + 1], [0xff; NUMBER_BYTES + 1]] {
+        assert_eq!(recode_modified(&number, &mut []), Err(Refusal::NumberTooLong));
+        assert_eq!(recode_modified(&number, &mut room), Err(Refusal::NumberTooLong));
+    }
+    for number in [&[0][..], &[43, 0], &[0; NUMBER_BYTES]] {
+        assert_eq!(recode_modified(number, &mut []), Err(Refusal::HighestByteIsZero));
+        assert_eq!(recode_modified(number, &mut room), Err(Refusal::HighestByteIsZero));
+    }
+    // 43 has a digit less than its canonical string.
+    let small = Err(Refusal::RoomTooSmall { needed: 6 });
+    assert_eq!(recode_modified(&[43], &mut room[..5]), small);
+    let small = Err(Refusal::RoomTooSmall { needed: RECODE_ROOM });
+    assert_eq!(recode_modified(&[0xff; NUMBER_BYTES], &mut room[1..]), small);
+    assert_eq!(room, [7; RECODE_ROOM]);
+    assert_eq!(recode_modified(&[43], &mut room[..6]).unwrap().len(), 6);
+    assert_eq!(recode_modified(&[], &mut []), Ok(&[][..]));
+}
+
 #[test]
 fn digits_one_by_one() {
     let longest = [[0xff; NUMBER_BYTES], [0x55; NUMBER_BYTES], [0xaa; NUMBER_BYTES]];
@@ -346,6 +423,7 @@ fn planning() {
         (Method::Naf, 9),
         (Method::WideNaf(2), 9),
         (Method::WideNaf(4), 9),
+        (Method::ModifiedNaf, 8),
     ] {
         let plan = plan(&[43], method, &mut room).unwrap();
         assert_eq!(plan.counts.total(), steps);
@@ -366,6 +444,35 @@ fn planning() {
     assert_eq!(texts.join(" "), expected);
     for width in LEAST_WIDTH..=LARGEST_WIDTH {
         assert_eq!(plan(&[1], Method::WideNaf(width), &mut []).unwrap().bytes, []);
+    }
+    // 1 1 0 -1 0 -1
+    let modified = plan(&[43], Method::ModifiedNaf, &mut room).unwrap().steps();
+    let texts: Vec<String> = modified.map(|step| step.to_string()).collect();
+    let expected = "add(0,0) add(1,0) add(2,2) add(3,3) subtract(4,0) add(5,5) add(6,6) subtract(7,0)";
+    assert_eq!(texts.join(" "), expected);
+    assert_eq!(plan(&[1], Method::ModifiedNaf, &mut []).unwrap().bytes, []);
+}
+
+/// By the modified NAF 2^L - 1 takes one bit more than it has from L = 3 on, and no other number does.
+#[test]
+fn bits_of_plans_by_modified_naf() {
+    let mut room = [7; PLAN_ROOM];
+    let mut space = [7; work_space(PLAN_STEPS)];
+    let mut bits = |number: &[u8]| {
+        let plan = plan(number, Method::ModifiedNaf, &mut room).unwrap();
+        check(number, plan.bytes, &mut space).unwrap().largest_bits
+    };
+    for number in 1..5000u16 {
+        let length = 16 - number.leading_zeros() as usize;
+        let is_ones = length > 2 && (number + 1).is_power_of_two();
+        let bytes = number.to_le_bytes();
+        assert_eq!(bits(trimmed(&bytes)), length + usize::from(is_ones), "{}", number);
+    }
+    for bytes in 1..=NUMBER_BYTES {
+        assert_eq!(bits(&vec![0xff; bytes]), 8 * bytes + 1);
+        let mut number = vec![0xff; bytes];
+        number[0] = 0xfe;
+        assert_eq!(bits(&number), 8 * bytes);
     }
 }
 
@@ -395,10 +502,13 @@ fn planning_refused() {
             Err(Refusal::MethodOrWidth)
         );
     }
-    assert_eq!(
-        plan(&[2], Method::Naf, &mut room),
-        Err(Refusal::RoomTooSmall { needed: 5 })
-    );
+    for (method, width) in [(6, 1), (6, 2), (6, 8), (7, 0), (262, 0)] {
+        assert_eq!(sys::plan(&[3], method, width, &mut room).refusal, 3);
+        assert_eq!(sys::forecast(&[3], method, width).refusal, 3);
+    }
+    for method in [Method::Naf, Method::ModifiedNaf] {
+        assert_eq!(plan(&[2], method, &mut room), Err(Refusal::RoomTooSmall { needed: 5 }));
+    }
     assert_eq!(room, [7; 4]);
 }
 
@@ -479,6 +589,7 @@ fn limits_by_number() {
         assert_eq!(recode(&[0xff; 48], &mut room[..384]), small);
     }
     let mut room = [7; 1000];
+    assert_eq!(recode_modified(&[0xff; 48], &mut room).unwrap().len(), 385);
     for number in [[0; 49], [0xff; 49]] {
         assert_eq!(recode(&number, &mut room), Err(Refusal::NumberTooLong));
         assert_eq!(recode_words(&number, &mut room), Err(Refusal::NumberTooLong));
@@ -551,12 +662,14 @@ fn one_spelling() {
         let mut room = [7; 385];
         assert!(recode(number, &mut room).is_ok());
         assert!(recode_words(number, &mut room).is_ok());
+        assert!(recode_modified(number, &mut room).is_ok());
         assert!(digits(number).is_ok());
         assert!(forecast(number, Method::Naf).is_ok());
     }
     // Zero has no bytes.
     assert_eq!(recode(&[], &mut []), Ok(&[][..]));
     assert_eq!(recode_words(&[], &mut []), Ok(&[][..]));
+    assert_eq!(recode_modified(&[], &mut []), Ok(&[][..]));
     assert_eq!(digits(&[]).unwrap().next(), None);
     assert_eq!(forecast(&[], Method::Naf), Err(Refusal::NumberIsZero));
     assert_eq!(plan(&[], Method::Naf, &mut []), Err(Refusal::NumberIsZero));
@@ -599,7 +712,20 @@ fn refused_by_every_call(number: &[u8], refusal: usize) {
         for width in [2, 8, 0, 9] {
             assert_eq!(sys::recode_wide(number, width, &mut out), length, "{:x?}", number);
         }
-        for (method, width) in [(1, 0), (2, 6), (3, 6), (4, 0), (5, 4), (0, 0), (4, 1), (5, 0), (6, 0)] {
+        assert_eq!(sys::recode_modified(number, &mut out), length, "{:x?}", number);
+        for (method, width) in [
+            (1, 0),
+            (2, 6),
+            (3, 6),
+            (4, 0),
+            (5, 4),
+            (6, 0),
+            (0, 0),
+            (4, 1),
+            (5, 0),
+            (6, 1),
+            (7, 0),
+        ] {
             assert_eq!(sys::plan(number, method, width, &mut out), counts, "{:x?}", number);
             assert_eq!(sys::forecast(number, method, width), counts, "{:x?}", number);
         }
@@ -614,6 +740,7 @@ fn refused_by_every_call(number: &[u8], refusal: usize) {
     assert_eq!(recode(number, &mut [7; 385]), Err(safe));
     assert_eq!(recode_words(number, &mut [7; 385]), Err(safe));
     assert_eq!(recode_wide(number, 4, &mut [7; 385]), Err(safe));
+    assert_eq!(recode_modified(number, &mut [7; 385]), Err(safe));
     assert_eq!(forecast(number, Method::Naf), Err(safe));
     assert_eq!(digits(number).unwrap_err(), safe);
     // The recoder is that of zero.
@@ -657,8 +784,8 @@ fn refusals_and_parse_errors_are_errors() {
     assert_eq!(words(&Refusal::NumberIsZero), "refused 2, place 0: the number is zero");
     assert_eq!(
         words(&"five".parse::<Method>().unwrap_err()),
-        "a method is binary, fixed and a width of 1 to 6, sliding and a width of 1 to 6, naf, or wide-naf and \
-         a width of 2 to 8; 1 to 5 may stand for the names"
+        "a method is binary, fixed and a width of 1 to 6, sliding and a width of 1 to 6, naf, wide-naf and \
+         a width of 2 to 8, or modified-naf; 1 to 6 may stand for the names"
     );
     assert_eq!(
         words(&"add".parse::<Step>().unwrap_err()),
@@ -1064,7 +1191,7 @@ fn all_methods() {
         }
     }
     assert_eq!(taken, Method::ALL);
-    assert_eq!(taken.len(), 21);
+    assert_eq!(taken.len(), 22);
 }
 
 #[test]
@@ -1090,12 +1217,16 @@ fn a_method_as_text() {
         ("wide-naf 2", Method::WideNaf(2)),
         ("Wide-NAF 8", Method::WideNaf(8)),
         ("5 4", Method::WideNaf(4)),
+        ("modified-naf", Method::ModifiedNaf),
+        ("Modified-NAF 0", Method::ModifiedNaf),
+        ("6", Method::ModifiedNaf),
     ] {
         assert_eq!(text.parse(), Ok(method), "{:?}", text);
     }
     assert_eq!(Method::Naf.to_string(), "naf");
     assert_eq!(Method::SlidingWindows(4).to_string(), "sliding 4");
     assert_eq!(Method::WideNaf(4).to_string(), "wide-naf 4");
+    assert_eq!(Method::ModifiedNaf.to_string(), "modified-naf");
     assert_eq!(
         (Method::FixedWindows(3).name(), Method::Binary.name()),
         ("fixed", "binary")
@@ -1105,8 +1236,9 @@ fn a_method_as_text() {
         " ",
         "0",
         "5",
-        "6",
+        "7",
         "6 4",
+        "262",
         "257",
         "4294967297",
         "nafs",
@@ -1117,6 +1249,9 @@ fn a_method_as_text() {
         "wide-naf 9",
         "wide naf 4",
         "wide 4",
+        "modified-naf 2",
+        "modified naf",
+        "modified",
         "binary 1",
         "fixed",
         "fixed 0",

@@ -184,6 +184,7 @@ fn fields_agree() {
     agree("lesmutka_length", sys::recode(&number, space));
     agree("lesmutka_length", sys::recode_words(&number, space));
     agree("lesmutka_length", sys::recode_wide(&number, 2, space));
+    agree("lesmutka_length", sys::recode_modified(&number, space));
     agree("lesmutka_length", sys::clean_wide(&[1], 2, space));
     agree("lesmutka_value", sys::read_back(&[1], space));
     agree("lesmutka_value", sys::read_back_wide(&[1], 2, space));

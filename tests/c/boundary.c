@@ -1,5 +1,5 @@
 /* The boundary between C and the library: every constant of the header, layout of the answers, empty buffers,
- * recoders, what a check answers, the wide form, the reading of text, versions and words. */
+ * recoders, what a check answers, the wide form and the modified one, the reading of text, versions and words. */
 #include <stdio.h>
 #include <stdlib.h>
 #include <string.h>
@@ -66,6 +66,10 @@ static void empty_buffers(void) {
     recoded = lesmutka_recode_wide(NULL, 0, 4, NULL, 0);
     EXPECT(recoded.refusal == 0 && recoded.place == 0 && recoded.length == 0);
     recoded = lesmutka_recode_wide(one, 1, 4, NULL, 0);
+    EXPECT(recoded.refusal == LESMUTKA_ROOM_TOO_SMALL && recoded.place == 1 && recoded.length == 0);
+    recoded = lesmutka_recode_modified(NULL, 0, NULL, 0);
+    EXPECT(recoded.refusal == 0 && recoded.place == 0 && recoded.length == 0);
+    recoded = lesmutka_recode_modified(one, 1, NULL, 0);
     EXPECT(recoded.refusal == LESMUTKA_ROOM_TOO_SMALL && recoded.place == 1 && recoded.length == 0);
     lesmutka_length cleaned = lesmutka_clean(NULL, 0, NULL, 0);
     EXPECT(cleaned.refusal == 0 && cleaned.place == 0 && cleaned.length == 0);
@@ -147,10 +151,13 @@ static void rooms(void) {
     memset(digits, 0x01, sizeof digits);
     EXPECT(lesmutka_recode(number, sizeof number, out, LESMUTKA_RECODE_ROOM).length == LESMUTKA_RECODE_ROOM);
     EXPECT(lesmutka_recode_words(number, sizeof number, out, LESMUTKA_RECODE_ROOM).length == LESMUTKA_RECODE_ROOM);
+    EXPECT(lesmutka_recode_modified(number, sizeof number, out, LESMUTKA_RECODE_ROOM).length == LESMUTKA_RECODE_ROOM);
     EXPECT(lesmutka_clean(digits, sizeof digits, out, LESMUTKA_CLEAN_ROOM).length == LESMUTKA_CLEAN_ROOM);
     EXPECT(lesmutka_read_back(digits, sizeof digits, out, LESMUTKA_READ_BACK_ROOM).length == LESMUTKA_READ_BACK_ROOM);
     EXPECT(lesmutka_recode(number, sizeof number, out, LESMUTKA_RECODE_ROOM - 1).place == LESMUTKA_RECODE_ROOM);
     EXPECT(lesmutka_recode_words(number, sizeof number, out, LESMUTKA_RECODE_ROOM - 1).place == LESMUTKA_RECODE_ROOM);
+    EXPECT(lesmutka_recode_modified(number, sizeof number, out, LESMUTKA_RECODE_ROOM - 1).place ==
+           LESMUTKA_RECODE_ROOM);
     EXPECT(lesmutka_clean(digits, sizeof digits, out, LESMUTKA_CLEAN_ROOM - 1).place == LESMUTKA_CLEAN_ROOM);
     EXPECT(lesmutka_read_back(digits, sizeof digits, out, LESMUTKA_READ_BACK_ROOM - 1).place == LESMUTKA_READ_BACK_ROOM);
 
@@ -184,11 +191,20 @@ static void methods(void) {
     lesmutka_counts sliding = lesmutka_forecast(number, 1, LESMUTKA_SLIDING_WINDOWS, 3);
     lesmutka_counts naf = lesmutka_forecast(number, 1, LESMUTKA_NAF, 0);
     lesmutka_counts wide = lesmutka_forecast(number, 1, LESMUTKA_WIDE_NAF, 4);
+    lesmutka_counts modified = lesmutka_forecast(number, 1, LESMUTKA_MODIFIED_NAF, 0);
     EXPECT(binary.refusal == 0 && binary.doublings == 5 && binary.additions == 3 && binary.subtractions == 0);
     EXPECT(fixed.refusal == 0 && fixed.doublings == 4 && fixed.additions == 6 && fixed.subtractions == 0);
     EXPECT(sliding.refusal == 0 && sliding.doublings == 4 && sliding.additions == 4 && sliding.subtractions == 0);
     EXPECT(naf.refusal == 0 && naf.doublings == 6 && naf.additions == 0 && naf.subtractions == 3);
     EXPECT(wide.refusal == 0 && wide.doublings == 5 && wide.additions == 3 && wide.subtractions == 1);
+    EXPECT(modified.refusal == 0 && modified.doublings == 5 && modified.additions == 1 && modified.subtractions == 2);
+    /* The next is none, nor is one that looks like the last in its lowest byte; the last takes no width. */
+    const uint32_t none[][2] = {{LESMUTKA_MODIFIED_NAF + 1, 0}, {256 + LESMUTKA_MODIFIED_NAF, 0},
+                                {LESMUTKA_MODIFIED_NAF, 1},     {LESMUTKA_MODIFIED_NAF, LESMUTKA_LARGEST_WIDTH}};
+    for (size_t i = 0; i < sizeof none / sizeof none[0]; i++) {
+        EXPECT(lesmutka_forecast(number, 1, none[i][0], none[i][1]).refusal == LESMUTKA_METHOD_OR_WIDTH);
+        EXPECT(lesmutka_plan(number, 1, none[i][0], none[i][1], NULL, 0).refusal == LESMUTKA_METHOD_OR_WIDTH);
+    }
 }
 
 /* Each refusal of the header is given where its name says. */
@@ -214,6 +230,13 @@ static void refusals(void) {
     length = lesmutka_recode(one, 1, out, 0);
     EXPECT(length.refusal == LESMUTKA_ROOM_TOO_SMALL && length.place == 1);
     length = lesmutka_recode_words(one, 1, out, 0);
+    EXPECT(length.refusal == LESMUTKA_ROOM_TOO_SMALL && length.place == 1);
+    /* In the modified form: 1, 13, 6. */
+    length = lesmutka_recode_modified(number, sizeof number, out, 0);
+    EXPECT(length.refusal == LESMUTKA_NUMBER_TOO_LONG && length.place == 0);
+    length = lesmutka_recode_modified(number, 1, out, 0);
+    EXPECT(length.refusal == LESMUTKA_HIGHEST_BYTE_IS_ZERO && length.place == 0);
+    length = lesmutka_recode_modified(one, 1, out, 0);
     EXPECT(length.refusal == LESMUTKA_ROOM_TOO_SMALL && length.place == 1);
     /* In the wide form, each beside all that are tested later: recode 1, 13, 3, 6; the others 3, 5, 4, 6. */
     length = lesmutka_recode_wide(number, sizeof number, 9, out, 0);
@@ -354,11 +377,13 @@ static void refused_number(const uint8_t *number, size_t length, size_t refusal)
         EXPECT(recoded.refusal == refusal && recoded.place == 0 && recoded.length == 0);
         recoded = lesmutka_recode_words(number, length, lent, rooms[i]);
         EXPECT(recoded.refusal == refusal && recoded.place == 0 && recoded.length == 0);
+        recoded = lesmutka_recode_modified(number, length, lent, rooms[i]);
+        EXPECT(recoded.refusal == refusal && recoded.place == 0 && recoded.length == 0);
         for (uint32_t width = LESMUTKA_LEAST_WIDTH - 1; width <= LESMUTKA_LARGEST_WIDTH + 1; width++) {
             recoded = lesmutka_recode_wide(number, length, width, lent, rooms[i]);
             EXPECT(recoded.refusal == refusal && recoded.place == 0 && recoded.length == 0);
         }
-        for (uint32_t method = 0; method <= LESMUTKA_WIDE_NAF; method++) {
+        for (uint32_t method = 0; method <= LESMUTKA_MODIFIED_NAF + 1; method++) {
             lesmutka_counts counts = lesmutka_plan(number, length, method, 0, lent, rooms[i]);
             EXPECT(counts.refusal == refusal && counts.place == 0);
             EXPECT(counts.doublings == 0 && counts.additions == 0 && counts.subtractions == 0);
@@ -402,10 +427,12 @@ static void spellings(void) {
     number[0] = 43;
     EXPECT(lesmutka_recode(number, 1, lent, ROOM).length == 7);
     EXPECT(lesmutka_recode_words(number, 1, lent, ROOM).length == 7);
+    EXPECT(lesmutka_recode_modified(number, 1, lent, ROOM).length == 6);
     number[0] = 0;
     number[1] = 1;
     EXPECT(lesmutka_recode(number, 2, lent, ROOM).length == 9);
     EXPECT(lesmutka_recode_words(number, 2, lent, ROOM).length == 9);
+    EXPECT(lesmutka_recode_modified(number, 2, lent, ROOM).length == 9);
 }
 
 /* By words or not, a number is recoded into the same bytes, and nothing else of the lent buffer changes: numbers of
@@ -519,6 +546,85 @@ static void wide_numbers(void) {
         EXPECT(recoded.refusal == 0 && recoded.length == needed);
         EXPECT(memcmp(lent, digits, needed) == 0 && changed_only(needed));
     }
+}
+
+/* Recoded in the modified form into every room up to one more than is needed: these digits, lowest first, and no other
+ * byte of the lent buffer changes. */
+static void modified_number(const uint8_t *number, size_t length, const uint8_t *digits, size_t needed) {
+    for (size_t room = needed > 8 ? needed - 1 : 0; room <= needed + 1; room++) {
+        lend();
+        lesmutka_length recoded = lesmutka_recode_modified(number, length, lent, room);
+        if (room < needed) {
+            EXPECT(recoded.refusal == LESMUTKA_ROOM_TOO_SMALL && recoded.place == needed && recoded.length == 0);
+            EXPECT(changed_only(0));
+        } else {
+            EXPECT(recoded.refusal == 0 && recoded.place == 0 && recoded.length == needed);
+            EXPECT(memcmp(lent, digits, needed) == 0 && changed_only(needed));
+        }
+    }
+}
+
+static void modified_numbers(void) {
+    const uint8_t small[] = {1, 2, 3, 5, 6, 7, 25, 27, 43};
+    const char *forms[] = {"\x01",
+                           "\x00\x01",
+                           "\x01\x01",
+                           "\x01\x00\x01",
+                           "\x00\x01\x01",
+                           "\xff\x00\x00\x01",
+                           "\x01\x00\x00\x01\x01",
+                           "\xff\x00\xff\x00\x00\x01",
+                           "\xff\x00\xff\x00\x01\x01"};
+    const size_t lengths[] = {1, 2, 2, 3, 3, 4, 5, 6, 6};
+    for (size_t i = 0; i < sizeof small; i++)
+        modified_number(small + i, 1, (const uint8_t *)forms[i], lengths[i]);
+
+    /* Numbers of every length, whose canonical string leads with 1 0 1, 1 0 -1 or 1 0 0: the lead 1 0 -1 becomes 1 1,
+     * and no other changes. Clean makes the canonical string of the form, and reading it back gives the number. */
+    const uint8_t highest[] = {0x80, 0xa5, 0xaa, 0xab, 0xc0, 0xd5, 0xd6, 0xff};
+    uint8_t number[LESMUTKA_NUMBER_BYTES], naf[LESMUTKA_RECODE_ROOM], form[LESMUTKA_RECODE_ROOM];
+    size_t replaced = 0, same = 0;
+    for (size_t i = 0; i < sizeof highest; i++)
+        for (size_t length = 1; length <= sizeof number; length++) {
+            for (size_t k = 0; k < length; k++)
+                number[k] = (uint8_t)(37 * k + 11 * i);
+            number[length - 1] = highest[i];
+            size_t digits = lesmutka_recode(number, length, naf, sizeof naf).length, needed = digits;
+            memcpy(form, naf, digits);
+            if (naf[digits - 1] == 0x01 && naf[digits - 2] == 0x00 && naf[digits - 3] == 0xff) {
+                form[digits - 2] = form[digits - 3] = 0x01;
+                needed = digits - 1;
+                replaced++;
+            } else {
+                same++;
+            }
+            modified_number(number, length, form, needed);
+            lend();
+            EXPECT(lesmutka_clean(form, needed, lent, ROOM).length == digits);
+            EXPECT(memcmp(lent, naf, digits) == 0 && changed_only(digits));
+            lend();
+            lesmutka_value value = lesmutka_read_back(form, needed, lent, ROOM);
+            EXPECT(value.refusal == 0 && value.sign == 0 && value.length == length);
+            EXPECT(memcmp(lent, number, length) == 0 && changed_only(length));
+        }
+    EXPECT(replaced > 100 && same > 100);
+
+    /* The plan for 43, of 8 steps. */
+    const char *text = "add(0,0) add(1,0) add(2,2) add(3,3) subtract(4,0) add(5,5) add(6,6) subtract(7,0)";
+    uint8_t plan[LESMUTKA_STEP_BYTES * 8], space[LESMUTKA_WORK_SPACE(8)];
+    lesmutka_length read = lesmutka_read_steps((const uint8_t *)text, strlen(text), plan, sizeof plan);
+    EXPECT(read.refusal == 0 && read.length == sizeof plan);
+    number[0] = 43;
+    lend();
+    lesmutka_counts counts = lesmutka_plan(number, 1, LESMUTKA_MODIFIED_NAF, 0, lent, sizeof plan);
+    EXPECT(counts.refusal == 0 && counts.doublings == 5 && counts.additions == 1 && counts.subtractions == 2);
+    EXPECT(memcmp(lent, plan, sizeof plan) == 0 && changed_only(sizeof plan));
+    lesmutka_accepted checked = lesmutka_check(number, 1, plan, sizeof plan, space, sizeof space);
+    EXPECT(checked.refusal == 0 && checked.largest_bits == 6);
+    EXPECT(checked.doublings == 5 && checked.additions == 1 && checked.subtractions == 2);
+    lend();
+    counts = lesmutka_plan(number, 1, LESMUTKA_MODIFIED_NAF, 0, lent, sizeof plan - 1);
+    EXPECT(counts.refusal == LESMUTKA_ROOM_TOO_SMALL && counts.place == sizeof plan && changed_only(0));
 }
 
 typedef lesmutka_parsed parser(const uint8_t *, size_t, uint8_t *, size_t);
@@ -783,6 +889,7 @@ int main(void) {
     spellings();
     two_recodings();
     wide_numbers();
+    modified_numbers();
     hexadecimal();
     decimal();
     lengths();

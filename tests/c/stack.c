@@ -46,6 +46,11 @@ static void recode_wide(void) {
     answer = lesmutka_recode_wide(bytes, length, width, out, room).refusal;
 }
 
+static void recode_modified(void) {
+    mark();
+    answer = lesmutka_recode_modified(bytes, length, out, room).refusal;
+}
+
 static void start(void) {
     mark();
     answer = lesmutka_start(bytes, length, &recoder).refusal;
@@ -172,7 +177,7 @@ static void measure(void (*run)(void), size_t expected) {
 static size_t most_of_all;
 
 static void report(const char *name) {
-    printf("stack: %-14s %4zu bytes\n", name, most);
+    printf("stack: %-15s %4zu bytes\n", name, most);
     if (most > most_of_all)
         most_of_all = most;
     most = 0;
@@ -195,6 +200,7 @@ static int is_choice(uint32_t by, uint32_t bits) {
     switch (by) {
     case LESMUTKA_BINARY:
     case LESMUTKA_NAF:
+    case LESMUTKA_MODIFIED_NAF:
         return bits == 0;
     case LESMUTKA_FIXED_WINDOWS:
         return bits >= 1 && bits <= LESMUTKA_FIXED_WINDOW_BITS;
@@ -208,15 +214,19 @@ static int is_choice(uint32_t by, uint32_t bits) {
 }
 
 static void numbers(void) {
-    static uint8_t number[3][LESMUTKA_NUMBER_BYTES + 1];
+    /* The last kind leads with 1 0 -1 in its canonical string, at every length. */
+    static uint8_t number[4][LESMUTKA_NUMBER_BYTES + 1];
     memset(number[0], 0xff, sizeof number[0]);
     memset(number[1], 0x55, sizeof number[1]);
     for (size_t i = 0; i < sizeof number[2]; i++)
         number[2][i] = (uint8_t)(37 * i + 11);
+    memset(number[3], 0xcc, sizeof number[3]);
 
-    for (int words = 0; words < 2; words++) {
-        void (*run)(void) = words ? recode_words : recode;
-        for (int i = 0; i < 3; i++) {
+    void (*const recodings[])(void) = {recode, recode_words, recode_modified};
+    const char *const names[] = {"recode", "recode_words", "recode_modified"};
+    for (int k = 0; k < 3; k++) {
+        void (*run)(void) = recodings[k];
+        for (int i = 0; i < 4; i++) {
             bytes = number[i];
             for (length = 1; length <= LESMUTKA_NUMBER_BYTES + 1; length++) {
                 room = sizeof out;
@@ -226,12 +236,12 @@ static void numbers(void) {
             }
         }
         measure_refused(run);
-        report(words ? "recode_words" : "recode");
+        report(names[k]);
     }
 
     /* Every width, also those that are none. */
     for (width = LESMUTKA_LEAST_WIDTH - 1; width <= LESMUTKA_LARGEST_WIDTH + 1; width++) {
-        for (int i = 0; i < 3; i++) {
+        for (int i = 0; i < 4; i++) {
             bytes = number[i];
             for (length = 1; length <= LESMUTKA_NUMBER_BYTES + 1; length++) {
                 size_t refused = is_width(width) ? 0 : LESMUTKA_METHOD_OR_WIDTH;
@@ -249,7 +259,7 @@ static void numbers(void) {
     }
     report("recode_wide");
 
-    for (int i = 0; i < 3; i++) {
+    for (int i = 0; i < 4; i++) {
         bytes = number[i];
         for (length = 1; length <= LESMUTKA_NUMBER_BYTES + 1; length++)
             measure(start, length > LESMUTKA_NUMBER_BYTES ? LESMUTKA_NUMBER_TOO_LONG : 0);
@@ -257,7 +267,7 @@ static void numbers(void) {
     measure_refused(start);
     report("start");
 
-    for (int i = 0; i < 3; i++) {
+    for (int i = 0; i < 4; i++) {
         lesmutka_recoder next;
         lesmutka_start(number[i], LESMUTKA_NUMBER_BYTES, &next);
         uint32_t digit;
@@ -271,10 +281,10 @@ static void numbers(void) {
 
     /* Every method and width, also those that are none; numbers of every length, since short ones take other ways. */
     for (int forecasts = 0; forecasts < 2; forecasts++) {
-        for (int i = 0; i < 3; i++) {
+        for (int i = 0; i < 4; i++) {
             bytes = number[i];
             for (length = 1; length <= LESMUTKA_NUMBER_BYTES; length++)
-                for (method = 0; method <= LESMUTKA_WIDE_NAF + 1; method++)
+                for (method = 0; method <= LESMUTKA_MODIFIED_NAF + 1; method++)
                     for (width = 0; width <= LESMUTKA_LARGEST_WIDTH + 1; width++) {
                         int allowed = is_choice(method, width);
                         room = sizeof out;
@@ -360,7 +370,7 @@ static void checks(void) {
     for (int i = 0; i < 2; i++) {
         memset(number, i == 0 ? 0xff : 0x6d, sizeof number);
         length = sizeof number;
-        for (uint32_t by = LESMUTKA_BINARY; by <= LESMUTKA_WIDE_NAF; by++)
+        for (uint32_t by = LESMUTKA_BINARY; by <= LESMUTKA_MODIFIED_NAF; by++)
             for (uint32_t bits = 0; bits <= LESMUTKA_LARGEST_WIDTH; bits++) {
                 lesmutka_counts counts = lesmutka_plan(number, length, by, bits, steps, sizeof steps);
                 if (counts.refusal != 0)

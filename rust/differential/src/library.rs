@@ -44,6 +44,11 @@ pub fn recode_words(number: &[u8], out: &mut [u8]) -> Result<usize, Refusal> {
     refused(answer.refusal, answer.place, &[answer.length]).map(|_| answer.length)
 }
 
+pub fn recode_modified(number: &[u8], out: &mut [u8]) -> Result<usize, Refusal> {
+    let answer = sys::recode_modified(number, out);
+    refused(answer.refusal, answer.place, &[answer.length]).map(|_| answer.length)
+}
+
 pub fn recode_wide(number: &[u8], width: u32, out: &mut [u8]) -> Result<usize, Refusal> {
     let answer = sys::recode_wide(number, width, out);
     refused(answer.refusal, answer.place, &[answer.length]).map(|_| answer.length)

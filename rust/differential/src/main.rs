@@ -8,7 +8,7 @@ use lesmutka::sys;
 use memory::Lent;
 use reference::generate::{
     below_power_of_two, bit_length, bits_by_sign, corners, hidden_doublings, largest_of, methods, mixed_words,
-    one_bit_apart, trimmed, Generator, Rng, NO_NAF_WIDTHS,
+    modified_corners, one_bit_apart, trimmed, Generator, Rng, NO_NAF_WIDTHS,
 };
 use reference::refusal::{HIGHEST_BYTE_IS_ZERO, LAST, MALFORMED_STEP, WRONG_END};
 use reference::{limits, Refusal};
@@ -59,7 +59,7 @@ impl Tally {
     /// another, was not tested.
     fn print(&self, refusals: &[usize]) {
         print!(
-            "{:<14} {:>7} cases: {:>6} answered",
+            "{:<15} {:>7} cases: {:>6} answered",
             self.call,
             self.cases(),
             self.answered
@@ -217,6 +217,77 @@ fn recode(cases: &mut Generator, rng: &mut Rng) -> [Tally; 3] {
         recode_one(rng, &mut tallies, &number, room.saturating_sub(1));
     }
     tallies
+}
+
+/// Around the borders of the modified form, for each number of bits.
+fn all_modified_corners() -> impl Iterator<Item = Vec<u8>> {
+    (1..=limits::NUMBER_BITS).flat_map(modified_corners)
+}
+
+/// The forms of a number that are written agree, by the library alone: of the modified form clean makes what recode
+/// writes, and read back makes the number.
+fn both_forms(number: &[u8]) {
+    let mut form = [0; limits::RECODE_ROOM];
+    let length = match library::recode_modified(number, &mut form) {
+        Ok(length) => length,
+        Err(_) => return,
+    };
+    let (mut naf, mut cleaned) = ([0; limits::RECODE_ROOM], [0; limits::RECODE_ROOM]);
+    let recoded = library::recode(number, &mut naf);
+    if library::clean(&form[..length], &mut cleaned) != recoded || cleaned != naf {
+        differ("modified", "what clean makes of it and what recode writes", &number);
+    }
+    let mut size = [0; limits::NUMBER_BYTES];
+    let value = library::read_back(&form[..length], &mut size);
+    if value != Ok((0, number.len())) || size[..number.len()] != *number {
+        differ("modified", "the number and what is read back", &number);
+    }
+}
+
+/// Beside the reference; what is written goes through the library's clean and read back.
+fn recode_modified(cases: &mut Generator, rng: &mut Rng) -> Tally {
+    let mut tally = Tally::new("recode modified");
+    let mut one = |rng: &mut Rng, number: &[u8], room: usize| {
+        let number = Lent::holding(rng, number);
+        let lent = Lent::noise(rng, room);
+        compare(
+            &mut tally,
+            &[&number],
+            &lent,
+            |out| library::recode_modified(number.part(), out),
+            |out| reference::recode_modified(number.part(), out),
+        );
+        both_forms(number.part());
+    };
+    for _ in 0..CASES {
+        let case = cases.recode_modified_case();
+        one(rng, &case.number, case.room);
+    }
+    for number in padded() {
+        one(rng, &number, 0);
+        one(rng, &number, limits::RECODE_ROOM);
+    }
+    let needed = |number: &[u8]| reference::recode_modified(number, &mut [0; limits::RECODE_ROOM]).expect("a number");
+    // Each room up to one more than is needed.
+    for number in (0..=limits::NUMBER_BYTES).flat_map(corners) {
+        for room in 0..=needed(&number) + 1 {
+            one(rng, &number, room);
+        }
+    }
+    // Just the room, a byte more and a byte less.
+    for number in all_modified_corners() {
+        let room = needed(&number);
+        for room in room - 1..=room + 1 {
+            one(rng, &number, room);
+        }
+    }
+    for number in mixed_words(NUMBER_WORDS as u32) {
+        one(rng, &number, needed(&number));
+    }
+    for number in 1..1u32 << 14 {
+        one(rng, trimmed(&number.to_le_bytes()), limits::RECODE_ROOM);
+    }
+    tally
 }
 
 /// A highest byte of zero at every length, also where that is too long. Below it: zeros, a 1, all ones, a
@@ -444,7 +515,7 @@ fn plan(cases: &mut Generator, rng: &mut Rng) -> Tally {
         plan_one(rng, &mut tally, &number, method, width, lesmutka::PLAN_ROOM);
     }
     for number in padded() {
-        for (method, width) in [(4, 0), (2, 6), (5, 8), (0, 0)] {
+        for (method, width) in [(4, 0), (2, 6), (5, 8), (6, 0), (0, 0)] {
             plan_one(rng, &mut tally, &number, method, width, lesmutka::PLAN_ROOM);
             plan_one(rng, &mut tally, &number, method, width, 0);
         }
@@ -453,7 +524,16 @@ fn plan(cases: &mut Generator, rng: &mut Rng) -> Tally {
         plan_one(rng, &mut tally, &number, 5, width, lesmutka::PLAN_ROOM);
     }
     for width in widths() {
-        plan_one(rng, &mut tally, &[43], 5, width, lesmutka::PLAN_ROOM);
+        for method in [5, 6, 7] {
+            plan_one(rng, &mut tally, &[43], method, width, lesmutka::PLAN_ROOM);
+        }
+    }
+    // Just the room, and a byte less.
+    for number in all_modified_corners() {
+        let steps = reference::forecast(&number, 6, 0).expect("a number").total();
+        let room = lesmutka::STEP_BYTES * steps;
+        plan_one(rng, &mut tally, &number, 6, 0, room);
+        plan_one(rng, &mut tally, &number, 6, 0, room.saturating_sub(1));
     }
     tally
 }
@@ -490,7 +570,7 @@ fn forecast(cases: &mut Generator, rng: &mut Rng) -> Tally {
         forecast_one(rng, &mut tally, &number, method, width);
     }
     for number in padded() {
-        for (method, width) in [(4, 0), (2, 6), (5, 8), (0, 0)] {
+        for (method, width) in [(4, 0), (2, 6), (5, 8), (6, 0), (0, 0)] {
             forecast_one(rng, &mut tally, &number, method, width);
         }
     }
@@ -498,7 +578,12 @@ fn forecast(cases: &mut Generator, rng: &mut Rng) -> Tally {
         forecast_one(rng, &mut tally, &number, 5, width);
     }
     for width in widths() {
-        forecast_one(rng, &mut tally, &[43], 5, width);
+        for method in [5, 6, 7] {
+            forecast_one(rng, &mut tally, &[43], method, width);
+        }
+    }
+    for number in all_modified_corners() {
+        forecast_one(rng, &mut tally, &number, 6, 0);
     }
     // Method 1 counts ones by words: each bit alone below the top one, for every length.
     for bytes in 1..=lesmutka::NUMBER_BYTES {
@@ -881,6 +966,7 @@ fn main() {
     let [wide, width_two] = recode_wide(cases, rng);
     wide.print(&[1, 3, 6, 13]);
     width_two.print(&[1, 6, 13]);
+    recode_modified(cases, rng).print(&[1, 6, 13]);
     take(cases, rng).print(&[1, 13]);
     clean(cases, rng).print(&[4, 5, 6]);
     clean_wide(cases, rng).print(&[3, 4, 5, 6]);

@@ -3,6 +3,7 @@
 //
 //     recode ROOM NUMBER
 //     bywords ROOM NUMBER
+//     mrecode ROOM NUMBER
 //     take TIMES NUMBER
 //     clean ROOM DIGITS
 //     readback ROOM DIGITS
@@ -44,6 +45,7 @@ use lesmutka::lesmutka_read_back_wide;
 use lesmutka::lesmutka_read_digits;
 use lesmutka::lesmutka_read_steps;
 use lesmutka::lesmutka_recode;
+use lesmutka::lesmutka_recode_modified;
 use lesmutka::lesmutka_recode_wide;
 use lesmutka::lesmutka_recode_words;
 use lesmutka::lesmutka_start;
@@ -72,6 +74,8 @@ const ROOM_BYTES: usize = RECORD_BYTES * (PLAN_STEPS + 2);
 const RECODE: u64 = 0x7265636f6465;
 
 const BYWORDS: u64 = 0x6279776f726473;
+
+const MRECODE: u64 = 0x6d7265636f6465;
 
 const TAKE: u64 = 0x74616b65;
 
@@ -202,6 +206,7 @@ fn made(name: u64, input: &[u8], plan: &[u8], method: u32, width: u32, out: &mut
     match name {
         RECODE => of_length(lesmutka_recode(input, out)),
         BYWORDS => of_length(lesmutka_recode_words(input, out)),
+        MRECODE => of_length(lesmutka_recode_modified(input, out)),
         CLEAN => of_length(lesmutka_clean(input, out)),
         READBACK => of_value(lesmutka_read_back(input, out)),
         WRECODE => of_length(lesmutka_recode_wide(input, method, out)),

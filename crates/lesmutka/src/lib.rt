@@ -18,6 +18,7 @@ ghost use Rattle.recoding.specs.Recode.{recodeAnswer, recodeBuffer};
 ghost use Rattle.taking.specs.Take.{startAnswer, startNumber};
 ghost use Rattle.cleaning.specs.Clean.{cleanAnswer, cleanBuffer};
 ghost use Rattle.reading.specs.ReadBack.{readBackAnswer, readBackBuffer};
+ghost use Rattle.recoding_modified.specs.RecodeModified.{recodeModifiedAnswer, recodeModifiedBuffer};
 ghost use Rattle.recoding_wide.specs.RecodeWide.{recodeWideAnswer, recodeWideBuffer};
 ghost use Rattle.cleaning_wide.specs.CleanWide.{cleanWideAnswer, cleanWideBuffer};
 ghost use Rattle.reading_wide.specs.ReadBackWide.{readBackWideAnswer, readBackWideBuffer};
@@ -47,6 +48,15 @@ pub extern "C" fn lesmutka_recode_words(number: &[u8], out: &mut [u8]) -> Length
     ensures buffer { λ r. ⌜ now (out .exit) ≡ recodeBuffer (now (number .entry)) (now (out .entry)) ⌝ }
 {
     c_answers::of_written(recoding_words::recode_words(number, out))
+}
+
+// Writes the modified form of a number.
+#[no_mangle]
+pub extern "C" fn lesmutka_recode_modified(number: &[u8], out: &mut [u8]) -> Length
+    ensures answer { λ r. ⌜ r ≡ writtenFields (recodeModifiedAnswer (now (number .entry)) (length (now (out .entry)))) ⌝ }
+    ensures buffer { λ r. ⌜ now (out .exit) ≡ recodeModifiedBuffer (now (number .entry)) (now (out .entry)) ⌝ }
+{
+    c_answers::of_written(recoding_modified::recode_modified(number, out))
 }
 
 // Starts taking the digits of a number, in a recoder that the caller keeps.

@@ -137,6 +137,7 @@ impl Desk {
             _ => {
                 let answer = match request.width() {
                     Some(width) => lesmutka::recode_wide(number, width.value, &mut self.digits),
+                    None if request.is_modified() => lesmutka::recode_modified(number, &mut self.digits),
                     None => lesmutka::recode_words(number, &mut self.digits),
                 };
                 Ok(answer.map_or_else(Answer::from, Answer::Digits))

@@ -209,7 +209,7 @@ fn request<'a>(words: &'a mut Words<'a>, force: bool) -> Result<Request<'a>, Fau
     words.check_unknown()?;
     if words.json || words.dot || words.help || words.version {
         return Err(Fault::Malformed(
-            "of the options a line takes --force and --width alone".to_string(),
+            "of the options a line takes --force, --width and --modified alone".to_string(),
         ));
     }
     if let Some(&verb) = words.plain.first() {

@@ -25,10 +25,14 @@ const WORDS: [(&str, &str); 5] = [
     ),
 ];
 
-const OPTIONS: [(&str, &str); 7] = [
+const OPTIONS: [(&str, &str); 8] = [
     (
         "--width=W",
         "recode, clean, read-back: in the wide form, the NAF of width W",
+    ),
+    (
+        "--modified",
+        "recode: in the modified form, the NAF with 1 1 for a leading 1 0 -1",
     ),
     ("--json", "one object a line, the same fields everywhere"),
     ("--force", "plan ... to FILE replaces a file that is there"),
@@ -46,8 +50,8 @@ program failed; of a batch, the highest.
 const BATCH: &str = "\
 Each answer begins with the number of its line. A word that begins with #
 begins a comment; a line without words has no answer. --json and --force on
-the command line are for all lines; --force and --width may stand on a line. A
-closing line on standard error says how many requests there were.
+the command line are for all lines; --force, --width and --modified may stand
+on a line. A closing line on standard error says how many requests there were.
 ";
 
 fn put_words(out: &mut Vec<u8>, is_meant: impl Fn(&str) -> bool) {

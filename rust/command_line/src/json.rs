@@ -96,6 +96,8 @@ impl<'a> Fields<'a> {
             Some(digits) => out.extend_from_slice(digits),
             None => put_number(u64::from(width.value), out),
         });
+        out.extend_from_slice(b",\"form\":");
+        put_or_null(self.about.form, out, put_text);
         out.extend_from_slice(b",\"digits\":");
         put_or_null(self.digits, out, |digits, out| {
             in_list(out, |out| put_digits(digits, b",", out))

@@ -119,13 +119,15 @@ impl Form {
     }
 }
 
-/// What an answer is about: a number, and the method or the width that is asked for.
+/// What an answer is about: a number, and the method or the form that is asked for.
 #[derive(Clone, Copy, Default)]
 pub struct About<'a> {
     pub number: Option<&'a [u8]>,
     pub choice: Option<Choice<'a>>,
     /// The width of the wide form.
     pub width: Option<Small<'a>>,
+    /// The name of a form that has one.
+    pub form: Option<&'static str>,
 }
 
 impl<'a> About<'a> {
@@ -134,6 +136,7 @@ impl<'a> About<'a> {
             number: answered.number,
             choice: request.choice(),
             width: request.width(),
+            form: if request.is_modified() { Some("modified") } else { None },
         }
     }
 
@@ -149,6 +152,10 @@ impl<'a> About<'a> {
         if let Some(width) = self.width {
             out.extend_from_slice(if self.number.is_some() { b", width " } else { b"width " });
             put_small(width, out);
+        }
+        if let Some(form) = self.form {
+            out.extend_from_slice(b", ");
+            out.extend_from_slice(form.as_bytes());
         }
         if self.number.is_some() || self.width.is_some() {
             out.extend_from_slice(b": ");
@@ -218,7 +225,7 @@ pub fn put_methods(json: bool, out: &mut Vec<u8>) {
         return;
     }
     for method in methods() {
-        let _ = writeln!(out, "{}  {:<8} {}", method.number(), method.name(), widths(method));
+        let _ = writeln!(out, "{}  {:<12} {}", method.number(), method.name(), widths(method));
     }
 }
 

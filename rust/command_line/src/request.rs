@@ -28,7 +28,7 @@ impl Verb {
 pub static VERBS: [Verb; 9] = [
     Verb {
         name: "recode",
-        words: "NUMBER [--width=W]",
+        words: "NUMBER [--width=W | --modified]",
         most: 2,
         about: "the canonical digits of a number, its non-adjacent form (NAF)",
     },
@@ -94,6 +94,7 @@ pub struct Words<'a> {
     pub json: bool,
     pub force: bool,
     pub dot: bool,
+    pub modified: bool,
     pub help: bool,
     pub version: bool,
     /// What stands behind each `--width=`.
@@ -114,6 +115,7 @@ impl<'a> Words<'a> {
                 b"--json" if options => words.json = true,
                 b"--force" if options => words.force = true,
                 b"--dot" if options => words.dot = true,
+                b"--modified" if options => words.modified = true,
                 _ if options && word.starts_with(b"--") => match word.strip_prefix(b"--width=") {
                     Some(width) => words.widths.push(width),
                     None => words.unknown = words.unknown.or(Some(word)),
@@ -145,6 +147,7 @@ impl<'a> Words<'a> {
             ("--force", self.force, "`plan ... to FILE`"),
             ("--dot", self.dot, "`show`"),
             ("--width", !self.widths.is_empty(), "`recode`, `clean` and `read-back`"),
+            ("--modified", self.modified, "`recode`"),
         ];
         match given
             .iter()
@@ -178,6 +181,8 @@ pub enum Request<'a> {
     Recode {
         number: &'a [u8],
         width: Option<Small<'a>>,
+        /// Without a width, in the modified form.
+        modified: bool,
     },
     Clean {
         digits: &'a [&'a [u8]],
@@ -211,7 +216,8 @@ impl<'a> Request<'a> {
     pub fn new(words: &'a Words<'a>) -> Result<Request<'a>, Fault> {
         let request = Request::read(words)?;
         words.check_options(match request {
-            Request::Recode { .. } | Request::Clean { .. } | Request::ReadBack { .. } => &["--width"],
+            Request::Recode { .. } => &["--width", "--modified"],
+            Request::Clean { .. } | Request::ReadBack { .. } => &["--width"],
             Request::Plan { file: Some(_), .. } => &["--force"],
             Request::Show { .. } => &["--dot"],
             _ => &[],
@@ -219,6 +225,11 @@ impl<'a> Request<'a> {
         if words.dot && words.json {
             return Err(Fault::Malformed(
                 "--dot and --json are two forms of one answer".to_string(),
+            ));
+        }
+        if request.is_modified() && request.width().is_some() {
+            return Err(Fault::Malformed(
+                "--modified and --width are two forms of the digits; ask for one".to_string(),
             ));
         }
         if words.json && request.is_to_standard_output() {
@@ -233,6 +244,7 @@ impl<'a> Request<'a> {
             [b"recode", number] => Ok(Request::Recode {
                 number,
                 width: words.width()?,
+                modified: words.modified,
             }),
             [b"clean", digits @ ..] => Ok(Request::Clean {
                 digits,
@@ -289,6 +301,11 @@ impl<'a> Request<'a> {
             Request::Recode { width, .. } | Request::Clean { width, .. } | Request::ReadBack { width, .. } => *width,
             _ => None,
         }
+    }
+
+    /// Whether the modified form is asked for.
+    pub fn is_modified(&self) -> bool {
+        matches!(self, Request::Recode { modified: true, .. })
     }
 
     /// The file that is written or read, if one is.

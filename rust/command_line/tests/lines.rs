@@ -33,10 +33,20 @@ fn request(rng: &mut Rng) -> String {
         ),
     };
     let (method, width) = match rng.below(4) {
-        0 => (rng.below(7) as u32, rng.below(11) as u32),
+        0 => (rng.below(8) as u32, rng.below(11) as u32),
         _ => rng.pick(&methods()),
     };
-    let name = ["0", "binary", "fixed", "sliding", "naf", "wide-naf", "6"][method as usize];
+    let names = [
+        "0",
+        "binary",
+        "fixed",
+        "sliding",
+        "naf",
+        "wide-naf",
+        "modified-naf",
+        "7",
+    ];
+    let name = names[method as usize];
     let method = match (rng.one_in(2), width) {
         (true, 0) => name.to_string(),
         (true, _) => format!("{} {}", name, width),
@@ -49,7 +59,7 @@ fn request(rng: &mut Rng) -> String {
     };
     let (plain, wide) = (digits(&PLAIN_DIGITS), digits(&WIDE_DIGITS));
     let width = rng.below(11);
-    match rng.below(8) {
+    match rng.below(9) {
         0 => format!("recode {}", number),
         1 => format!("clean {}", plain),
         2 => format!("read-back {}", plain),
@@ -57,6 +67,7 @@ fn request(rng: &mut Rng) -> String {
         4 => format!("forecast {} {}", number, method),
         5 => format!("recode {} --width={}", number, width),
         6 => format!("clean --width={} {}", width, wide),
+        7 => format!("recode --modified {}", number),
         _ => format!("read-back {} --width={}", wide, width),
     }
 }
@@ -288,6 +299,11 @@ fn what_a_line_cannot_ask_for() {
         "recode 1 --width=",
         "plan 3 naf --width=4",
         "check 3 x --width=4",
+        "--modified",
+        "recode 1 --modified=1",
+        "recode 1 --modified --width=2",
+        "clean 1 --modified",
+        "plan 3 naf --modified",
     ] {
         let (status, out, _) = batch(line.as_bytes());
         assert_eq!(status, 2, "{}", line);
@@ -315,6 +331,30 @@ fn widths_in_lines() {
     assert_eq!(
         err,
         "lesmutka: 7 requests: 3 answered, 2 refused, 2 malformed (the first on line 6), 0 failed\n"
+    );
+}
+
+/// Each line in its own form: modified, by a width, or neither; not in both.
+#[test]
+fn modified_forms_in_lines() {
+    let (status, out, err) = batch(
+        b"recode 25 --modified\nrecode 25\n--modified recode 27\nrecode 25 --width=2\nrecode 0x0019 --modified\n\
+          recode 2b --modified\nrecode 25 --modified --width=2\nread-back --modified 1 1\nrecode 25 --dot\n",
+    );
+    assert_eq!(
+        out,
+        "1: 0x19, modified: digits: 1 1 0 0 1\n2: 0x19: digits: 1 0 -1 0 0 1\n\
+         3: 0x1b, modified: digits: 1 0 0 -1 0 -1\n4: 0x19, width 2: digits: 1 0 -1 0 0 1\n\
+         5: 0x0019, modified: refused 13, place 0: the highest byte of the number is zero; write 0x19\n\
+         6: malformed: no decimal number: `2b`; if it is hexadecimal, write 0x2b\n\
+         7: malformed: --modified and --width are two forms of the digits; ask for one\n\
+         8: malformed: --modified is for `recode` alone\n\
+         9: malformed: of the options a line takes --force, --width and --modified alone\n"
+    );
+    assert_eq!(status, 2);
+    assert_eq!(
+        err,
+        "lesmutka: 9 requests: 4 answered, 1 refused, 4 malformed (the first on line 6), 0 failed\n"
     );
 }
 

@@ -107,6 +107,29 @@ fn wide_requests_are_stored() {
     }
 }
 
+/// Each refusal that recode can have is stored in the modified form too, and forms that are the NAF and that are not.
+#[test]
+fn modified_requests_are_stored() {
+    let answers: Vec<(&str, &str)> = REQUESTS
+        .lines()
+        .zip(ANSWERS.lines())
+        .filter(|(request, _)| request.contains("--modified"))
+        .collect();
+    for refusal in [1, 13] {
+        let said = format!(", modified: refused {}, place 0: ", refusal);
+        assert!(answers.iter().any(|(_, answer)| answer.contains(&said)), "{}", refusal);
+    }
+    for (request, answer) in [
+        ("recode 0 --modified", "0, modified: digits: none"),
+        ("recode 3 --modified", "0x03, modified: digits: 1 1"),
+        ("recode 25 --modified", "0x19, modified: digits: 1 1 0 0 1"),
+        ("recode 27 --modified", "0x1b, modified: digits: 1 0 0 -1 0 -1"),
+        ("recode --modified 0x2b", "0x2b, modified: digits: 1 1 0 -1 0 -1"),
+    ] {
+        assert!(answers.contains(&(request, answer)), "{}", request);
+    }
+}
+
 /// As a batch: each answer behind the number of its line.
 #[test]
 fn as_a_batch() {
@@ -184,7 +207,16 @@ fn in_words(object: &Json) -> String {
         true => "none".to_string(),
         false => items.join(" "),
     };
+    let form = object.get("form");
+    if form != &Json::Null {
+        assert_eq!(
+            (form, text("request").as_str()),
+            (&Json::Text("modified".to_string()), "recode")
+        );
+        assert_eq!((object.get("method"), object.get("width")), (&Json::Null, &Json::Null));
+    }
     let subject = match (object.get("number"), object.get("method"), object.get("width")) {
+        _ if form != &Json::Null => format!("{}, {}: ", text("number"), text("form")),
         (Json::Null, Json::Null, Json::Null) => String::new(),
         (Json::Null, Json::Null, _) => format!("width {}: ", number("width")),
         (_, Json::Null, Json::Null) => format!("{}: ", text("number")),

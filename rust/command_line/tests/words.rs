@@ -54,22 +54,26 @@ fn help_and_version() {
         assert!(asked(&["help", verb]).1.contains("\n--width=W "), "{}", verb);
     }
     assert!(!asked(&["help", "plan"]).1.contains("--width"));
+    assert!(help.contains("\n--modified ") && asked(&["help", "recode"]).1.contains("\n--modified "));
+    for verb in ["clean", "read-back", "plan"] {
+        assert!(!asked(&["help", verb]).1.contains("--modified"), "{}", verb);
+    }
 }
 
 #[test]
 fn methods() {
     assert_eq!(
         asked(&["methods"]).1,
-        "1  binary   takes no width\n2  fixed    takes a width from 1 to 6\n\
-         3  sliding  takes a width from 1 to 6\n4  naf      takes no width\n\
-         5  wide-naf takes a width from 2 to 8\n"
+        "1  binary       takes no width\n2  fixed        takes a width from 1 to 6\n\
+         3  sliding      takes a width from 1 to 6\n4  naf          takes no width\n\
+         5  wide-naf     takes a width from 2 to 8\n6  modified-naf takes no width\n"
     );
     let objects = asked(&["methods", "--json"]).1;
     let objects: Vec<Json> = objects.lines().map(Json::read).collect();
     let choices = reference::generate::methods();
     assert_eq!(objects.len(), choices.len());
     for (object, (method, width)) in objects.iter().zip(choices) {
-        let name = ["binary", "fixed", "sliding", "naf", "wide-naf"][method as usize - 1];
+        let name = ["binary", "fixed", "sliding", "naf", "wide-naf", "modified-naf"][method as usize - 1];
         assert_eq!(object.get("method"), &Json::Text(name.to_string()));
         assert_eq!(object.get("width"), &Json::Number(i128::from(width)));
     }
@@ -79,7 +83,7 @@ fn methods() {
 #[test]
 fn malformed_requests() {
     const REQUESTS: &str = "(recode, clean, read-back, forecast, plan, check, show, methods, batch)";
-    const METHODS: &str = "(binary, fixed, sliding, naf, wide-naf)";
+    const METHODS: &str = "(binary, fixed, sliding, naf, wide-naf, modified-naf)";
     const NO_NUMBER: &str = "no number, which is decimal, or hexadecimal with 0x: ";
     let told = |words: &[&str], told: String| {
         let folder = Folder::new();
@@ -128,11 +132,11 @@ fn malformed_requests() {
     for (words, what) in [
         (
             &["recode"][..],
-            "words are missing; the form is: recode NUMBER [--width=W]",
+            "words are missing; the form is: recode NUMBER [--width=W | --modified]",
         ),
         (
             &["recode", "4", "3"],
-            "too many words: `3`; the form is: recode NUMBER [--width=W]",
+            "too many words: `3`; the form is: recode NUMBER [--width=W | --modified]",
         ),
         (&["recode", "4", "--width"], "the width is missing; write --width=W"),
         (
@@ -156,6 +160,26 @@ fn malformed_requests() {
             &["batch", "--width=3"],
             "--width is for `recode`, `clean` and `read-back` alone",
         ),
+        (
+            &["recode", "4", "--modified", "--width=3"],
+            "--modified and --width are two forms of the digits; ask for one",
+        ),
+        (
+            &["recode", "--width=9", "--modified", "4", "--json"],
+            "--modified and --width are two forms of the digits; ask for one",
+        ),
+        (
+            &["recode", "4", "--modified", "3"],
+            "too many words: `3`; the form is: recode NUMBER [--width=W | --modified]",
+        ),
+        (&["recode", "4", "--modified=3"], "no such option: `--modified=3`"),
+        (&["clean", "1", "--modified"], "--modified is for `recode` alone"),
+        (
+            &["forecast", "3", "naf", "--modified"],
+            "--modified is for `recode` alone",
+        ),
+        (&["batch", "--modified"], "--modified is for `recode` alone"),
+        (&["--version", "--modified"], "--modified is for `recode` alone"),
         (&["recode", ""], "the number is empty"),
         (&["plan", "", "2", "4", "to", "x"], "the number is empty"),
         (
@@ -268,7 +292,7 @@ fn failures_as_json() {
 #[test]
 fn large_methods_and_widths() {
     let refused = "refused 3, place 0: no such method, or a width that it does not allow";
-    let methods = "the methods are binary (1), fixed (2), sliding (3), naf (4), wide-naf (5)";
+    let methods = "the methods are binary (1), fixed (2), sliding (3), naf (4), wide-naf (5), modified-naf (6)";
     let widths = "sliding takes a width from 1 to 6";
     for number in ["4294967295", "4294967300", "99999999999999999999999"] {
         let out = asked(&["forecast", "43", number]).1;
@@ -358,6 +382,46 @@ fn wide_digits() {
     let out = asked(&["clean", "1", "--", "--width=8", "1"]).1;
     let digits = "the digits are 0, 1 and -1; ";
     assert_eq!(out, format!("{}{}it is `--width=8`\n", refused, digits));
+}
+
+/// The option may stand anywhere, and more than once; behind `--` it is a word like any other. The answer names the form,
+/// in words and as JSON, whose field is null for the other forms.
+#[test]
+fn the_modified_form() {
+    let answer = "0x2b, modified: digits: 1 1 0 -1 0 -1\n";
+    for words in [
+        &["recode", "43", "--modified"][..],
+        &["recode", "--modified", "43"],
+        &["--modified", "recode", "0x2b"],
+        &["recode", "43", "--modified", "--modified"],
+    ] {
+        assert_eq!(asked(words), (0, answer.to_string(), String::new()));
+    }
+    assert_eq!(asked(&["recode", "0", "--modified"]).1, "0, modified: digits: none\n");
+    assert_eq!(asked(&["read-back", "1 1 0 -1 0 -1"]).1, "value: 0x2b\n");
+    assert_eq!(asked(&["clean", "1 1 0 -1 0 -1"]).1, "digits: 1 0 -1 0 -1 0 -1\n");
+    let (status, _, err) = asked(&["recode", "--", "43", "--modified"]);
+    assert_eq!(status, 2);
+    assert!(err.starts_with("lesmutka: too many words: `--modified`; "), "{}", err);
+
+    let object = Json::read(asked(&["recode", "25", "--modified", "--json"]).1.trim_end());
+    assert_eq!(object.get("request"), &Json::Text("recode".to_string()));
+    assert_eq!(object.get("form"), &Json::Text("modified".to_string()));
+    assert_eq!((object.get("method"), object.get("width")), (&Json::Null, &Json::Null));
+    assert_eq!(
+        object.get("digits"),
+        &Json::List([1, 1, 0, 0, 1].map(Json::Number).to_vec())
+    );
+    for words in [
+        &["recode", "25", "--json"][..],
+        &["recode", "25", "--width=2", "--json"],
+        &["forecast", "25", "modified-naf", "--json"],
+        &["recode", "2b", "--modified", "--json"],
+    ] {
+        let object = Json::read(asked(words).1.trim_end());
+        let is_asked = words.contains(&"--modified");
+        assert_eq!(object.get("form") == &Json::Null, !is_asked, "{:?}", words);
+    }
 }
 
 /// A hexadecimal number has no leading zero byte; a refusal says how it is written, and that is taken.

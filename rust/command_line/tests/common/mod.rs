@@ -3,7 +3,8 @@
 use reference::limits::*;
 use reference::text::words;
 use reference::{
-    check, clean, clean_wide, forecast, plan, read_back, read_back_wide, recode, recode_wide, text, Counts, Refusal,
+    check, clean, clean_wide, forecast, plan, read_back, read_back_wide, recode, recode_modified, recode_wide, text,
+    Counts, Refusal,
 };
 use std::collections::HashMap;
 use std::fs;
@@ -167,7 +168,14 @@ pub fn shown(bytes: &[u8]) -> String {
     }
 }
 
-const METHODS: [(&str, u32); 5] = [("binary", 1), ("fixed", 2), ("sliding", 3), ("naf", 4), ("wide-naf", 5)];
+const METHODS: [(&str, u32); 6] = [
+    ("binary", 1),
+    ("fixed", 2),
+    ("sliding", 3),
+    ("naf", 4),
+    ("wide-naf", 5),
+    ("modified-naf", 6),
+];
 
 /// A method or a width, and its digits; one that has no room is the highest.
 fn small(word: &str) -> (u32, &str) {
@@ -290,8 +298,9 @@ fn refused_word(refusal: Refusal, asked: Asked, word: Option<&str>) -> String {
         (3, Asked::Method(3)) => format!("sliding takes a width from 1 to {}", WINDOW_WIDTHS.end()),
         (3, Asked::Method(4)) => "naf takes no width".to_string(),
         (3, Asked::Method(5)) => "wide-naf takes a width from 2 to 8".to_string(),
+        (3, Asked::Method(6)) => "modified-naf takes no width".to_string(),
         (3, Asked::Method(_)) => {
-            "the methods are binary (1), fixed (2), sliding (3), naf (4), wide-naf (5)".to_string()
+            "the methods are binary (1), fixed (2), sliding (3), naf (4), wide-naf (5), modified-naf (6)".to_string()
         }
         (3, _) => "a NAF has a width from 2 to 8".to_string(),
         (4, Asked::Width(width)) => {
@@ -355,11 +364,27 @@ fn expected_wide(words: &[&str], (width, shown_width): (u32, &str)) -> String {
     }
 }
 
+/// The answer to a number that is recoded in the modified form, which is named in front.
+fn expected_modified(words: &[&str]) -> String {
+    assert_eq!((words[0], words.len()), ("recode", 2));
+    let mut out = [0; RECODE_ROOM];
+    let number = number(words[1]);
+    let answer = match recode_modified(&number, &mut out) {
+        Ok(length) => digits(&out[..length]),
+        Err(refusal) => refused(refusal, &number, Asked::Nothing),
+    };
+    format!("{}, modified: {}", shown(&number), answer)
+}
+
 /// The answer to a request that is well formed, by `reference`; a plan may go into a file.
 pub fn expected(words: &[&str], files: &mut HashMap<String, Vec<u8>>) -> String {
-    let (words, width) = split_width(words);
+    let (mut words, width) = split_width(words);
     if let Some(width) = width {
         return expected_wide(&words, width);
+    }
+    if words.contains(&"--modified") {
+        words.retain(|word| *word != "--modified");
+        return expected_modified(&words);
     }
     let mut out = [0; PLAN_ROOM];
     match words[0] {

@@ -12,7 +12,7 @@ const RUNS: usize = 5;
 /// A request as it is written for a number, least significant byte first.
 type Request = fn(&[u8]) -> String;
 
-const REQUESTS: [(&str, Request); 8] = [
+const REQUESTS: [(&str, Request); 9] = [
     ("forecast 0x.. binary", |number| {
         format!("forecast {} binary", hexadecimal(number))
     }),
@@ -32,6 +32,9 @@ const REQUESTS: [(&str, Request); 8] = [
     ("recode 0x..", |number| format!("recode {}", hexadecimal(number))),
     ("recode 0x.. --width=5", |number| {
         format!("recode {} --width=5", hexadecimal(number))
+    }),
+    ("recode 0x.. --modified", |number| {
+        format!("recode {} --modified", hexadecimal(number))
     }),
 ];
 

@@ -6,9 +6,11 @@
 //! safe Rust. For take, whose work is as small as its call, there is a plain side that was made as
 //! fast as its author could, called and inlined (`tuned`). For forecasts by method 1, which are as
 //! short, there are tables of their own (`forecasts`), and for recodings, beside several plain programs
-//! (`recodings`, and `wide` for those in the wide form).
+//! (`recodings`, and `wide` for those in the wide form). In the modified form, too, there is a plain side that is tuned
+//! (`modified`).
 mod forecasts;
 mod lines;
+mod modified;
 mod recodings;
 mod tuned;
 mod ways;
@@ -26,12 +28,13 @@ const ROUNDS: usize = 400;
 const SIZES: [usize; 2] = [32, lesmutka::NUMBER_BYTES];
 
 /// The methods, each with a width that it allows.
-const METHODS: [(&str, u32, u32); 5] = [
+const METHODS: [(&str, u32, u32); 6] = [
     ("binary", 1, 0),
     ("fixed windows 4", 2, 4),
     ("sliding windows 4", 3, 4),
     ("NAF", 4, 0),
     ("wide NAF 5", 5, WIDTH),
+    ("modified NAF", 6, 0),
 ];
 
 /// The width of the digit strings in the wide form, and those by which numbers are recoded into it.
@@ -245,6 +248,13 @@ fn agree(inputs: &Inputs, i: usize) {
         a.fill(0);
         b.fill(0);
     }
+    for plain in [reference::recode_modified, modified::recode] {
+        let length = sys::recode_modified(number, &mut a);
+        assert_eq!(Ok(length.length), plain(number, &mut b));
+        assert_eq!(a, b);
+        a.fill(0);
+        b.fill(0);
+    }
     assert_eq!(proved_takes(number), plain_takes(number));
     assert_eq!(proved_takes(number), tuned_takes(number, tuned::Recoder::take));
     let length = sys::clean(string, &mut a);
@@ -272,6 +282,8 @@ fn agree(inputs: &Inputs, i: usize) {
         assert_eq!(Ok(counts(forecast)), reference::plan(number, method, width, &mut b));
         assert_eq!(Ok(counts(forecast)), reference::forecast(number, method, width));
     }
+    let forecast = sys::forecast(number, 6, 0);
+    assert_eq!(Ok(counts(forecast)), modified::forecast(number));
     let checked = sys::check(number, plan, &mut a);
     assert_eq!(Ok(accepted(checked)), reference::check(number, plan, &mut b));
     assert_eq!(a, b);
@@ -323,6 +335,18 @@ fn jobs(inputs: &Inputs) -> Vec<Job<'_>> {
         "recode by words",
         move |i| keep(&sys::recode_words(&numbers[i], &mut a)),
         move |i| keep(&reference::recode(&numbers[i], &mut b)),
+    ));
+    let (mut a, mut b) = (vec![0; ROOM], vec![0; ROOM]);
+    jobs.push(Job::new(
+        "recode modified",
+        move |i| keep(&sys::recode_modified(&numbers[i], &mut a)),
+        move |i| keep(&reference::recode_modified(&numbers[i], &mut b)),
+    ));
+    let (mut a, mut b) = (vec![0; ROOM], vec![0; ROOM]);
+    jobs.push(Job::new(
+        "same, plain one tuned",
+        move |i| keep(&sys::recode_modified(&numbers[i], &mut a)),
+        move |i| keep(&modified::recode(&numbers[i], &mut b)),
     ));
     jobs.push(Job::new(
         "take, all digits",
@@ -396,6 +420,11 @@ fn jobs(inputs: &Inputs) -> Vec<Job<'_>> {
             move |i| keep(&reference::forecast(&numbers[i], method, width)),
         ));
     }
+    jobs.push(Job::new(
+        "same, plain one tuned",
+        move |i| keep(&sys::forecast(&numbers[i], 6, 0)),
+        move |i| keep(&modified::forecast(&numbers[i])),
+    ));
     let (mut a, mut b) = (vec![0; SPACE], vec![0; SPACE]);
     jobs.push(Job::new(
         &format!("check, {} steps", plans[0].len() / lesmutka::STEP_BYTES),

@@ -47,14 +47,14 @@ pub fn words_of<const N: usize>(number: &[u8]) -> [u64; N] {
 
 /// The digits of a number by words: they are not 0 where 3e and e differ, one place up, and minus 1 where
 /// it is e that has the one.
-struct ByWords {
+pub struct ByWords {
     single: [u64; NUMBER_WORDS + 2],
     differ: [u64; NUMBER_WORDS + 2],
-    length: usize,
+    pub length: usize,
 }
 
 impl ByWords {
-    fn of(number: &[u8]) -> ByWords {
+    pub fn of(number: &[u8]) -> ByWords {
         let single = words_of(number);
         let mut differ = single;
         let (mut below, mut carry, mut length) = (0, 0, 0);
@@ -77,6 +77,22 @@ impl ByWords {
         let one_down = |words: &[u64]| words[i] >> 1 | words[i + 1] << 63;
         let nonzero = one_down(&self.differ);
         (nonzero, nonzero & one_down(&self.single))
+    }
+
+    pub fn is_minus_one(&self, place: usize) -> bool {
+        let (_, minus) = self.nonzero_and_minus(place / 64);
+        minus >> (place % 64) & 1 == 1
+    }
+
+    /// How many digits are not 0, and how many are minus 1.
+    pub fn count(&self) -> (usize, usize) {
+        let (mut nonzero, mut minus) = (0, 0);
+        for i in 0..=NUMBER_WORDS {
+            let (these, minus_these) = self.nonzero_and_minus(i);
+            nonzero += these.count_ones() as usize;
+            minus += minus_these.count_ones() as usize;
+        }
+        (nonzero, minus)
     }
 }
 
@@ -134,10 +150,17 @@ const fn spread() -> [u64; 256] {
 /// Eight digits from a byte each of the two, by a table.
 #[inline(never)]
 fn eight_digits(number: &[u8], out: &mut [u8]) -> Result<usize, Refusal> {
-    const ONES: u64 = u64::MAX / 0xFF;
     admitted(number)?;
     let by_words = ByWords::of(number);
-    for (i, digits) in room(out, by_words.length)?.chunks_mut(64).enumerate() {
+    write_eight_at_once(&by_words, room(out, by_words.length)?);
+    Ok(by_words.length)
+}
+
+/// The digits from the lowest on, as many as there is room for.
+#[inline(always)]
+pub fn write_eight_at_once(by_words: &ByWords, out: &mut [u8]) {
+    const ONES: u64 = u64::MAX / 0xFF;
+    for (i, digits) in out.chunks_mut(64).enumerate() {
         let (nonzero, minus) = by_words.nonzero_and_minus(i);
         let eight = |place: usize| {
             let spread = |word: u64| SPREAD[(word >> place & 0xFF) as usize];
@@ -154,7 +177,6 @@ fn eight_digits(number: &[u8], out: &mut [u8]) -> Result<usize, Refusal> {
             rest.copy_from_slice(&eight(place)[..rest.len()]);
         }
     }
-    Ok(by_words.length)
 }
 
 // One digit at a time is taken off a number within the limit, which is then halved. Each answers how many

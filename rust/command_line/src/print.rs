@@ -224,8 +224,10 @@ pub fn put_methods(json: bool, out: &mut Vec<u8>) {
         }
         return;
     }
+    let longest = methods().map(|method| method.name().len()).max().unwrap_or(0);
     for method in methods() {
-        let _ = writeln!(out, "{}  {:<12} {}", method.number(), method.name(), widths(method));
+        let (number, name) = (method.number(), method.name());
+        let _ = writeln!(out, "{}  {:<width$} {}", number, name, widths(method), width = longest);
     }
 }
 

@@ -13,7 +13,7 @@ use Rattle.signed_digits.proofs.Exists.{naf-value, naf-form}
 use Rattle.signed_digits.proofs.Unique.{naf-only}
 
 -- 1 and -1 are the odd digits of width 2
-odd-bit : (d : ℤ) → natAbs d ≤ 1 → d ≢ pos 0 → OddDigit 2 d
+pub odd-bit : (d : ℤ) → natAbs d ≤ 1 → d ≢ pos 0 → OddDigit 2 d
 odd-bit d h n = let m : natAbs d ≢ 0 = λ e. n (omega (arith, from-parts, size-parts d)) in omega arith
 
 module _ (ds : List ℤ) where

@@ -38,6 +38,22 @@ module _ (w : ℕ) (digits : List ℕ) (room : ℕ) where
   pub outcome-is : outcome ≡ string.outcome (values digits) w digits (sizeBytes digits) room
   outcome-is = with-sign (signOf (stringValue digits)) (readLengthOf w digits room)
 
+-- ---- a digit string whose value is that of an admitted number
+
+module _ (w : ℕ) (number : List ℕ) (bytes : Below 256 number) (admitted : Admitted number) (digits : List ℕ) (string-is : DigitString w digits) (v : stringValue digits ≡ pos (bytesValue number)) where
+  -- read back with room enough, it gives the number's own bytes
+  pub reads-number : (out : List ℕ) → length number ≤ length out
+      → (outcome w digits (length out) ≡ answered (0 ∷ length number ∷ [])) × (readBufferOf w digits out ≡ number ++ drop (length number) out)
+  unfolding sizeBytes
+  reads-number out = go number (own-bytes number bytes admitted)
+    where
+      go : (own : List ℕ) → own ≡ bytesOf (bytesValue number) → length own ≤ length out
+          → (outcome w digits (length out) ≡ answered (0 ∷ length own ∷ [])) × (readBufferOf w digits out ≡ own ++ drop (length own) out)
+      go own e h =
+          let is = outcome-is w digits (length out) in
+          let o = string.answers (values digits) w digits (sizeBytes digits) (length out) (0 ∷ length own ∷ []) .1 (string-is, rw (v, ← e) h, rw (v, e)) in
+          (is ∙ o, memory.answered-leaves (values digits) (stringVerdict w digits) (sizeBytes digits) out _ o ∙ rw (v, e))
+
 -- ---- what recode writes
 
 module _ (w : ℕ) (least : leastWidth ≤ w) (number : List ℕ) (bytes : Below 256 number) where
@@ -52,16 +68,4 @@ module _ (w : ℕ) (least : leastWidth ≤ w) (number : List ℕ) (bytes : Below
     -- read back with room enough, it gives the number's own bytes
     pub reads-recoding : (out : List ℕ) → length number ≤ length out
         → (outcome w (recodingOf w number) (length out) ≡ answered (0 ∷ length number ∷ [])) × (readBufferOf w (recodingOf w number) out ≡ number ++ drop (length number) out)
-    unfolding sizeBytes
-    reads-recoding out = go number (own-bytes number bytes admitted)
-      where
-        digits : List ℕ
-        digits = recodingOf w number
-
-        go : (own : List ℕ) → own ≡ bytesOf (bytesValue number) → length own ≤ length out
-            → (outcome w digits (length out) ≡ answered (0 ∷ length own ∷ [])) × (readBufferOf w digits out ≡ own ++ drop (length own) out)
-        go own e h =
-            let v = recoding-reads .1 in
-            let is = outcome-is w digits (length out) in
-            let o = string.answers (values digits) w digits (sizeBytes digits) (length out) (0 ∷ length own ∷ []) .1 (recoding-reads .0, rw (v, ← e) h, rw (v, e)) in
-            (is ∙ o, memory.answered-leaves (values digits) (stringVerdict w digits) (sizeBytes digits) out _ o ∙ rw (v, e))
+    reads-recoding = reads-number w number bytes admitted (recodingOf w number) (recoding-reads .0) (recoding-reads .1)

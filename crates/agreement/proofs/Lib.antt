@@ -1,4 +1,5 @@
 pub mod Examples
+pub mod Modified
 pub mod OwnPlans
 pub mod Spelling
 pub mod Text

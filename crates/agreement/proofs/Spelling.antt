@@ -11,6 +11,10 @@ use Rattle.numbers.specs.Admission.{Padded, Admitted}
 use Rattle.numbers.proofs.Spelling.{Admitting, admitting-is, one-spelling}
 use Rattle.recoding.specs.Recode.{recodeBuffer}
 use Rattle.recoding.proofs.Promises as recode
+use Rattle.recoding_modified.specs.RecodeModified.{recodeModifiedBuffer}
+use Rattle.recoding_modified.proofs.Promises as recode-modified
+use Rattle.recoding_wide.specs.RecodeWide.{recodeWideBuffer}
+use Rattle.recoding_wide.proofs.Promises as recode-wide
 use Rattle.taking.specs.Take.{startNumber}
 use Rattle.taking.proofs.Promises as start
 use Rattle.planning.specs.Plan.{planBuffer}
@@ -27,6 +31,12 @@ module _ (number : List ℕ) where
   pub recode-admits : (room : ℕ) → Admitting (recode.outcome number room) ↔ Admitted number
   recode-admits room = admitting-is number (recode.refuses-1 number room) (recode.refuses-13 number room)
 
+  pub recode-modified-admits : (room : ℕ) → Admitting (recode-modified.outcome number room) ↔ Admitted number
+  recode-modified-admits room = admitting-is number (recode-modified.refuses-1 number room) (recode-modified.refuses-13 number room)
+
+  pub recode-wide-admits : (w room : ℕ) → Admitting (recode-wide.outcome w number room) ↔ Admitted number
+  recode-wide-admits w room = admitting-is number (recode-wide.refuses-1 w number room) (recode-wide.refuses-13 w number room)
+
   pub start-admits : Admitting (start.outcome number) ↔ Admitted number
   start-admits = admitting-is number (start.start-refuses-1 number) (start.start-refuses-13 number)
 
@@ -42,6 +52,8 @@ module _ (number : List ℕ) where
   -- some call refuses the number with neither
   pub data SomeAdmits : Type 0 where
     recode-does : (room : ℕ) → Admitting (recode.outcome number room) → SomeAdmits
+    recode-modified-does : (room : ℕ) → Admitting (recode-modified.outcome number room) → SomeAdmits
+    recode-wide-does : (w room : ℕ) → Admitting (recode-wide.outcome w number room) → SomeAdmits
     start-does : Admitting (start.outcome number) → SomeAdmits
     forecast-does : (method width : ℕ) → Admitting (plan.forecasts number method width) → SomeAdmits
     plan-does : (method width room : ℕ) → Admitting (plan.plans number method width room) → SomeAdmits
@@ -49,6 +61,8 @@ module _ (number : List ℕ) where
 
   some-admits : SomeAdmits → Admitted number
   some-admits (recode-does room s) = recode-admits room .0 s
+  some-admits (recode-modified-does room s) = recode-modified-admits room .0 s
+  some-admits (recode-wide-does w room s) = recode-wide-admits w room .0 s
   some-admits (start-does s) = start-admits .0 s
   some-admits (forecast-does method width s) = forecast-admits method width .0 s
   some-admits (plan-does method width room s) = plan-admits method width room .0 s
@@ -63,6 +77,14 @@ module _ (a b : List ℕ) (bytes-a : Below 256 a) (bytes-b : Below 256 b) (some-
   module _ (equal : bytesValue a ≡ bytesValue b) where
     pub same-recoding : (out : List ℕ) → (recode.outcome a (length out) ≡ recode.outcome b (length out)) × (recodeBuffer a out ≡ recodeBuffer b out)
     same-recoding out = rw (same-bytes .0 equal) (refl, refl)
+
+    pub same-modified-recoding : (out : List ℕ)
+        → (recode-modified.outcome a (length out) ≡ recode-modified.outcome b (length out)) × (recodeModifiedBuffer a out ≡ recodeModifiedBuffer b out)
+    same-modified-recoding out = rw (same-bytes .0 equal) (refl, refl)
+
+    pub same-wide-recoding : (w : ℕ) (out : List ℕ)
+        → (recode-wide.outcome w a (length out) ≡ recode-wide.outcome w b (length out)) × (recodeWideBuffer w a out ≡ recodeWideBuffer w b out)
+    same-wide-recoding w out = rw (same-bytes .0 equal) (refl, refl)
 
     pub same-start : (start.outcome a ≡ start.outcome b) × (startNumber a ≡ startNumber b)
     same-start = rw (same-bytes .0 equal) (refl, refl)

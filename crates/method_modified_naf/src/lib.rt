@@ -29,10 +29,13 @@ pub fn counts(number: &[u8]) -> Counts
     let plain = method_naf::counts(number);
     let triple = tripled(&words_of(number));
     let fewer = saved(&triple, plain.doublings + 1);
+    let doublings = plain.doublings - fewer;
+    let additions = plain.additions + fewer;
+    let subtractions = plain.subtractions - fewer;
     Counts {
-        doublings: plain.doublings - fewer,
-        additions: plain.additions + fewer,
-        subtractions: plain.subtractions - fewer,
+        doublings,
+        additions,
+        subtractions,
     }
 }
 

@@ -29,10 +29,9 @@ pub fn shape_of(number: &[u8], triple: &[u64]) -> Shape
 {
     let plain = count(number, triple);
     let fewer = saved(triple, plain);
-    Shape {
-        length: plain - fewer,
-        kept: plain - 3 * fewer,
-    }
+    let length = plain - fewer;
+    let kept = plain - 3 * fewer;
+    Shape { length, kept }
 }
 
 // Writes the digits of the number that the words hold.

@@ -80,20 +80,20 @@ add-saved c =
 saved-requires : tie.Need-saved-requires
 saved-requires c κs = search needs
 
-sub-t11 : tie.Need-sub-t11
-sub-t11 c =
+sub-doublings : tie.Need-sub-doublings
+sub-doublings c =
     let n : tie.After-counts = search in
     let f : tie.After-saved = search in
     omega (arith, fewer f, changes n, ap (λ (c : Counts). c .doublings) (plain n))
 
-add-t12 : tie.Need-add-t12
-add-t12 c =
+add-additions : tie.Need-add-additions
+add-additions c =
     let n : tie.After-counts = search in
     let f : tie.After-saved = search in
     omega (arith, fewer f, saved-at-most (e n), few n, ap (λ (c : Counts). c .additions) (plain n))
 
-sub-t13 : tie.Need-sub-t13
-sub-t13 c =
+sub-subtractions : tie.Need-sub-subtractions
+sub-subtractions c =
     let n : tie.After-counts = search in
     let f : tie.After-saved = search in
     omega (arith, fewer f, changes n, ap (λ (c : Counts). c .subtractions) (plain n))
@@ -117,7 +117,7 @@ counts-spec =
     slice-aggregate-saved
     add-saved
     saved-requires
-    sub-t11
-    add-t12
-    sub-t13
+    sub-doublings
+    add-additions
+    sub-subtractions
     returns)

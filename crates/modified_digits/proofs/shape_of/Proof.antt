@@ -23,14 +23,14 @@ count-requires c κs = search needs
 saved-requires : tie.Need-saved-requires
 saved-requires c κs = search needs
 
-sub-t5 : tie.Need-sub-t5
-sub-t5 c = omega (arith, fewer c, c .before .count .ensures, saved-fits (e c))
+sub-length : tie.Need-sub-length
+sub-length c = omega (arith, fewer c, c .before .count .ensures, saved-fits (e c))
 
-mul-t6 : tie.Need-mul-t6
-mul-t6 c = omega (arith, fewer c, saved-at-most (e c))
+mul-kept : tie.Need-mul-kept
+mul-kept c = omega (arith, fewer c, saved-at-most (e c))
 
-sub-t7 : tie.Need-sub-t7
-sub-t7 c = omega (arith, fewer c, c .before .count .ensures, saved-fits (e c))
+sub-kept : tie.Need-sub-kept
+sub-kept c = omega (arith, fewer c, c .before .count .ensures, saved-fits (e c))
 
 returns : tie.Need-returns
 returns c =
@@ -38,4 +38,4 @@ returns c =
     record { digits = omega (arith, fewer c, plain, modified-size (e c)); canonical-digits = omega (arith, fewer c, plain) }
 
 pub shape-of-spec : {M : Type 1} → statement M
-shape-of-spec = tie.close (tie.spec count-requires saved-requires sub-t5 mul-t6 sub-t7 returns)
+shape-of-spec = tie.close (tie.spec count-requires saved-requires sub-length mul-kept sub-kept returns)

@@ -1,9 +1,9 @@
 -- The digits that stand in an array, each one place up, and their steps. Assumes nothing.
 use mathlib.Core.Path.{_≡_, sym, ap, _∙_}
-use mathlib.Core.List.{List, []}
-use Prim.Native.Nat.{ℕ, _+_, _-_, _<_, _≤_}
+use mathlib.Core.List.{List}
+use Prim.Native.Nat.{ℕ, _+_, _<_, _≤_}
 use native.Mathlib.Omega.{arith}
-use lib.IntN.{ℤ, pos, natAbs}
+use lib.IntN.{ℤ, pos}
 use lib.ListN.{length, getD, take, drop, length-drop, length-map, List·getD-map}
 use lib.Seq.{length-take-le, getD-take, getD-drop, ext-getD}
 use Rattle.signed_digits.specs.Strings.{digitAt}

@@ -1,6 +1,7 @@
 -- How many steps method 6 takes: as many as method 4, or one fewer where the canonical string leads with 1 0 -1. No signed digit string for the number whose
 -- top digit is 1 takes fewer; its bits are one of them, so method 1 takes no fewer. Assumes nothing.
 use mathlib.Core.Path.{_≡_, refl, sym, ap, _∙_}
+use mathlib.Core.Bool.{false}
 use mathlib.Core.List.{List, [], _∷_, map}
 use Prim.Native.Nat.{ℕ, zero, suc, _+_, _*_, _-_, _/_, _^_, _<_, _≤_}
 use native.Mathlib.Nat.{pow-suc, div-eq-of-lt}
@@ -10,11 +11,11 @@ use lib.ListN.{length, getD, length-map, List·getD-map}
 use Rattle.signed_digits.specs.Strings.{value, digitAt}
 use Rattle.signed_digits.specs.Form.{SignedBits}
 use Rattle.signed_digits.specs.Naf.{canonical}
-use Rattle.signed_digits.specs.Modified.{topDigit, modified, saved}
+use Rattle.signed_digits.specs.Modified.{topDigit, leads, modified, saved}
 use Rattle.signed_digits.proofs.Canonical.{canonical-form}
 use Rattle.signed_digits.proofs.Leading.{canonical-top}
 use Rattle.signed_digits.proofs.Tops.{top-positive}
-use Rattle.signed_digits.proofs.Modified.{modified-bits, modified-top, modified-weight, modified-size}
+use Rattle.signed_digits.proofs.Modified.{modified-kept, modified-bits, modified-top, modified-weight, modified-size}
 use Rattle.signed_digits.proofs.Optimal.{least-sum}
 use Rattle.integers.specs.Bits.{bit, bitLength}
 use Rattle.integers.specs.Positional.{positional}
@@ -34,6 +35,11 @@ pub modified-steps : (e : ℕ) → 0 < e → length (modifiedNafSteps e) + saved
 unfolding modifiedNafSteps nafSteps
 modified-steps e some =
     omega (arith, bits-length (modified e) (modified-bits e) (modified-top e some), bits-length (canonical (pos e)) (canonical-form (pos e) .digits) (canonical-top e some), modified-weight e, modified-size e)
+
+-- where it does not lead so, the two plans are the same
+pub modified-same : (e : ℕ) → leads (canonical (pos e)) ≡ false → modifiedNafSteps e ≡ nafSteps e
+unfolding modifiedNafSteps nafSteps
+modified-same e f = ap (digitSteps 0) (modified-kept e f)
 
 -- that the number is above zero need not be said: it has a string with 1 on top
 pub least-steps : (e : ℕ) (ds : List ℤ) → SignedBits ds → value ds ≡ pos e → topDigit ds ≡ pos 1 → length (modifiedNafSteps e) ≤ length (digitSteps 0 ds)

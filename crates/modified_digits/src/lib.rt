@@ -56,10 +56,10 @@ pub fn write_form_raised(words: &[u64], triple: &[u64], out: &mut [u8], form: Sh
     requires { ⌜ 64 * (form .length / 64 + 1) ≤ length (now out) ⌝ }
     ensures { λ _. ⌜ ((i : ℕ) → i < form .length → getD (now (out .exit)) (i + 1) 0 ≡ placeByte (modified (wordsValue (now (words .entry)))) i) ⌝ }
 {
-    let kept = form.kept;
-    write_raised(words, triple, out, kept);
-    if kept < form.length {
-        out[kept + 1] = 1;
-        out[kept + 2] = 1;
+    let low = form.kept;
+    write_raised(words, triple, out, low);
+    if low < form.length {
+        out[low + 1] = 1;
+        out[low + 2] = 1;
     }
 }

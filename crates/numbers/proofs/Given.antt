@@ -1,4 +1,4 @@
--- A call that is handed a number and writes bytes: each outcome with what it is given for, and no other. Assumes nothing.
+-- A call that is handed a number and writes bytes, with refusals 1, 13 and 6: each outcome with what it is given for, and no other. Assumes nothing.
 use mathlib.Core.Path.{_≡_, refl}
 use mathlib.Core.Logic.{_↔_}
 use mathlib.Core.List.{List}

@@ -1,6 +1,6 @@
 -- `modified_digits::shape_of` meets its contract. Assumes nothing.
 use mathlib.Core.Path.{_≡_}
-use Prim.Native.Nat.{ℕ, _≤_}
+use Prim.Native.Nat.{ℕ}
 use native.Mathlib.Omega.{arith}
 use Rattle.integers.specs.Positional.{bytesValue}
 use Rattle.signed_digits.specs.Modified.{saved}

@@ -23,7 +23,7 @@ use Rattle.signed_digits.proofs.Parts.{cond-cases, positiveSum, negativ
 use Rattle.signed_digits.proofs.Canonical.{canonical-form, canonical-value}
 use Rattle.signed_digits.proofs.Length.{length-at-most}
 use Rattle.signed_digits.proofs.Leading.{leads-is, length-is, canonical-top, leads-top}
-use Rattle.signed_digits.proofs.Tops.{worth, joined, retopped, pair-bits}
+use Rattle.signed_digits.proofs.Tops.{value-sums, joined, retopped, pair-bits}
 
 -- a string that leads with 1 0 -1 has these three above the others: 1 is not -1, nor is 0, so they stand at three places
 lead : (ds : List ℤ) → leads ds ≡ true → ds ≡ take (length ds - 3) ds ++ (negsuc 0 ∷ pos 0 ∷ pos 1 ∷ [])
@@ -66,7 +66,7 @@ modified-cut n t = let c : List ℤ = canonical (pos n) in (take (length c - 3) 
 
 -- a signed digit string for n with 1 on top, of as many nonzero digits as the canonical one, and `fewer` digits shorter
 record Stands (n fewer : ℕ) (ds : List ℤ) : Type 0 where
-  worth-n : value ds ≡ pos n
+  value-is : value ds ≡ pos n
   bits : SignedBits ds
   top : 0 < n → topDigit ds ≡ pos 1
   weight : nonzeros ds ≡ nonzeros (canonical (pos n))
@@ -83,7 +83,7 @@ module _ (n : ℕ) where
       let j₂ = joined low two in
       let k : length (low ++ two) - 1 ≡ length low + 1 = omega arith in
       record {
-        worth-n = worth (low ++ two) n .1 (omega (arith, worth c n .0 (canonical-value (pos n)), ap positiveSum e, ap negativeSum e));
+        value-is = value-sums (low ++ two) n .1 (omega (arith, value-sums c n .0 (canonical-value (pos n)), ap positiveSum e, ap negativeSum e));
         bits = retopped low three two (subst SignedBits e (canonical-form (pos n) .digits)) (pair-bits 1 1 (omega arith) (omega arith));
         top = λ h. rw (k, getD-append-add low two 1 (pos 0));
         weight = omega (arith, ap nonzeros e);
@@ -97,10 +97,10 @@ module _ (n : ℕ) where
       go true t = let (low, e, f) = modified-cut n t in rw f (cut low e)
       go false t =
           rw (modified-kept n t)
-          (record { worth-n = canonical-value (pos n); bits = canonical-form (pos n) .digits; top = canonical-top n; weight = refl; size = omega arith })
+          (record { value-is = canonical-value (pos n); bits = canonical-form (pos n) .digits; top = canonical-top n; weight = refl; size = omega arith })
 
   pub modified-value : value (modified n) ≡ pos n
-  modified-value = stands .worth-n
+  modified-value = stands .value-is
 
   pub modified-bits : SignedBits (modified n)
   modified-bits = stands .bits

@@ -18,7 +18,7 @@ use Rattle.signed_digits.proofs.Parts.{positiveSum, negativeSum}
 use Rattle.signed_digits.proofs.Canonical.{canonical-form, canonical-value}
 use Rattle.signed_digits.proofs.Fewest.{fewest}
 use Rattle.signed_digits.proofs.Leading.{length-is, canonical-top}
-use Rattle.signed_digits.proofs.Tops.{worth, below-power, joined, retopped, pair-bits, with-top}
+use Rattle.signed_digits.proofs.Tops.{value-sums, below-power, joined, retopped, pair-bits, with-top}
 use Rattle.signed_digits.proofs.Modified.{modified-value, modified-bits, modified-top, modified-weight, modified-at-most}
 
 -- A string for n with a 1 at place k, the top, where 3 n is at least 5 * 2 ^ k. The digits below make n - 2 ^ k, whose canonical string has its top, a 1, at place k too.
@@ -31,23 +31,23 @@ one-more n low bits e high =
     let raised : List ℤ = pos 0 ∷ pos 1 ∷ [] in
     let j₁ = joined low one in
     let p : 2 ^ length (low ++ one) ≡ 2 * 2 ^ length low = rw (j₁ .size, add-one, pow-suc) (omega arith) in
-    let w = worth (low ++ one) n .0 e in
+    let w = value-sums (low ++ one) n .0 e in
     let small : n < 2 * 2 ^ length low = omega (arith, below-power (low ++ one) n bits e) in
     -- the digits below
     let m : ℕ = n - 2 ^ length low in
     let j₂ = joined low [] in
-    let light = fewest (pos m) (low ++ []) (retopped low one [] bits (λ i. omega arith)) (worth (low ++ []) m .1 (omega arith)) in
+    let light = fewest (pos m) (low ++ []) (retopped low one [] bits (λ i. omega arith)) (value-sums (low ++ []) m .1 (omega arith)) in
     -- the canonical string of what they make
     let c : List ℤ = canonical (pos m) in
     let size : length c ≡ suc (length low) = length-is m (length low) .1 (omega arith) in
     let rest : List ℤ = take (length c - 1) c in
     let s : c ≡ rest ++ one = with-top c (canonical-top m (omega arith)) in
-    let v = worth c m .0 (canonical-value (pos m)) in
+    let v = value-sums c m .0 (canonical-value (pos m)) in
     -- its 1 a place higher
     let j₃ = joined rest one in
     let j₄ = joined rest raised in
     let q : 2 ^ length rest ≡ 2 ^ length low = ap (λ (k : ℕ). 2 ^ k) (omega (arith, ap length s)) in
-    let f : value (rest ++ raised) ≡ pos n = worth (rest ++ raised) n .1 (omega (arith, ap positiveSum s, ap negativeSum s)) in
+    let f : value (rest ++ raised) ≡ pos n = value-sums (rest ++ raised) n .1 (omega (arith, ap positiveSum s, ap negativeSum s)) in
     let b = retopped rest one raised (subst SignedBits s (canonical-form (pos m) .digits)) (pair-bits 0 1 (omega arith) (omega arith)) in
     omega (arith, ap nonzeros s, fewest (pos n) (rest ++ raised) b f)
 

@@ -16,8 +16,8 @@ use Rattle.signed_digits.proofs.Parts.{positivePart, negativePart, from
 use Rattle.signed_digits.proofs.Width.{value-bound}
 
 -- the value n, as a fact that omega reads
-pub worth : (ds : List ℤ) (n : ℕ) → (value ds ≡ pos n) ↔ (positiveSum ds ≡ n + negativeSum ds)
-worth ds n = (λ e. omega (arith, value-parts ds, ap positivePart e, ap negativePart e), λ h. omega (arith, from-parts, value-parts ds))
+pub value-sums : (ds : List ℤ) (n : ℕ) → (value ds ≡ pos n) ↔ (positiveSum ds ≡ n + negativeSum ds)
+value-sums ds n = (λ e. omega (arith, value-parts ds, ap positivePart e, ap negativePart e), λ h. omega (arith, from-parts, value-parts ds))
 
 -- it is below 2 ^ length
 pub below-power : (ds : List ℤ) (n : ℕ) → SignedBits ds → value ds ≡ pos n → n < 2 ^ length ds

@@ -10,9 +10,13 @@ use Rattle.methods.specs.declared.Method.the-variants.{Binary, FixedWind
 abbrev pub slidingLargestBits : ℕ → ℕ → ℕ
 slidingLargestBits e d = cond (eqb (e % 2) 0 && ltb (bitLength e) d) d (bitLength e)
 
--- method 4: 2^L - 1, but for 1, is made from 2^L
+-- 2^L - 1, where it is above a bound, is made from 2^L
+abbrev pub onesLargestBits : ℕ → ℕ → ℕ
+onesLargestBits bound e = cond (ltb bound e && eqb (e + 1) (2 ^ bitLength e)) (bitLength e + 1) (bitLength e)
+
+-- method 4: each above 1
 abbrev pub nafLargestBits : ℕ → ℕ
-nafLargestBits e = cond (ltb 1 e && eqb (e + 1) (2 ^ bitLength e)) (bitLength e + 1) (bitLength e)
+nafLargestBits e = onesLargestBits 1 e
 
 -- method 5: an odd number of L bits, at least w, that is above 2^L - 2^(w-1) is made from 2^L; otherwise as for method 3 with windows of w - 1 bits, whose
 -- table it has
@@ -21,9 +25,9 @@ wideLargestBits e w =
     cond (eqb (e % 2) 1 && leb w (bitLength e) && ltb (2 ^ bitLength e) (e + 2 ^ (w - 1))) (bitLength e + 1)
     (slidingLargestBits e (w - 1))
 
--- method 6: 2^L - 1 above 3 is made from 2^L
+-- method 6: each above 3
 abbrev pub modifiedLargestBits : ℕ → ℕ
-modifiedLargestBits e = cond (ltb 3 e && eqb (e + 1) (2 ^ bitLength e)) (bitLength e + 1) (bitLength e)
+modifiedLargestBits e = onesLargestBits 3 e
 
 -- in any other plan no size has more bits than the number; a line a method
 abbrev pub largestBitsBy : Method → ℕ → ℕ

@@ -1,5 +1,7 @@
 // What holds across calls: theorems in proofs/. Where two calls are the same for every input, a function
 // makes both, and its statement says so.
+#![tactic(auto)]
+
 ghost use Rattle.std.specs.Prelude.{◌≡◌, length};
 ghost use Rattle.recoding.specs.Recode.{recode_answer, recode_buffer};
 

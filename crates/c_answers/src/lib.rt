@@ -1,5 +1,7 @@
 // The answers as C takes them: structs of numbers. A refusal is its number and place, and all else
 // is 0; if a call is not refused, both are 0.
+#![tactic(auto)]
+
 ghost use Rattle.std.specs.Prelude.{◌≡◌};
 ghost use Rattle.c_answers.specs.Answers.{refused_fields, started_fields, written_fields, read_fields, counted_fields, accepted_fields, checked_fields, limit_fields, hexadecimal_fields, decimal_fields};
 

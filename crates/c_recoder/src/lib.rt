@@ -1,4 +1,6 @@
 // A recoder as C keeps it: the words of a `Recoder`, then one that is not 0 if it carries.
+#![tactic(auto)]
+
 ghost use Rattle.std.specs.Prelude.{◌≡◌, ◌<◌, eqb, length};
 ghost use Rattle.rules.specs.Limits.{number_words};
 ghost use Rattle.taking.specs.Take.{stands_for};

@@ -25,6 +25,8 @@
 // has instead what each take answers, then the words of the recoder. A request that does not fit is
 // answered with one word: `long`, `room` or `unknown`. A line that is empty or begins with `# ` is
 // copied and not answered, and so is a last line without its newline.
+#![tactic(auto)]
+
 mod line;
 mod show;
 

@@ -1,4 +1,6 @@
 // Values of a chain: their sizes as words, and the bound.
+#![tactic(auto)]
+
 ghost use Rattle.std.specs.Prelude.{◌≡◌, ltb, eqb};
 ghost use Rattle.rules.specs.Limits.{value_bound};
 ghost use Rattle.integers.specs.Positional.{words_value};

@@ -1,4 +1,6 @@
 // Whether a plan is checked at all: the tests before its steps.
+#![tactic(auto)]
+
 ghost use Rattle.std.specs.Prelude.{◌≡◌};
 ghost use Rattle.check_admission.specs.Admission.{admission};
 

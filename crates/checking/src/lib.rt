@@ -1,4 +1,6 @@
 // Checking a plan for a number.
+#![tactic(auto)]
+
 ghost use Rattle.std.specs.Prelude.{◌≡◌, length};
 ghost use Rattle.checking.specs.Check.{check_answer, check_space};
 

@@ -1,4 +1,6 @@
 // Cleaning a digit string into the canonical string of the same value.
+#![tactic(auto)]
+
 ghost use Rattle.std.specs.Prelude.{◌≡◌, length};
 ghost use Rattle.cleaning.specs.Clean.{clean_answer, clean_buffer};
 

@@ -1,6 +1,8 @@
 // The canonical digits of a digit string from the low end, with a carry of -1, 0 or 1. At a place
 // the sum of digit and carry is kept, plus 2; with the digit above it tells the canonical digit and
 // the next carry.
+#![tactic(auto)]
+
 ghost use Rattle.std.specs.Prelude.{◌≡◌, cond, ◌++◌, ◌+◌, ◌%◌, ◌<◌, ◌≤◌, eqb, length, drop};
 ghost use Rattle.integers.specs.Positional.{Significant};
 ghost use Rattle.integers.specs.Tabulate.{tabulate};

@@ -1,5 +1,7 @@
 // Cleaning a digit string of a width from 2 to 8 into the non-adjacent form of the same value: its sign and
 // its size are read back, and the digits of these written.
+#![tactic(auto)]
+
 ghost use Rattle.std.specs.Prelude.{◌≡◌, length};
 ghost use Rattle.cleaning_wide.specs.CleanWide.{clean_wide_answer, clean_wide_buffer};
 

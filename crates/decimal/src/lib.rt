@@ -1,4 +1,6 @@
 // Numbers as people write them: decimal digits, most significant first.
+#![tactic(auto)]
+
 ghost use Rattle.std.specs.Prelude.{◌≡◌, ◌++◌, ◌+◌, ◌*◌, ◌^◌, ◌<◌, ◌≤◌, length, take, drop};
 ghost use Rattle.integers.specs.Positional.{bytes_value, low_bytes};
 ghost use Rattle.decimal.specs.Decimal.{leading, decimal_value, parsed, parsed_buffer};

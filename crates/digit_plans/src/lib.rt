@@ -1,4 +1,6 @@
 // The steps of a string of the digits 0, 1 and -1, written.
+#![tactic(auto)]
+
 ghost use Rattle.std.specs.Prelude.{◌≡◌, ◌≢◌, List, ◌++◌, ℕ, ◌+◌, ◌*◌, ◌≤◌, nat_abs, length, drop};
 ghost use Rattle.rules.specs.Limits.{step_bytes};
 ghost use Rattle.signed_digits.specs.Bytes.{byte_digit};

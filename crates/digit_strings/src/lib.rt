@@ -1,5 +1,7 @@
 // The tests that every call makes of the digit string that it is handed (docs/RULES.md, "Digit
 // strings"), over the width of its digits.
+#![tactic(auto)]
+
 ghost use Rattle.std.specs.Prelude.{◌≡◌, true, ◌+◌, ◌≤◌, length};
 ghost use Rattle.rules.specs.Limits.{least_width, largest_width};
 ghost use Rattle.digit_strings.specs.Admission.{digit_up_to, first_failing, string_verdict};

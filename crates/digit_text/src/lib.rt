@@ -1,4 +1,6 @@
 // Digit strings as people write them: a word for each digit, the most significant first.
+#![tactic(auto)]
+
 ghost use Rattle.std.specs.Prelude.{◌≡◌, length};
 ghost use Rattle.digit_text.specs.Digits.{word_digit, digits_answer, digits_buffer};
 

@@ -1,4 +1,6 @@
 // Numbers as people write them: hexadecimal digits, most significant first.
+#![tactic(auto)]
+
 ghost use Rattle.std.specs.Prelude.{◌≡◌, true, ◌++◌, ◌≤◌, ◌<◌, leb, length, drop};
 ghost use Rattle.integers.specs.Tabulate.{tabulate};
 ghost use Rattle.hexadecimal.specs.Hex.{digit_value, place_value, byte_at, byte_count, is_hex, is_prefix, parsed, parsed_buffer, without_prefix};

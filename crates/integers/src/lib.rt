@@ -1,4 +1,6 @@
 // Numbers as bytes, the least significant first: bytes, bits and words of them.
+#![tactic(auto)]
+
 ghost use Rattle.std.specs.Prelude.{◌≡◌, ◌+◌, ◌*◌, ◌/◌, ◌%◌, ◌^◌, ◌<◌, ◌≤◌, length, take, drop, get_or};
 ghost use Rattle.std.specs.Int.Count;
 ghost use Rattle.rules.specs.Limits.{number_bytes};

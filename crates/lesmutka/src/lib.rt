@@ -1,6 +1,8 @@
 // Every call (docs/RULES.md, 4.1) for C and Rust: byte slices and numbers in, structs of numbers out. A
 // slice is passed as a pointer and a length. include/lesmutka.h says what each call takes and
 // leaves.
+#![tactic(auto)]
+
 ghost use Rattle.std.specs.Prelude.{◌≡◌, length};
 ghost use Rattle.rules.specs.Limits.{documented, version};
 ghost use Rattle.recoding.specs.Recode.{recode_answer, recode_buffer};

@@ -1,4 +1,6 @@
 // Method 2, fixed windows of `width` bits: its steps counted, and written.
+#![tactic(auto)]
+
 ghost use Rattle.std.specs.Prelude.{◌≡◌, ◌≢◌, cond, List, ◌++◌, ℕ, ◌+◌, ◌-◌, ◌*◌, ◌^◌, ◌≤◌, ◌<◌, eqb, length, drop};
 ghost use Rattle.rules.specs.Limits.{number_bytes, step_bytes};
 ghost use Rattle.integers.specs.Positional.{bytes_value};

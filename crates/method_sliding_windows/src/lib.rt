@@ -1,4 +1,6 @@
 // Method 3, sliding windows of at most `width` bits: its steps counted, and written.
+#![tactic(auto)]
+
 ghost use Rattle.std.specs.Prelude.{◌≡◌, ◌≢◌, List, ◌++◌, ℕ, ◌+◌, ◌*◌, ◌-◌, ◌%◌, ◌^◌, ◌≤◌, ◌<◌, length, drop};
 ghost use Rattle.rules.specs.Limits.{number_bytes, step_bytes};
 ghost use Rattle.integers.specs.Bits.{bit_length};

@@ -1,4 +1,6 @@
 // Method 5, the NAF of width w: its steps counted, and written.
+#![tactic(auto)]
+
 ghost use Rattle.std.specs.Prelude.{◌≡◌, ◌≢◌, cond, List, ◌++◌, ℕ, ◌+◌, ◌*◌, ◌-◌, ◌≤◌, eqb, nat_abs, length, drop};
 ghost use Rattle.rules.specs.Limits.{least_width, largest_width, step_bytes};
 ghost use Rattle.integers.specs.Positional.{bytes_value};

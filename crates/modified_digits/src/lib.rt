@@ -1,5 +1,7 @@
 // The digits of the modified form of a number e: the canonical ones by the words of 3 e and of e, and
 // 1 1 for leading digits 1 0 -1.
+#![tactic(auto)]
+
 ghost use Rattle.std.specs.Prelude.{◌≡◌, ◌++◌, ℕ, ◌+◌, ◌*◌, ◌/◌, ◌<◌, ◌≤◌, length, drop, get_or};
 ghost use Rattle.integers.specs.Positional.{bytes_value, words_value};
 ghost use Rattle.numbers.specs.Admission.{Admitted};
@@ -13,7 +15,7 @@ use triples::{count, saved};
 
 // How many digits there are, and how many of them, from the lowest up, are the canonical ones: all, or
 // all but the top two, which are 1 1.
-#[derive(Drop)]
+#[derive(Clone, Copy)]
 pub struct Shape {
     pub length: usize,
     pub kept: usize,

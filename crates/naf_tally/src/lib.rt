@@ -1,6 +1,8 @@
 // The canonical digits of a number e, counted word by word and not written. The digit at place i is
 // the bit of 3 e at i + 1, less that of e: 1 where 3 e alone has a 1, -1 where e alone has
 // one.
+#![tactic(auto)]
+
 ghost use Rattle.std.specs.Prelude.{◌≡◌, ℕ, ◌+◌, ◌*◌, ◌/◌, ◌^◌, ◌≤◌};
 ghost use Rattle.rules.specs.Limits.{number_bytes};
 ghost use Rattle.integers.specs.Bits.{bit_length};

@@ -1,4 +1,6 @@
 // The tests that every call makes of the number that it is handed (docs/RULES.md, "Numbers").
+#![tactic(auto)]
+
 ghost use Rattle.std.specs.Prelude.{◌≡◌};
 ghost use Rattle.numbers.specs.Admission.{is_padded, number_verdict, positive_verdict};
 

@@ -1,4 +1,6 @@
 // Bytes into a lent buffer, by the memory rule.
+#![tactic(auto)]
+
 ghost use Rattle.std.specs.Prelude.{◌≡◌, length};
 ghost use Rattle.rules.specs.Memory.{fitted, leaves};
 

@@ -1,4 +1,6 @@
 // Reading a digit string back: the sign and the size of its value.
+#![tactic(auto)]
+
 ghost use Rattle.std.specs.Prelude.{◌≡◌, ◌≤◌, length};
 ghost use Rattle.rules.specs.Limits.{least_width, largest_width};
 ghost use Rattle.reading.specs.ReadBack.{read_answer_of, read_buffer_of, read_back_answer, read_back_buffer};

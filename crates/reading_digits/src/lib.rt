@@ -3,6 +3,8 @@
 // Each digit is raised by the largest of its width, so that none is below zero. The size is the
 // difference between the sum of these and that of as many zeros, raised too, taken a byte at a time
 // with a carry. The sign, known first, says which of the two is the larger.
+#![tactic(auto)]
+
 ghost use Rattle.std.specs.Prelude.{◌≡◌, ◌+◌, ◌*◌, ◌%◌, ◌<◌, ◌≤◌, nat_abs, length};
 ghost use Rattle.rules.specs.Limits.{least_width, largest_width};
 ghost use Rattle.integers.specs.Positional.{bytes_value, Significant};

@@ -1,4 +1,6 @@
 // Reading back a digit string of any width that is allowed.
+#![tactic(auto)]
+
 ghost use Rattle.std.specs.Prelude.{◌≡◌, length};
 ghost use Rattle.reading_wide.specs.ReadBackWide.{read_back_wide_answer, read_back_wide_buffer};
 

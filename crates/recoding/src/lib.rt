@@ -1,4 +1,6 @@
 // Recoding a number into its canonical string, the non-adjacent form.
+#![tactic(auto)]
+
 ghost use Rattle.std.specs.Prelude.{◌≡◌, length};
 ghost use Rattle.recoding.specs.Recode.{recode_answer, recode_buffer};
 

@@ -1,6 +1,8 @@
 // The canonical digits of a number by the bits of three times the number: the digit at
 // place i is the bit of 3 e at i + 1, less that of e. So no digit waits for another, and
 // the work is linear in the number's bytes.
+#![tactic(auto)]
+
 ghost use Rattle.std.specs.Prelude.{◌≡◌, ◌++◌, ◌+◌, ◌*◌, ◌≤◌, pos, length, take, drop};
 ghost use Rattle.integers.specs.Bits.{bit};
 ghost use Rattle.integers.specs.Positional.{bytes_value};

@@ -1,5 +1,7 @@
 // Recoding a number into its modified form: the canonical string, except that leading digits 1 0 -1
 // become 1 1.
+#![tactic(auto)]
+
 ghost use Rattle.std.specs.Prelude.{◌≡◌, length};
 ghost use Rattle.recoding_modified.specs.RecodeModified.{recode_modified_answer, recode_modified_buffer};
 

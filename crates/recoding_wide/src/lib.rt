@@ -1,4 +1,6 @@
 // Recoding a number into its non-adjacent form of a width from 2 to 8.
+#![tactic(auto)]
+
 ghost use Rattle.std.specs.Prelude.{◌≡◌, length};
 ghost use Rattle.recoding_wide.specs.RecodeWide.{recode_wide_answer, recode_wide_buffer};
 

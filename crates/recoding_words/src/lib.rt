@@ -1,4 +1,6 @@
 // Recoding a number by words: the same as recode in every answer and byte.
+#![tactic(auto)]
+
 ghost use Rattle.std.specs.Prelude.{◌≡◌, length};
 ghost use Rattle.recoding.specs.Recode.{recode_answer, recode_buffer};
 

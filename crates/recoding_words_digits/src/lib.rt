@@ -1,4 +1,6 @@
 // The canonical digits of a number e, 64 at a time, by the words of 3 e and of e.
+#![tactic(auto)]
+
 ghost use Rattle.std.specs.Prelude.{◌≡◌, ◌++◌, ℕ, ◌+◌, ◌*◌, ◌/◌, ◌<◌, ◌≤◌, pos, length, drop, get_or};
 ghost use Rattle.integers.specs.Positional.{words_value};
 ghost use Rattle.integers.specs.Tabulate.{tabulate};

@@ -1,4 +1,6 @@
 // Records of the values of a chain in a work space.
+#![tactic(auto)]
+
 ghost use Rattle.std.specs.Prelude.{◌≡◌, ◌∷◌, ◌++◌, ◌+◌, ◌*◌, ◌^◌, ◌≤◌, ◌<◌, eqb, ltb, ℤ, length, take, drop};
 ghost use mir.Val.{bool_byte};
 ghost use Rattle.rules.specs.Limits.{value_bytes, value_words, record_bytes};

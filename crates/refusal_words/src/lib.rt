@@ -1,4 +1,6 @@
 // The words of a refusal, for languages that cannot read the header for C.
+#![tactic(auto)]
+
 ghost use Rattle.std.specs.Prelude.{◌≡◌, length};
 ghost use Rattle.refusal_words.specs.Words.{words_answer, words_buffer};
 

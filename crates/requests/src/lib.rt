@@ -1,4 +1,6 @@
 // What is asked for by number, method and width: refusals 1, 13, 2 and 3, in this order.
+#![tactic(auto)]
+
 ghost use Rattle.std.specs.Prelude.{◌≡◌};
 ghost use Rattle.methods.specs.Method.{method_of, within};
 ghost use Rattle.requests.specs.Request.{request};

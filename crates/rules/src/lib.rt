@@ -2,6 +2,8 @@
 //
 // In the code a limit's number stands here and in specs/Limits.antt, and `current` shows that the two
 // agree. docs/ARCHITECTURE.md, "How to change a limit", names the other files.
+#![tactic(auto)]
+
 ghost use Rattle.std.specs.Prelude.{◌≡◌};
 ghost use Rattle.rules.specs.Limits.{documented};
 ghost use Rattle.rules.specs.Refusals.{refusal_number, refusal_place};
@@ -62,7 +64,7 @@ pub fn current() -> Limits
 }
 
 // Why a call refuses. A case holds its place, unless that is always 0.
-#[derive(Drop)]
+#[derive(Clone, Copy)]
 pub enum Refusal {
     // Number longer than the limit.
     NumberTooLong,

@@ -1,4 +1,6 @@
 // Checking one step of a plan.
+#![tactic(auto)]
+
 ghost use Rattle.std.specs.Prelude.{◌+◌, ◌*◌, ◌≤◌, length};
 ghost use Rattle.rules.specs.Limits.{record_bytes};
 ghost use Rattle.step_reading.specs.Fields.{as_step};

@@ -1,4 +1,6 @@
 // Reading the steps of a plan one by one.
+#![tactic(auto)]
+
 ghost use Rattle.std.specs.Prelude.{◌≡◌, ◌+◌, ◌*◌, ◌≤◌, length, take, drop};
 ghost use Rattle.rules.specs.Limits.{step_bytes};
 ghost use Rattle.integers.specs.Positional.{bytes_value};
@@ -8,7 +10,7 @@ ghost use Rattle.step_reading.specs.Fields.{as_step};
 use rules::STEP_BYTES;
 
 // A step: a(first) + a(second), or a(first) - a(second).
-#[derive(Drop)]
+#[derive(Clone, Copy)]
 pub struct Step {
     pub operation: u8,
     pub first: usize,

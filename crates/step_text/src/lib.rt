@@ -1,4 +1,6 @@
 // A plan's steps from text: a word for each step.
+#![tactic(auto)]
+
 ghost use Rattle.std.specs.Prelude.{◌≡◌, length};
 ghost use Rattle.step_text.specs.Steps.{steps_answer, steps_buffer};
 

@@ -1,4 +1,6 @@
 // The value of a step that is well formed: refusals 10 and 11, its record, and whether it is a doubling.
+#![tactic(auto)]
+
 ghost use Rattle.std.specs.Prelude.{◌≡◌, ◌≢◌, ℕ, ◌+◌, ◌*◌, ◌≤◌, length};
 ghost use Rattle.rules.specs.Limits.{record_bytes};
 ghost use Rattle.chains.specs.Steps.{Step};

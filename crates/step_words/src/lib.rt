@@ -1,4 +1,6 @@
 // The step that a word is: add(J,K) or subtract(J,K), with decimal positions J and K.
+#![tactic(auto)]
+
 ghost use Rattle.std.specs.Prelude.{◌≡◌, ◌<◌, take};
 ghost use Rattle.decimal.specs.Decimal.{decimal_value};
 ghost use Rattle.step_reading.specs.Fields.{as_step};

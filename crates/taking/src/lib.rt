@@ -1,4 +1,6 @@
 // Canonical digits one at a time, lowest first.
+#![tactic(auto)]
+
 ghost use Rattle.std.specs.Prelude.{◌≡◌};
 ghost use Rattle.signed_digits.specs.Naf.{low_digit, canonical_width};
 ghost use Rattle.signed_digits.specs.Bytes.{digit_byte};

@@ -1,4 +1,6 @@
 // The words of a text: the longest runs of bytes that are no blanks.
+#![tactic(auto)]
+
 ghost use Rattle.std.specs.Prelude.{◌≡◌, false, ◌∷◌, ◌++◌, ◌-◌, ◌<◌, ◌≤◌, length, get_or, take, drop};
 ghost use Rattle.text_words.specs.Words.{is_blank, ended, text_words};
 

@@ -1,6 +1,8 @@
 // Three times a number e, by the words of e and 2 e. The canonical digit of e at place i is the bit of
 // 3 e at i + 1, less that of e: with the words of 3 e at hand no digit waits for another, and they
 // show how many digits there are, and how they begin.
+#![tactic(auto)]
+
 ghost use Rattle.std.specs.Prelude.{◌≡◌, ℕ, ◌+◌, ◌*◌, ◌^◌, ◌≤◌, length, pos};
 ghost use Rattle.integers.specs.Positional.{bytes_value, words_value};
 ghost use Rattle.numbers.specs.Admission.{Admitted};

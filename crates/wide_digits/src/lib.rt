@@ -1,6 +1,8 @@
 // The digits of the non-adjacent form of width w of a number, from the low end. At a place what is left
 // is the number from there on, and a carry of 0 or 1. Its trailing zeros are zero digits; the w bits
 // above them, which are odd, tell a digit and the next carry, and w - 1 zero digits follow.
+#![tactic(auto)]
+
 ghost use Rattle.std.specs.Prelude.{◌≡◌, ◌+◌, ◌*◌, ◌/◌, ◌%◌, ◌^◌, ◌<◌, ◌≤◌, pos, length};
 ghost use Rattle.rules.specs.Limits.{number_bytes, least_width, largest_width};
 ghost use Rattle.integers.specs.Positional.{bytes_value};

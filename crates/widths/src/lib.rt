@@ -1,4 +1,6 @@
 // The test that a wide call makes of the width that it is given.
+#![tactic(auto)]
+
 ghost use Rattle.std.specs.Prelude.{◌≡◌};
 ghost use Rattle.widths.specs.Width.{width_verdict};
 

@@ -1,6 +1,8 @@
 // Up to 64 canonical digits of a number e, by a word of 3 e and the word of e there. A digit is not 0 where
 // the two differ, and is -1 where e has the 1. Of two neighbouring digits one is 0, so four digits are
 // known by their nonzero places and twice those of -1, a number below 32, and are looked up by it.
+#![tactic(auto)]
+
 ghost use Rattle.std.specs.Prelude.{◌≡◌, ◌++◌, ◌+◌, ◌<◌, ◌≤◌, length, take, drop};
 ghost use Rattle.std.specs.Int.Bits.{bit_xor};
 ghost use Rattle.integers.specs.Positional.{bytes_value};

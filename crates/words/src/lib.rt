@@ -1,4 +1,6 @@
 // Numbers as words, the least significant first: bits, zero, halving, sums and differences, and their bytes.
+#![tactic(auto)]
+
 ghost use Rattle.std.specs.Prelude.{◌≡◌, ◌+◌, ◌*◌, ◌/◌, ◌%◌, ◌^◌, ◌≤◌, ◌∷◌, ◌++◌, length, take, drop, ◌==◌, slice_index};
 ghost use mir.Val.{bool_byte};
 ghost use Rattle.rules.specs.Limits.{number_words};

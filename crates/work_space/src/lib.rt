@@ -1,5 +1,7 @@
 // A work space before the first step, after each, and after the last: record 0, the size recorded last,
 // and the last value beside the number.
+#![tactic(auto)]
+
 ghost use Rattle.std.specs.Prelude.{◌≡◌, ◌+◌, ◌*◌, ◌<◌, ◌≤◌, pos, length};
 ghost use Rattle.rules.specs.Limits.{value_words, record_bytes};
 ghost use Rattle.integers.specs.Positional.{bytes_value};

@@ -1,0 +1,12 @@
+-- `text_words::start_of` meets its contract: the bytes passed are blanks, so the words are still the same. Assumes nothing.
+use mathlib.Core.Path.{◌≡◌}
+use Prim.Native.Nat.{◌≤◌, ◌-◌}
+use lib.ListN.{length, drop}
+use Rattle.text_words.specs.Words.{text_words}
+use Rattle.text_words.proofs.start_of.Given as goal
+
+abbrev pub invariant-loop-i : goal.invariant-loop-i
+invariant-loop-i l = (l.from ≤ l.i) × (l.i ≤ length l.text) × (text_words (drop l.from l.text) ≡ text_words (drop l.i l.text))
+
+abbrev pub decreases-loop-i : goal.decreases-loop-i
+decreases-loop-i l = length l.text - l.i

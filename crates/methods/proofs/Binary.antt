@@ -50,8 +50,8 @@ record Above (limit e i : ℕ) (b : PartialPlan) : Type 0 where
   counted : counts_in b ≡ counts (bit_length e - 1 - i) (ones (e / 2 ^ i) - 1) 0
 
 module _ (e : ℕ) (some : 0 < e) {limit : ℕ} (small : e < limit) where
-  at_bit : (i x : ℕ) (b : PartialPlan) → i < bit_length e - 1 → bit e i ≡ x → Above limit e (suc i) b → Above limit e i (at_bit x b)
-  at_bit i x b l y a = go x y
+  at_bit_lem : (i x : ℕ) (b : PartialPlan) → i < bit_length e - 1 → bit e i ≡ x → Above limit e (suc i) b → Above limit e i (at_bit x b)
+  at_bit_lem i x b l y a = go x y
     where
       v : ℕ
       v = e / 2 ^ suc i
@@ -94,7 +94,7 @@ module _ (e : ℕ) (some : 0 < e) {limit : ℕ} (small : e < limit) where
   all : Above limit e 0 (down_from (λ i b. at_bit (bit e i) b) (bit_length e - 1) none)
   all =
       let t = top_bit e some in
-      down_from_lem (Above limit e) (λ i b. at_bit (bit e i) b) (bit_length e - 1) none (λ i b l a. at_bit i (bit e i) b l refl a)
+      down_from_lem (Above limit e) (λ i b. at_bit (bit e i) b) (bit_length e - 1) none (λ i b l a. at_bit_lem i (bit e i) b l refl a)
       (record { holds = rw t none_holds; latest = refl; few = omega arith; counted = rw (sub_self (bit_length e - 1), t) none_counted })
 
   pub binary_made : Made limit (binary_steps e) e

@@ -95,9 +95,9 @@ module _ {limit : ℕ} (n : ℕ) (ds : List ℤ) (suited : Suited limit n ds) wh
     some : 1 ≤ plus_digits (drop i ds)
     counted : counts_in b ≡ counts ((table_counts n).doublings + (top - i)) ((table_counts n).additions + (plus_digits (drop i ds) - 1)) (minus_digits (drop i ds))
 
-  at_digit : (i : ℕ) (d : ℤ) (b : PartialPlan) → i < top → digit_at ds i ≡ d → Above (suc i) b → Above i (at_digit d b)
+  at_digit_lem : (i : ℕ) (d : ℤ) (b : PartialPlan) → i < top → digit_at ds i ≡ d → Above (suc i) b → Above i (at_digit d b)
   unfolding plus_digits minus_digits
-  at_digit i d b l y a = go d y (rw y at (value_down ds suited.positive i (omega arith))) (rw y at (drop-cons ds i (pos 0) (omega arith)))
+  at_digit_lem i d b l y a = go d y (rw y at (value_down ds suited.positive i (omega arith))) (rw y at (drop-cons ds i (pos 0) (omega arith)))
     where
       v : ℕ
       v = value_from ds (suc i)
@@ -183,7 +183,7 @@ module _ {limit : ℕ} (n : ℕ) (ds : List ℤ) (suited : Suited limit n ds) wh
       }
 
   all : Above 0 (down_from (λ i b. at_digit (digit_at ds i) b) top (at_top n ds))
-  all = down_from_lem Above (λ i b. at_digit (digit_at ds i) b) top (at_top n ds) (λ i b l a. at_digit i (digit_at ds i) b l refl a) at_top_lem
+  all = down_from_lem Above (λ i b. at_digit (digit_at ds i) b) top (at_top n ds) (λ i b l a. at_digit_lem i (digit_at ds i) b l refl a) at_top_lem
 
   pub digits_made : Made limit (digit_steps n ds) (positive_part (value ds))
   unfolding digit_steps

@@ -23,7 +23,7 @@ use Rattle.methods.specs.Forecast.{nonzero_windows, fixed_window_counts}
 use Rattle.integers.proofs.Bits.{bit_length_iff, above_top, quotient_le, quotient_none}
 use Rattle.methods.proofs.Counted.{counts_in, counts_add, counts_doubled, counts_cond, not_before_doubled}
 use Rattle.methods.proofs.Laws.{Holds, Stands, Made, Fit, Plannable, plannable_below, stands_followed, stands_doubled, latest_followed, length_followed, length_doubled, latest_doubled, add_holds, doubled_holds, down_from_lem, made, own_bits}
-use Rattle.methods.proofs.Tables.{tabled, length_table, table_holds, table_counts, table_total, no_subtractions}
+use Rattle.methods.proofs.Tables.{tabled, length_table, table_holds, table_counts_lem, table_total, no_subtractions}
 
 -- ---- the multiples
 
@@ -39,7 +39,7 @@ multiples_holds : {limit : ℕ} (n : ℕ) → suc n < limit → (p : ℕ) → p 
 multiples_holds = table_holds (λ i. 0) suc refl (λ n. omega arith) (λ n. omega arith)
 
 multiples_counts : (n : ℕ) → position_counts (multiples n) ≡ table_counts n
-multiples_counts = table_counts (λ i. 0) refl (λ n. omega arith)
+multiples_counts = table_counts_lem (λ i. 0) refl (λ n. omega arith)
 
 -- ---- the windows
 
@@ -60,14 +60,14 @@ module _ (e d : ℕ) (some : 0 < e) (wide : 1 ≤ d) where
   above_top_window i h = above_top e some (d * i) (omega (arith, mul-le-mul_left d h, windows_below_top e d))
 
   -- the top window alone
-  top_window : window e d (top_window e d) ≡ e / 2 ^ (d * top_window e d)
-  top_window =
+  top_window_lem : window e d (top_window e d) ≡ e / 2 ^ (d * top_window e d)
+  top_window_lem =
       let t : ℕ = top_window e d in
       shr_mod d (d * t) ((bit_length_iff e (d + d * t)).0 (omega (arith, lt-mul-div-succ (bit_length e - 1) wide, mul-suc d t)))
 
   -- and it is not zero
   pub top_window_some : 0 < window e d (top_window e d)
-  top_window_some = rw top_window (above_top_window (top_window e d) (omega arith))
+  top_window_some = rw top_window_lem (above_top_window (top_window e d) (omega arith))
 
   lower_window : 2 ^ d ≤ e → 0 < top_window e d
   lower_window h =
@@ -156,7 +156,7 @@ module _ (e d : ℕ) (some : 0 < e) (wide : 1 ≤ d) {limit : ℕ} (small : e < 
       start : Above limit e d t (multiplied (2 ^ d - 2) (window e d t - 1))
       start =
           let p : ℕ = window e d t - 1 in
-          let v : suc p ≡ e / 2 ^ (d * t) = omega (arith, top_window e d some wide, above_top_window e d some wide t (omega arith)) in
+          let v : suc p ≡ e / 2 ^ (d * t) = omega (arith, top_window_lem e d some wide, above_top_window e d some wide t (omega arith)) in
           record {
             holds = subst (Holds limit (multiplied (2 ^ d - 2) p)) v (entry p (omega (arith, window_small e d t)));
             table = λ r h. let s = entry r (omega arith) in record { filled = s.within; value = s.value };

@@ -14,7 +14,7 @@ use Rattle.chains.proofs.Counts.{position_counts}
 use Rattle.methods.specs.Tables.{table_counts}
 use Rattle.methods.specs.OddMultiples.{odd_second, odd_table, odd_position, table_length}
 use Rattle.methods.proofs.Laws.{Holds}
-use Rattle.methods.proofs.Tables.{tabled, length_table, table_holds, table_counts}
+use Rattle.methods.proofs.Tables.{tabled, length_table, table_holds, table_counts_lem}
 
 pub odd_length : (n : ℕ) → length (odd_table n) ≡ n
 odd_length n = length_table odd_second n
@@ -59,7 +59,7 @@ unfolding table_value
 odd_holds = table_holds odd_second table_value refl value_next (λ n. omega (arith, second_before n))
 
 pub odd_counts : (n : ℕ) → position_counts (odd_table n) ≡ table_counts n
-odd_counts = table_counts odd_second refl (λ n. omega (arith, second_before (suc n)))
+odd_counts = table_counts_lem odd_second refl (λ n. omega (arith, second_before (suc n)))
 
 -- the first n steps give v a position
 pub record InTable (n v : ℕ) : Type 0 where

@@ -61,12 +61,12 @@ module _ (second : ℕ → ℕ) where
         ]
 
   -- after the first step no two positions of a step are the same
-  pub table_counts : second 0 ≡ 0 → ((n : ℕ) → second (suc n) ≤ n) → (n : ℕ) → position_counts (table_by second n) ≡ table_counts n
+  pub table_counts_lem : second 0 ≡ 0 → ((n : ℕ) → second (suc n) ≤ n) → (n : ℕ) → position_counts (table_by second n) ≡ table_counts n
   unfolding table_by table_counts position_counts sum_counts followed
-  table_counts first before zero = refl
-  table_counts first before (suc zero) = rw first (counts_double none 0 0 0 refl)
-  table_counts first before (suc (suc n)) =
-      counts_add (tabled second (suc n) (suc n)) 1 n 0 (table_counts first before (suc n)) (second (suc n)) (λ e. omega (arith, before n)) ∙ rw add-one
+  table_counts_lem first before zero = refl
+  table_counts_lem first before (suc zero) = rw first (counts_double none 0 0 0 refl)
+  table_counts_lem first before (suc (suc n)) =
+      counts_add (tabled second (suc n) (suc n)) 1 n 0 (table_counts_lem first before (suc n)) (second (suc n)) (λ e. omega (arith, before n)) ∙ rw add-one
 
 pub table_total : (n : ℕ) → total (table_counts n) ≡ n
 unfolding table_counts

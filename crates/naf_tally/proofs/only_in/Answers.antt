@@ -5,22 +5,18 @@ use native.Mathlib.Omega.{arith}
 use lib.Bits.{bit_and, and_le_l}
 use lib.Count.{ones, ones-le}
 use Rattle.naf_tally.specs.Tally.{only_in}
-use Rattle.naf_tally.proofs.only_in.Statement.{statement}
-use Rattle.naf_tally.proofs.only_in.Tie as tie
+use Rattle.naf_tally.proofs.only_in.Goals as goal
 
-sub-result : tie.Need-overflow-sub-result
-sub-result c = and_le_l c.args.a c.args.b
+pub overflow_sub-result : goal.overflow_sub-result
+overflow_sub-result c = and_le_l c.args.a c.args.b
 
 -- a word has at most 64 ones
 few : (a b : ℕ) → a < 2 ^ 64 → ones (a - bit_and a b) ≤ 64
 few a b h = ones-le 64 (a - bit_and a b) (omega arith)
 
-cast-result : tie.Need-overflow-cast-result
-cast-result c = omega (arith, few c.args.a c.args.b (omega arith))
+pub overflow_cast-result : goal.overflow_cast-result
+overflow_cast-result c = omega (arith, few c.args.a c.args.b (omega arith))
 
-returns : tie.Need-returns
+pub returns : goal.returns
 unfolding only_in
 returns c = (refl, few c.args.a c.args.b (omega arith))
-
-pub only-in-spec : {M : Type 1} → statement M
-only-in-spec = tie.close (tie.spec sub-result cast-result returns)

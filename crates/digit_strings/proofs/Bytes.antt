@@ -27,8 +27,8 @@ module _ (w : ℕ) (h : w ≤ largest_width) where
   abbrev Digit : ℤ → Type 0
   Digit d = d ≢ pos 0 → OddDigit w d
 
-  digit_byte : (d : ℤ) → Digit d → (byte_digit (digit_byte d) ≡ d) × (is_digit w (digit_byte d) ≡ true)
-  digit_byte d o = go (ℤ_discrete d (pos 0))
+  digit_byte_lem : (d : ℤ) → Digit d → (byte_digit (digit_byte d) ≡ d) × (is_digit w (digit_byte d) ≡ true)
+  digit_byte_lem d o = go (ℤ_discrete d (pos 0))
     where
       go : Dec (d ≡ pos 0) → (byte_digit (digit_byte d) ≡ d) × (is_digit w (digit_byte d) ≡ true)
       go (yes z) = rw z (refl, zero_digit w)
@@ -39,10 +39,10 @@ module _ (w : ℕ) (h : w ≤ largest_width) where
   -- a string of such digits, in bytes: it comes back, and is a digit string
   pub string_bytes : (ds : List ℤ) → ((i : ℕ) → Digit (digit_at ds i)) → string_of (digit_bytes ds) ≡ ds
   string_bytes [] digit = refl
-  string_bytes (d ∷ ds) digit = rw ((digit_byte d (digit 0)).0, string_bytes ds (λ i. digit (suc i)))
+  string_bytes (d ∷ ds) digit = rw ((digit_byte_lem d (digit 0)).0, string_bytes ds (λ i. digit (suc i)))
 
   pub digits_bytes : (ds : List ℤ) → ((i : ℕ) → Digit (digit_at ds i)) → length (digit_bytes ds) ≤ string_digits → DigitString w (digit_bytes ds)
-  digits_bytes ds digit l = record { within = l; digits = λ i _. rw (get_or-map digit_byte ds i (pos 0)) (digit_byte (digit_at ds i) (digit i)).1 }
+  digits_bytes ds digit l = record { within = l; digits = λ i _. rw (get_or-map digit_byte ds i (pos 0)) (digit_byte_lem (digit_at ds i) (digit i)).1 }
 
   -- the non-adjacent form of an integer, in bytes: a digit string, and the integer is its value
   module _ (z : ℤ) (least : 2 ≤ w) where
@@ -58,7 +58,7 @@ module _ (w : ℕ) (h : w ≤ largest_width) where
     -- digit by digit
     pub place_back : (i : ℕ) → byte_digit (place_byte (naf w z) i) ≡ digit_at (naf w z) i
     unfolding place_byte
-    place_back i = (digit_byte (digit_at (naf w z) i) (digit i)).0
+    place_back i = (digit_byte_lem (digit_at (naf w z) i) (digit i)).0
 
     pub naf_bytes_value : string_value (digit_bytes (naf w z)) ≡ z
     naf_bytes_value = ap value naf_back ∙ naf_value w z least

@@ -93,8 +93,8 @@ module _ (more less : ℕ) where
   unfolding other negatives index_byte
   index_is j = refl
 
-  index_byte : (j : ℕ) → index_byte more less j < 256
-  index_byte j = omega (arith, index_is j, other_small j, negatives_small j)
+  index_small : (j : ℕ) → index_byte more less j < 256
+  index_small j = omega (arith, index_is j, other_small j, negatives_small j)
 
   pub indices_are : others + 2 * negative ≡ bytes_value (tabulate (index_byte more less) 8)
   indices_are =
@@ -102,9 +102,9 @@ module _ (more less : ℕ) where
       rw (twice, others_are) (value_add other (λ j. 2 * negatives j) 8 ∙ ap bytes_value t)
 
   pub indices_fit : others + 2 * negative < 2 ^ 64
-  indices_fit = rw indices_are (value_small (index_byte more less) 8 index_byte)
+  indices_fit = rw indices_are (value_small (index_byte more less) 8 index_small)
 
   -- what is looked up for byte j
   pub index_at : (word j : ℕ) → word ≡ bytes_value (tabulate (index_byte more less) 8) → j < 8 → word / 2 ^ (8 * j) % 256 ≡ index_byte more less j
   index_at word j e l =
-      rw (e, ← power_of_bytes j, ← positional_at 256 (tabulate (index_byte more less) 8) j (below_tabulate 256 (index_byte more less) 8 index_byte)) (get_d_tabulate (index_byte more less) 8 j l)
+      rw (e, ← power_of_bytes j, ← positional_at 256 (tabulate (index_byte more less) 8) j (below_tabulate 256 (index_byte more less) 8 index_small)) (get_d_tabulate (index_byte more less) 8 j l)

@@ -1,0 +1,17 @@
+-- `cleaning_digits::count` meets its contract. Assumes nothing.
+use native.Mathlib.Omega.{arith}
+use Rattle.cleaning_digits.specs.Sums.{sum_at}
+use Rattle.cleaning_digits.proofs.Length.{count_is}
+use borrow.Author.Rules.{rules}
+use Rattle.cleaning_digits.proofs.count.Goals as goal
+
+pub returns-then-length-ne0 : goal.returns-then-length-ne0
+returns-then-length-ne0 c = c.by_top-length.ensures (search rules)
+
+pub highest-requires : goal.highest-requires
+unfolding sum_at
+highest-requires c = search rules
+
+pub returns : goal.returns
+returns c =
+    count_is c.args.digits.now c.requires c.significant-n.result 0 c.highest.result c.significant-n.ensures c.highest.ensures (λ h. absurd (omega arith))

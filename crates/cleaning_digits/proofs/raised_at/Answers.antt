@@ -1,0 +1,13 @@
+-- `cleaning_digits::raised_at` meets its contract. Assumes nothing.
+use mathlib.Core.Path.{◌≡◌}
+use Prim.Native.Nat.{◌+◌, ◌%◌}
+use native.Mathlib.Omega.{arith}
+use Rattle.cleaning_digits.specs.Sums.{raised_at}
+use Rattle.cleaning_digits.proofs.Places.{raised_small}
+use Rattle.cleaning_digits.proofs.raised_at.Goals as goal
+
+pub returns : goal.returns
+unfolding raised_at
+returns c =
+    let e : (c.byte_at.result + 1) % 256 ≡ raised_at c.args.digits.now c.args.i = rw c.byte_at.ensures.0 in
+    (e, omega (arith, e, raised_small c.args.digits.now c.requires c.args.i))

@@ -1,0 +1,62 @@
+-- `reading_digits::byte_of` meets its contract. Assumes nothing.
+use mathlib.Core.Path.{◌≡◌}
+use borrow.Author.Tests.{eq-eqb, ne_eqb}
+use Prim.Native.Nat.{◌-◌, ◌*◌, ◌%◌, ◌^◌, ◌≤◌}
+use native.Mathlib.Omega.{arith}
+use lib.Pow.{pow_pos, pow_mono}
+use Rattle.reading_digits.specs.Sums.{raised_zeros, by_sign}
+use Rattle.reading_digits.proofs.Raised.{zeros_made, zeros_byte, raised_few}
+use Rattle.reading_digits.proofs.byte_of.Goals.{After-raised_sum-sum}
+use Rattle.reading_digits.proofs.byte_of.Goals as goal
+
+-- the power of two fits
+power : (c : After-raised_sum-sum) → (1 ≤ 2 ^ c.args.count) × (2 ^ c.args.count ≤ 256)
+power c = (pow_pos c.args.count, pow_mono {i = c.args.count} {j = 8} c.requires.count_bound)
+
+-- the zeros, and the sum, which is at most twice as much
+zeros : (c : After-raised_sum-sum)
+    → (c.args.largest * (1 * 2 ^ c.args.count % 2 ^ 64 - 1) ≡ raised_zeros c.args.largest c.args.count)
+    × (raised_zeros c.args.largest c.args.count ≤ 127 * 255)
+    × (c.raised_sum-sum.result ≤ 2 * raised_zeros c.args.largest c.args.count)
+zeros c =
+    let args = c.args in (
+      zeros_made args.largest args.count c.requires.count_bound,
+      zeros_byte args.largest args.count c.requires.largest_lt_carry_zero c.requires.count_bound,
+      rw c.raised_sum-sum.ensures (raised_few args.largest args.digits.now args.from args.count c.requires.sizes_up_to),
+    )
+
+pub overflow_sub-zeros : goal.overflow_sub-zeros
+overflow_sub-zeros c = omega (arith, power (goal.at.overflow_sub-zeros c).After-raised_sum-sum)
+
+pub overflow_mul-zeros : goal.overflow_mul-zeros
+overflow_mul-zeros c = omega (arith, zeros (goal.at.overflow_mul-zeros c).After-raised_sum-sum)
+
+pub overflow_add-result-then-sign-eq0 : goal.overflow_add-result-then-sign-eq0
+overflow_add-result-then-sign-eq0 c = omega (arith, zeros (goal.at.overflow_add-result-then-sign-eq0 c).After-raised_sum-sum)
+
+pub overflow_sub-result : goal.overflow_sub-result
+overflow_sub-result c = omega (arith, zeros (goal.at.overflow_sub-result c).After-raised_sum-sum)
+
+pub overflow_add-result-else-sign-eq0-2 : goal.overflow_add-result-else-sign-eq0-2
+overflow_add-result-else-sign-eq0-2 c = omega (arith, zeros (goal.at.overflow_add-result-else-sign-eq0-2 c).After-raised_sum-sum)
+
+pub overflow_sub-result-else-sign-eq0 : goal.overflow_sub-result-else-sign-eq0
+overflow_sub-result-else-sign-eq0 c = omega (arith, zeros (goal.at.overflow_sub-result-else-sign-eq0 c).After-raised_sum-sum)
+
+pub returns-then-sign-eq0 : goal.returns-then-sign-eq0
+unfolding by_sign
+returns-then-sign-eq0 c =
+    let h = zeros (goal.at.returns-then-sign-eq0 c).After-raised_sum-sum in
+    record {
+      small = omega arith;
+      value = rw (eq-eqb c.args.sign 0 c.if-sign-eq0.true) (omega (arith, c.raised_sum-sum.ensures));
+    }
+
+pub returns-else-sign-eq0 : goal.returns-else-sign-eq0
+unfolding by_sign
+returns-else-sign-eq0 c =
+    let h = zeros (goal.at.returns-else-sign-eq0 c).After-raised_sum-sum in
+    record {
+      small = omega arith;
+      value = rw (ne_eqb c.args.sign 0 c.if-sign-eq0.false) (omega (arith, c.raised_sum-sum.ensures));
+    }

@@ -55,8 +55,8 @@ module _ (number : List ℕ) where
   start_answers vs = (λ e. elim (given e) [ ready a q ↦ (a, q) ], λ h. given_only (ready h.0 h.1))
 
   -- the number that the recoder handed back stands for; zero after a refusal
-  pub start_number : Admitted number → start_number number ≡ bytes_value number
-  start_number a = rw (number_only number (admitted a))
+  pub start_number_lem : Admitted number → start_number number ≡ bytes_value number
+  start_number_lem a = rw (number_only number (admitted a))
 
   pub refused_number : (n p : ℕ) → outcome ≡ refused n p → start_number number ≡ 0
   refused_number n p e = go (number_verdict number) refl

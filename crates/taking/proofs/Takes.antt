@@ -16,7 +16,7 @@ use Rattle.taking.specs.declared.Started.{Started}
 use Rattle.taking.specs.declared.Taken.{Taken}
 use Rattle.recoding.specs.Recode.{recoding_of, recoding}
 use Rattle.taking.specs.Take.{stands_for, start_number, start_outcome, take_answer, take_leaves, take_outcome, IsStart, Run, before, digit_outcome, digits_to_come}
-use Rattle.taking.proofs.Promises.{start_number, refused_number}
+use Rattle.taking.proofs.Promises.{start_number_lem, refused_number}
 
 -- the run from the second take on
 tail : (r : Recoder) (t : ℕ → Taken) → Run r t → Run (t 0).next (λ k. t (suc k))
@@ -84,7 +84,7 @@ module _ (number : List ℕ) (s : Started) (t : ℕ → Taken) (start : IsStart 
   -- the canonical digits of the number, as recode writes them
   pub takes_number : Admitted number → (k : ℕ) → take_outcome (t k).answer ≡ digit_outcome (recoding number) k
   unfolding recoding_of
-  takes_number a k = takes_from _ (start_number number a) k
+  takes_number a k = takes_from _ (start_number_lem number a) k
 
   -- those of zero after a refusal: done from the first take on
   pub takes_refused : (n p : ℕ) → start_outcome s.answer ≡ refused n p → (k : ℕ) → take_outcome (t k).answer ≡ done

@@ -1,0 +1,76 @@
+-- `wide_digits::write` meets its contract: the digits below the place are written. Assumes nothing.
+use mathlib.Core.Path.{refl}
+use Prim.Native.Nat.{◌≤◌, ◌*◌, ◌^◌, ◌%◌, ◌/◌}
+use native.Mathlib.Omega.{arith}
+use lib.Count.{count_trailing_zeros}
+use Rattle.integers.specs.Positional.{bytes_value}
+use Rattle.digit_strings.proofs.Digits.{bound_fits}
+use Rattle.wide_digits.specs.Internal.{blank_places}
+use Rattle.wide_digits.proofs.Scan.{Taken, scanned_none, scanned_blank, digit_taken, scanned_all}
+use borrow.Author.Rules.{rules}
+use Rattle.wide_digits.proofs.write.Goals.{Else-left-eq0}
+use Rattle.wide_digits.proofs.write.Goals as goal
+
+half-fits : (c : Else-left-eq0) → (1 ≤ c.power_of_two-half.result) × (c.power_of_two-half.result ≤ 128)
+half-fits c = rw c.power_of_two-half.ensures (bound_fits c.args.width (search rules))
+
+-- the digit past the trailing zeros
+taken : (c : Else-left-eq0)
+    → Taken c.args.width c.requires.least_width_le_width.0 c.requires.least_width_le_width.1 c.args.sign (bytes_value c.args.bytes.now) c.args.bits c.requires.bytes_bound c.loop-place.place c.loop-place.out
+    (count_trailing_zeros 64 c.left_at-left.result) c.power_of_two-half.result (c.left_at-left.result / 2 ^ count_trailing_zeros 64 c.left_at-left.result % (2 * c.power_of_two-half.result))
+taken c =
+    digit_taken c.args.width c.requires.least_width_le_width.0 c.requires.least_width_le_width.1 c.args.sign (bytes_value c.args.bytes.now) c.args.bits c.requires.bytes_bound c.loop-place.place c.loop-place.carry c.loop-place.length c.loop-place.out c.loop-place.invariant.3 (omega arith) c.left_at-left.result c.power_of_two-half.result c.left_at-left.ensures c.if-left-eq0.false c.power_of_two-half.ensures
+
+pub loop-place-init : goal.loop-place-init
+loop-place-init c =
+    (search rules, search rules, refl, scanned_none c.args.width c.args.sign (bytes_value c.args.bytes.now) c.args.out.now c.requires.blank)
+
+pub loop-place-preserved-then-left-eq0 : goal.loop-place-preserved-then-left-eq0
+loop-place-preserved-then-left-eq0 c =
+    (search rules, search rules, search rules, scanned_blank c.args.width c.requires.least_width_le_width.0 c.requires.least_width_le_width.1 c.args.sign (bytes_value c.args.bytes.now) c.loop-place.place c.loop-place.carry c.loop-place.length c.loop-place.out c.loop-place.invariant.3 blank_places (omega arith) (rw c.left_at-left.ensures at c.if-left-eq0.true))
+
+pub overflow_cast-zeros : goal.overflow_cast-zeros
+overflow_cast-zeros c = omega (arith, (taken (goal.at.overflow_cast-zeros c).Else-left-eq0).few)
+
+pub overflow_shr-remainder : goal.overflow_shr-remainder
+overflow_shr-remainder c = omega (arith, (taken (goal.at.overflow_shr-remainder c).Else-left-eq0).few)
+
+pub overflow_mul-remainder : goal.overflow_mul-remainder
+overflow_mul-remainder c = omega (arith, half-fits (goal.at.overflow_mul-remainder c).Else-left-eq0)
+
+pub nonzero_rem-remainder : goal.nonzero_rem-remainder
+nonzero_rem-remainder c = omega (arith, half-fits (goal.at.nonzero_rem-remainder c).Else-left-eq0)
+
+pub overflow_add-place-in-loop-place : goal.overflow_add-place-in-loop-place
+overflow_add-place-in-loop-place c = omega (arith, (taken (goal.at.overflow_add-place-in-loop-place c).Else-left-eq0).few)
+
+pub digit_byte-requires : goal.digit_byte-requires
+digit_byte-requires c = record {
+  le_half = half-fits (goal.at.digit_byte-requires c).Else-left-eq0;
+  remainder_value = (taken (goal.at.digit_byte-requires c).Else-left-eq0).odd;
+  remainder_bound = (taken (goal.at.digit_byte-requires c).Else-left-eq0).below;
+}
+
+pub bounds-out-place : goal.bounds-out-place
+bounds-out-place c = omega (arith, (taken (goal.at.bounds-out-place c).Else-left-eq0).within)
+
+pub nonzero_div-carry : goal.nonzero_div-carry
+nonzero_div-carry c = omega (arith, half-fits (goal.at.nonzero_div-carry c).Else-left-eq0)
+
+pub overflow_add-length : goal.overflow_add-length
+overflow_add-length c = omega (arith, (taken (goal.at.overflow_add-length c).Else-left-eq0).within)
+
+pub overflow_add-place-in-loop-place-2 : goal.overflow_add-place-in-loop-place-2
+overflow_add-place-in-loop-place-2 c = omega (arith, (taken (goal.at.overflow_add-place-in-loop-place-2 c).Else-left-eq0).within)
+
+pub loop-place-smaller : goal.loop-place-smaller
+loop-place-smaller c = omega (arith, (taken (goal.at.loop-place-smaller c).Else-left-eq0).within)
+
+pub loop-place-preserved : goal.loop-place-preserved
+loop-place-preserved c =
+    let t = taken (goal.at.loop-place-preserved c).Else-left-eq0 in
+    (omega (arith, t.within), t.scanned.small, search rules, rw c.digit_byte.ensures t.scanned)
+
+pub returns : goal.returns
+returns c =
+    scanned_all c.args.width c.requires.least_width_le_width.0 c.requires.least_width_le_width.1 c.args.sign (bytes_value c.args.bytes.now) c.args.bits c.requires.bytes_bound c.loop-place.place c.loop-place.carry c.loop-place.length c.loop-place.out c.loop-place.invariant.3 (search rules) (omega arith)

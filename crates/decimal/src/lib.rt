@@ -28,6 +28,7 @@ struct Part {
 }
 
 // How many digits the text begins with.
+#[tactic(auto, using(crate::proofs::Digits::digit_passed, crate::proofs::Digits::below_digits, crate::proofs::Digits::above_digits, crate::proofs::Digits::all_passed))]
 fn leading_digits(text: &[u8]) -> usize
     ensures { result ≡ leading text.now }
 {

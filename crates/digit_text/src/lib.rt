@@ -12,6 +12,7 @@ use text_words::{next_word, word_count};
 const NO_DIGIT: u8 = 2;
 
 // The byte of the digit that a word is.
+#[tactic(auto, using(crate::proofs::Comparing::zero_digit, crate::proofs::Comparing::one_digit, crate::proofs::Comparing::other_byte, crate::proofs::Comparing::other_length, crate::proofs::Comparing::other_at, crate::proofs::Comparing::minus_one_digit))]
 fn digit_of(word: &[u8]) -> u8
     ensures { result ≡ word_digit word.now }
 {

@@ -12,7 +12,7 @@ use Rattle.signed_digits.proofs.Steps.{naf_zero, low_digit_2, by_four}
 use Rattle.recoding.specs.Recode.{recoding_of, recoding}
 use Rattle.taking.specs.Take.{start_answer, start_number, start_outcome, take_answer, take_outcome, digit_outcome}
 use Rattle.taking.proofs.Takes.{digits_of_lem, digits_after}
-use Rattle.taking.proofs.Promises.{start_number, refused_number}
+use Rattle.taking.proofs.Promises.{start_number_lem, refused_number}
 use Rattle.c_recoder.specs.Kept.{kept_number, taken_number, taken_outcome, IsKeptTake}
 
 -- no digit's byte is the number of done
@@ -40,7 +40,7 @@ module _ (number : List ℕ) (w : ℕ → List ℕ) (a : ℕ → ℕ) (start : k
   -- from lesmutka_start on: the number's digits, then done
   pub kept_takes_number : Admitted number → (k : ℕ) → taken_outcome (a k) ≡ digit_outcome (recoding number) k
   unfolding recoding_of
-  kept_takes_number h k = kept_takes w a run k ∙ ap (λ (n : ℕ). outcome_at n k) (start ∙ start_number number h)
+  kept_takes_number h k = kept_takes w a run k ∙ ap (λ (n : ℕ). outcome_at n k) (start ∙ start_number_lem number h)
 
   -- after its refusal: done, and nothing else
   pub kept_takes_refused : (n p : ℕ) → start_outcome (start_answer number) ≡ refused n p → (k : ℕ) → taken_outcome (a k) ≡ done

@@ -1,0 +1,12 @@
+-- `c_recoder::kept_of` meets its contract: after k turns the first k words stand. Assumes nothing.
+use mathlib.Core.Path.{◌≡◌}
+use Prim.Native.Nat.{◌+◌, ◌-◌, ◌≤◌}
+use lib.ListN.{length, take}
+use Rattle.rules.specs.Limits.{number_words}
+use Rattle.c_recoder.proofs.kept_of.Given as goal
+
+abbrev pub invariant-loop-k : goal.invariant-loop-k
+invariant-loop-k l = (l.k ≤ number_words) × (length l.kept ≡ number_words + 1) × (take l.k l.kept ≡ take l.k l.words)
+
+abbrev pub decreases-loop-k : goal.decreases-loop-k
+decreases-loop-k l = number_words - l.k

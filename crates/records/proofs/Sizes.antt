@@ -34,9 +34,9 @@ module _ (space : List ℕ) (at : ℕ) where
   unfolding size_words
   length_words = length_tabulate (word_at (part at value_bytes space)) value_words
 
-  pub word_at : (k : ℕ) → k < value_words → get_or size_words k 0 ≡ word_at (part at value_bytes space) k
+  pub word_at_lem : (k : ℕ) → k < value_words → get_or size_words k 0 ≡ word_at (part at value_bytes space) k
   unfolding size_words
-  word_at k h = get_d_tabulate (word_at (part at value_bytes space)) value_words k h
+  word_at_lem k h = get_d_tabulate (word_at (part at value_bytes space)) value_words k h
 
   -- the bytes of each: eight, or the single one of the top word
   pub whole_word : (k : ℕ) → k < value_words - 1 → bytes_value (part (at + 8 * k) 8 space) ≡ word_at (part at value_bytes space) k
@@ -155,7 +155,7 @@ module _ (space : List ℕ) (a b : ℕ) where
 
     pub same_more : (k : ℕ) → k < value_words → (same_to k && eqb (word_at (part a value_bytes space) k) (word_at (part b value_bytes space) k)) ≡ same_to (k + 1)
     same_more k h =
-        rw (add-one, positional_take (2 ^ 64) k (size_words space a), positional_take (2 ^ 64) k (size_words space b), word_at space a k h, word_at space b k h)
+        rw (add-one, positional_take (2 ^ 64) k (size_words space a), positional_take (2 ^ 64) k (size_words space b), word_at_lem space a k h, word_at_lem space b k h)
         (split_eqb ((2 ^ 64) ^ k) _ _ _ _ (low_small a k) (low_small b k))
 
   pub same_all : a + value_bytes ≤ length space → b + value_bytes ≤ length space → same_to value_words ≡ eqb (bytes_value (part a value_bytes space)) (bytes_value (part b value_bytes space))

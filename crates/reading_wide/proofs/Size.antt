@@ -47,8 +47,8 @@ module _ (w : ℕ) (a : AllowedWidth w) where
           rw (pow-add 2 (w - 1) n) (omega (arith, size_room w digits d, pow_pos n, ap (λ (x : ℕ). x * 2 ^ n) e))
 
   -- the largest digit, by its byte
-  largest_digit : (is_digit w (largest_digit w) ≡ true) × (byte_digit (largest_digit w) ≡ pos (largest_digit w))
-  largest_digit =
+  largest_digit_lem : (is_digit w (largest_digit w) ≡ true) × (byte_digit (largest_digit w) ≡ pos (largest_digit w))
+  largest_digit_lem =
       let s : w - 1 ≡ suc (w - 2) = omega (arith, a.least) in
       let e : 2 ^ (w - 1) ≡ 2 ^ (w - 2) * 2 = ap (λ (k : ℕ). 2 ^ k) s ∙ pow-suc 2 (w - 2) in
       let f = bound_fits w a.most in
@@ -63,7 +63,7 @@ module _ (w : ℕ) (a : AllowedWidth w) where
   size_met n h = (
     record {
       within = rw (length-replicate n t) h;
-      digits = λ i k. rw (get_or-replicate n i t 0 (rw (length-replicate n t) at k)) largest_digit.0;
+      digits = λ i k. rw (get_or-replicate n i t 0 (rw (length-replicate n t) at k)) largest_digit_lem.0;
     },
     ap nat_abs (sum n),
   )
@@ -75,7 +75,7 @@ module _ (w : ℕ) (a : AllowedWidth w) where
       sum zero = ap pos (omega arith)
       sum (suc n) =
           let e : 2 ^ suc n - 1 ≡ 2 * (2 ^ n - 1) + 1 = omega (arith, pow-suc 2 n, pow_pos n) in
-          rw (largest_digit.1, sum n, e) (ap pos (omega arith))
+          rw (largest_digit_lem.1, sum n, e) (ap pos (omega arith))
 
 -- and of the largest width, as many as a string may have, to just so many bytes
 pub bytes_met : length (size_bytes (replicate string_digits (largest_digit largest_width))) ≡ string_digits / 8 + 1

@@ -11,8 +11,8 @@ use borrow.Author.Rules.{rules}
 use Rattle.wide_digits.proofs.write.Goals.{Else-left-eq0}
 use Rattle.wide_digits.proofs.write.Goals as goal
 
-half-fits : (c : Else-left-eq0) → (1 ≤ c.power_of_two-half.result) × (c.power_of_two-half.result ≤ 128)
-half-fits c = rw c.power_of_two-half.ensures (bound_fits c.args.width (search rules))
+half_fits : (c : Else-left-eq0) → (1 ≤ c.power_of_two-half.result) × (c.power_of_two-half.result ≤ 128)
+half_fits c = rw c.power_of_two-half.ensures (bound_fits c.args.width (search rules))
 
 -- the digit past the trailing zeros
 taken : (c : Else-left-eq0)
@@ -36,17 +36,17 @@ pub overflow_shr-remainder : goal.overflow_shr-remainder
 overflow_shr-remainder c = omega (arith, (taken (goal.at.overflow_shr-remainder c).Else-left-eq0).few)
 
 pub overflow_mul-remainder : goal.overflow_mul-remainder
-overflow_mul-remainder c = omega (arith, half-fits (goal.at.overflow_mul-remainder c).Else-left-eq0)
+overflow_mul-remainder c = omega (arith, half_fits (goal.at.overflow_mul-remainder c).Else-left-eq0)
 
 pub nonzero_rem-remainder : goal.nonzero_rem-remainder
-nonzero_rem-remainder c = omega (arith, half-fits (goal.at.nonzero_rem-remainder c).Else-left-eq0)
+nonzero_rem-remainder c = omega (arith, half_fits (goal.at.nonzero_rem-remainder c).Else-left-eq0)
 
 pub overflow_add-place-in-loop-place : goal.overflow_add-place-in-loop-place
 overflow_add-place-in-loop-place c = omega (arith, (taken (goal.at.overflow_add-place-in-loop-place c).Else-left-eq0).few)
 
 pub digit_byte-requires : goal.digit_byte-requires
 digit_byte-requires c = record {
-  le_half = half-fits (goal.at.digit_byte-requires c).Else-left-eq0;
+  le_half = half_fits (goal.at.digit_byte-requires c).Else-left-eq0;
   remainder_value = (taken (goal.at.digit_byte-requires c).Else-left-eq0).odd;
   remainder_bound = (taken (goal.at.digit_byte-requires c).Else-left-eq0).below;
 }
@@ -55,7 +55,7 @@ pub bounds-out-place : goal.bounds-out-place
 bounds-out-place c = omega (arith, (taken (goal.at.bounds-out-place c).Else-left-eq0).within)
 
 pub nonzero_div-carry : goal.nonzero_div-carry
-nonzero_div-carry c = omega (arith, half-fits (goal.at.nonzero_div-carry c).Else-left-eq0)
+nonzero_div-carry c = omega (arith, half_fits (goal.at.nonzero_div-carry c).Else-left-eq0)
 
 pub overflow_add-length : goal.overflow_add-length
 overflow_add-length c = omega (arith, (taken (goal.at.overflow_add-length c).Else-left-eq0).within)

@@ -108,8 +108,8 @@ module _ (e p : ℕ) where
     pub zeros : (j : ℕ) → suc place ≤ j → j < suc p → bit e j ≡ 0
     pub window : first_in x d ≡ record { bits = 64 - bit_length x + longest e place d; value = window_value e place (longest e place d) }
 
-  pub first_in : (d : ℕ) → 1 ≤ d → d ≤ sliding_window_bits → 2 ^ sliding_window_bits ≤ x → First d
-  first_in d wide narrow big =
+  pub first_in_lem : (d : ℕ) → 1 ≤ d → d ≤ sliding_window_bits → 2 ^ sliding_window_bits ≤ x → First d
+  first_in_lem d wide narrow big =
       let m : ℕ = bit_length x - 1 in
       let one : bit x m ≡ 1 = top_one x (omega arith) in
       let length : bit_length x ≤ 64 = (bit_length_iff x 64).1 bits_small in

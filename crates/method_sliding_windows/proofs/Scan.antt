@@ -35,7 +35,7 @@ use Rattle.plan_writing.specs.declared.Cursor.{Cursor}
 use Rattle.plan_writing.specs.Writing.{Writing}
 use Rattle.method_sliding_windows.specs.declared.Window.{Window}
 use Rattle.method_sliding_windows.specs.declared.Start.{Start}
-use Rattle.method_sliding_windows.proofs.Bits.{bits_zero, first_in}
+use Rattle.method_sliding_windows.proofs.Bits.{bits_zero, first_in_lem}
 use Rattle.method_sliding_windows.specs.Scan.{window_at, bits_down, first_in, at_sliding_window, Turn, start_from, start_of}
 
 -- ---- a number and its words
@@ -137,7 +137,7 @@ module _ (e d : ℕ) (wide : 1 ≤ d) where
 
     pub next_window : 2 ^ sliding_window_bits ≤ x → Turn e d i (first_in x d)
     next_window big =
-        let f = first_in e (i - 1) d wide narrow (rw bits at big) in
+        let f = first_in_lem e (i - 1) d wide narrow (rw bits at big) in
         let n : ℕ = f.place in
         let z : ℕ = 64 - bit_length (bits_down e (i - 1)) in
         let s : i ≡ suc n + z = omega (arith, f.below) in

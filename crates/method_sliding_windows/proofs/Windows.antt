@@ -77,8 +77,8 @@ module _ (e n d b : ℕ) (one : bit e n ≡ 1) (wide : 1 ≤ d) (few : d ≤ 64)
   window_bits : longest e n d ≡ d - count_trailing_zeros 64 b
   window_bits = all.bits
 
-  window_value : b / 2 ^ count_trailing_zeros 64 b ≡ window_value e n (longest e n d)
-  window_value = ap (λ (x : ℕ). x / 2 ^ count_trailing_zeros 64 b) read ∙ all.value ∙ ap (λ (l : ℕ). window_value e n l) (sym window_bits)
+  window_value_lem : b / 2 ^ count_trailing_zeros 64 b ≡ window_value e n (longest e n d)
+  window_value_lem = ap (λ (x : ℕ). x / 2 ^ count_trailing_zeros 64 b) read ∙ all.value ∙ ap (λ (l : ℕ). window_value e n l) (sym window_bits)
 
 -- of 64 bits, by their leading zeros
 module _ (x d : ℕ) (big : 2 ^ sliding_window_bits ≤ x) (small : x < 2 ^ 64) (wide : 1 ≤ d) (narrow : d ≤ sliding_window_bits) where
@@ -114,4 +114,4 @@ module _ (x d : ℕ) (big : 2 ^ sliding_window_bits ≤ x) (small : x < 2 ^ 64) 
   pub first_read : record { bits = zeros + d - trailing; value = read / 2 ^ trailing } ≡ first_in x d
   first_read =
       let bits : zeros + d - trailing ≡ 64 - bit_length x + longest x (bit_length x - 1) d = omega (arith, zeros_few, trailing_few, window_bits x (bit_length x - 1) d read one wide (omega arith) within reads) in
-      rw (bits, window_value x (bit_length x - 1) d read one wide (omega arith) within reads)
+      rw (bits, window_value_lem x (bit_length x - 1) d read one wide (omega arith) within reads)

@@ -30,7 +30,7 @@ const BITS_ABOVE: usize = 64 - SLIDING_WINDOW_BITS;
 
 // What the scan takes at once: the zeros from a place down and the window below them, with its
 // value; or zeros alone, and 0.
-#[derive(Drop)]
+#[derive(Clone, Copy)]
 struct Window {
     bits: usize,
     value: u64,

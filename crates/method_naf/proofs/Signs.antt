@@ -62,8 +62,8 @@ module _ (e : ℕ) where
   sum : 3 * e / 2 ≡ e + e / 2
   sum = omega arith
 
-  pub plus_digits : plus_digits (canonical (pos e)) ≡ only_in (3 * e) e
-  plus_digits = (signs e (e / 2) e (omega arith) (omega arith) (omega arith)).0 ∙ sym (omega (arith, rw sum at (only_in_step (3 * e) e)))
+  pub plus_digits_lem : plus_digits (canonical (pos e)) ≡ only_in (3 * e) e
+  plus_digits_lem = (signs e (e / 2) e (omega arith) (omega arith) (omega arith)).0 ∙ sym (omega (arith, rw sum at (only_in_step (3 * e) e)))
 
-  pub minus_digits : minus_digits (canonical (pos e)) ≡ only_in e (3 * e)
-  minus_digits = (signs e (e / 2) e (omega arith) (omega arith) (omega arith)).1 ∙ sym (omega (arith, rw sum at (only_in_step e (3 * e))))
+  pub minus_digits_lem : minus_digits (canonical (pos e)) ≡ only_in e (3 * e)
+  minus_digits_lem = (signs e (e / 2) e (omega arith) (omega arith) (omega arith)).1 ∙ sym (omega (arith, rw sum at (only_in_step e (3 * e))))

@@ -1,0 +1,33 @@
+-- `method_naf::counts` meets its contract. Assumes nothing.
+use mathlib.Core.Path.{◌≡◌, sym}
+use mathlib.Core.List.{List}
+use Prim.Native.Nat.{ℕ, ◌-◌}
+use native.Mathlib.Omega.{arith}
+use lib.IntN.{ℤ, pos}
+use lib.ListN.{length}
+use Rattle.integers.specs.Positional.{bytes_value}
+use Rattle.signed_digits.specs.Naf.{canonical}
+use Rattle.signed_digits.proofs.Left.{some_digits}
+use Rattle.recoding_digits.proofs.Triple.{digit_count}
+use Rattle.methods.proofs.WideNaf.{wide_plus}
+use Rattle.methods.proofs.NonAdjacentForm.{naf_counts}
+use Rattle.method_naf.proofs.Signs.{plus_digits_lem, minus_digits_lem}
+use borrow.Author.Rules.{rules}
+use Rattle.method_naf.proofs.counts.Goals as goal
+
+pub overflow_sub-result : goal.overflow_sub-result
+overflow_sub-result c =
+    let e : ℕ = bytes_value c.args.number.now in
+    omega (arith, c.tally_of-digits.ensures.2, digit_count e (search rules), some_digits 2 (omega arith) e (search rules))
+
+pub overflow_sub-result-2 : goal.overflow_sub-result-2
+overflow_sub-result-2 c =
+    let e : ℕ = bytes_value c.args.number.now in
+    omega (arith, c.tally_of-digits.ensures.0, plus_digits_lem e, wide_plus e 2 (search rules) (omega arith))
+
+pub returns : goal.returns
+returns c =
+    let e : ℕ = bytes_value c.args.number.now in
+    let ds : List ℤ = canonical (pos e) in
+    let below : c.tally_of-digits.result.length - 2 ≡ length ds - 1 = omega (arith, c.tally_of-digits.ensures.2, digit_count e (search rules)) in
+    rw (below, c.tally_of-digits.ensures.0, c.tally_of-digits.ensures.1, ← plus_digits_lem e, ← minus_digits_lem e) (sym (naf_counts e (search rules)))

@@ -1,0 +1,27 @@
+-- `method_naf::write` meets its contract. Assumes nothing.
+use native.Mathlib.Omega.{arith}
+use Prim.Native.Nat.{ℕ}
+use lib.IntN.{pos}
+use Rattle.integers.specs.Positional.{bytes_value}
+use Rattle.signed_digits.specs.Naf.{canonical}
+use Rattle.signed_digits.proofs.Canonical.{canonical_form}
+use Rattle.signed_digits.proofs.Leading.{canonical_top}
+use Rattle.methods.specs.NonAdjacentForm.{naf_steps}
+use Rattle.digit_plans.proofs.Raised.{plain}
+use borrow.Author.Rules.{rules}
+use Rattle.method_naf.proofs.write.Goals as goal
+
+pub write_steps-requires : goal.write_steps-requires
+unfolding naf_steps
+write_steps-requires c =
+    let e : ℕ = bytes_value c.args.number.now in
+    let there = c.recoded-count.ensures in
+    record {
+      plain = plain _ _ (omega (arith, there.few)) (canonical (pos e)) there (canonical_form (pos e)).digits (canonical_top e (search rules));
+      count_in_bounds = rw there.digits (search rules);
+    }
+
+pub returns : goal.returns
+unfolding naf_steps
+returns c =
+    rw c.recoded-count.ensures.digits at c.write_steps.ensures

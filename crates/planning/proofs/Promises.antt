@@ -95,7 +95,7 @@ module _ (number : List ℕ) (method width : ℕ) where
   -- otherwise the counts of the method's steps are answered
   pub forecast_answers : (vs : List ℕ)
       → forecasts ≡ answered vs ↔ ((m : Method) × Positive number × (method_of method width ≡ Chosen.Method m) × (vs ≡ counts_by number m))
-  forecast_answers vs = (λ e. elim (forecast_given e) [ counts {m = m} p c v ↦ (m, p, c, v) ], λ h. forecast_given_only (counts h.1 h.2 h.3))
+  forecast_answers vs = (λ e. elim (forecast_given e) [ counts {m = m} p c v ↦ (m, p, c, v) | refuses x ↦ elim x [ ] ], λ h. forecast_given_only (counts h.1 h.2 h.3))
 
   -- ---- plan, lent this many bytes: the same refusals, then room
 
@@ -153,7 +153,7 @@ module _ (number : List ℕ) (method width : ℕ) where
         × (method_of method width ≡ Chosen.Method m)
         × (room < length (plan_by number m))
         × (p ≡ length (plan_by number m)))
-    plan_refuses_6 p = (λ e. elim (plan_given e) [ six {m = m} n c l q ↦ (m, n, c, l, q) ], λ h. plan_given_only (six h.1 h.2 h.3 h.4))
+    plan_refuses_6 p = (λ e. elim (plan_given e) [ six {m = m} n c l q ↦ (m, n, c, l, q) | refuses x ↦ elim x [ ] ], λ h. plan_given_only (six h.1 h.2 h.3 h.4))
 
     -- otherwise the counts are answered
     pub plan_answers : (vs : List ℕ)
@@ -163,7 +163,7 @@ module _ (number : List ℕ) (method width : ℕ) where
         × (method_of method width ≡ Chosen.Method m)
         × (length (plan_by number m) ≤ room)
         × (vs ≡ counts_by number m))
-    plan_answers vs = (λ e. elim (plan_given e) [ counts {m = m} n c l q ↦ (m, n, c, l, q) ], λ h. plan_given_only (counts h.1 h.2 h.3 h.4))
+    plan_answers vs = (λ e. elim (plan_given e) [ counts {m = m} n c l q ↦ (m, n, c, l, q) | refuses x ↦ elim x [ ] ], λ h. plan_given_only (counts h.1 h.2 h.3 h.4))
 
   -- ---- the buffer: a refusal leaves it alone; an answer puts the plan at its start and leaves what is above
 

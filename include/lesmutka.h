@@ -53,7 +53,7 @@
  *
  *   Target     x86-64 with the System V ABI, 64-bit pointers and ELF objects, such as Linux. Not
  *              Windows, macOS, UEFI or x32.
- *   Linking    liblesmutka.a, which `rt staticlib lesmutka` writes to target/staticlib/; after
+ *   Linking    liblesmutka.a, which `./lesmutka --build` writes to target/staticlib/; after
  *              `./install PREFIX`, what `pkg-config --cflags --libs lesmutka` says. It calls memcpy
  *              and memset and nothing else, is position independent, and has a section for each
  *              function, so -Wl,--gc-sections leaves out those that are not called.

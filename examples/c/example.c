@@ -1,7 +1,7 @@
 /* Plans 43 by the non-adjacent form, prints the plan, checks it, takes the digits one by one, and
  * shows a refusal.
  *
- *     rt staticlib lesmutka
+ *     ./lesmutka --build
  *     cc -I include examples/c/example.c target/staticlib/liblesmutka.a -o example && ./example
  */
 #include <inttypes.h>

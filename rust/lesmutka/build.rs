@@ -1,4 +1,4 @@
-// Finds liblesmutka.a: in the folder that LESMUTKA_LIB_DIR names, or where `rt staticlib lesmutka`
+// Finds liblesmutka.a: in the folder that LESMUTKA_LIB_DIR names, or where `./lesmutka --build`
 // writes it in this repository. Without the archive everything works but linking, so that the crate
 // can be checked, documented and packaged on its own.
 use std::env;
@@ -65,7 +65,7 @@ fn link() {
                 println!("cargo:rerun-if-changed={}", path);
             }
             println!(
-                "cargo:warning=there is no {}, so nothing can be linked: run `rt staticlib lesmutka` at the top of \
+                "cargo:warning=there is no {}, so nothing can be linked: run `./lesmutka --build` at the top of \
                  the repository, or set LESMUTKA_LIB_DIR",
                 looked.join(" and no ")
             );

@@ -1,6 +1,5 @@
-// Every call (docs/RULES.md, 4.1) for C and Rust: byte slices and numbers in, structs of numbers out. A
-// slice is passed as a pointer and a length. include/lesmutka.h says what each call takes and
-// leaves.
+// Every call (docs/RULES.md, 4.1) for C and Rust: byte slices and numbers in, structs of numbers out.
+// `lesmutka_c` exports them. include/lesmutka.h says what each call takes and leaves.
 #![tactic(auto)]
 
 ghost use Rattle.std.specs.Prelude.{◌≡◌, length};
@@ -28,8 +27,7 @@ use c_recoder::{KEPT_WORDS, kept_of};
 use taking::Recoder;
 
 // Writes the canonical string of a number.
-#[unsafe(no_mangle)]
-pub extern "C" fn lesmutka_recode(number: &[u8], out: &mut [u8]) -> Length
+pub fn lesmutka_recode(number: &[u8], out: &mut [u8]) -> Length
     ensures answer { result ≡ written_fields (recode_answer number.now (length out.old)) }
     ensures buffer { out.new ≡ recode_buffer number.now out.old }
 {
@@ -37,8 +35,7 @@ pub extern "C" fn lesmutka_recode(number: &[u8], out: &mut [u8]) -> Length
 }
 
 // The same by words.
-#[unsafe(no_mangle)]
-pub extern "C" fn lesmutka_recode_words(number: &[u8], out: &mut [u8]) -> Length
+pub fn lesmutka_recode_words(number: &[u8], out: &mut [u8]) -> Length
     ensures answer { result ≡ written_fields (recode_answer number.now (length out.old)) }
     ensures buffer { out.new ≡ recode_buffer number.now out.old }
 {
@@ -46,8 +43,7 @@ pub extern "C" fn lesmutka_recode_words(number: &[u8], out: &mut [u8]) -> Length
 }
 
 // Writes the modified form of a number.
-#[unsafe(no_mangle)]
-pub extern "C" fn lesmutka_recode_modified(number: &[u8], out: &mut [u8]) -> Length
+pub fn lesmutka_recode_modified(number: &[u8], out: &mut [u8]) -> Length
     ensures answer { result ≡ written_fields (recode_modified_answer number.now (length out.old)) }
     ensures buffer { out.new ≡ recode_modified_buffer number.now out.old }
 {
@@ -55,8 +51,7 @@ pub extern "C" fn lesmutka_recode_modified(number: &[u8], out: &mut [u8]) -> Len
 }
 
 // Starts taking the digits of a number, in a recoder that the caller keeps.
-#[unsafe(no_mangle)]
-pub extern "C" fn lesmutka_start(number: &[u8], recoder: &mut [u64; KEPT_WORDS]) -> Started
+pub fn lesmutka_start(number: &[u8], recoder: &mut [u64; KEPT_WORDS]) -> Started
     ensures answer { result ≡ started_fields (start_answer number.now) }
     ensures recoder { kept_number recoder.new ≡ start_number number.now }
 {
@@ -67,16 +62,14 @@ pub extern "C" fn lesmutka_start(number: &[u8], recoder: &mut [u64; KEPT_WORDS])
 }
 
 // Takes the lowest digit that is left.
-#[unsafe(no_mangle)]
-pub extern "C" fn lesmutka_take(recoder: &mut [u64; KEPT_WORDS]) -> u32
+pub fn lesmutka_take(recoder: &mut [u64; KEPT_WORDS]) -> u32
     ensures { IsKeptTake recoder.old recoder.new result }
 {
     c_recoder::take(recoder)
 }
 
 // Writes the canonical string of a digit string's value.
-#[unsafe(no_mangle)]
-pub extern "C" fn lesmutka_clean(digits: &[u8], out: &mut [u8]) -> Length
+pub fn lesmutka_clean(digits: &[u8], out: &mut [u8]) -> Length
     ensures answer { result ≡ written_fields (clean_answer digits.now (length out.old)) }
     ensures buffer { out.new ≡ clean_buffer digits.now out.old }
 {
@@ -84,8 +77,7 @@ pub extern "C" fn lesmutka_clean(digits: &[u8], out: &mut [u8]) -> Length
 }
 
 // Writes the size of a digit string's value.
-#[unsafe(no_mangle)]
-pub extern "C" fn lesmutka_read_back(digits: &[u8], out: &mut [u8]) -> Value
+pub fn lesmutka_read_back(digits: &[u8], out: &mut [u8]) -> Value
     ensures answer { result ≡ read_fields (read_back_answer digits.now (length out.old)) }
     ensures buffer { out.new ≡ read_back_buffer digits.now out.old }
 {
@@ -93,24 +85,21 @@ pub extern "C" fn lesmutka_read_back(digits: &[u8], out: &mut [u8]) -> Value
 }
 
 // The same three for digits of a width.
-#[unsafe(no_mangle)]
-pub extern "C" fn lesmutka_recode_wide(number: &[u8], width: u32, out: &mut [u8]) -> Length
+pub fn lesmutka_recode_wide(number: &[u8], width: u32, out: &mut [u8]) -> Length
     ensures answer { result ≡ written_fields (recode_wide_answer width number.now (length out.old)) }
     ensures buffer { out.new ≡ recode_wide_buffer width number.now out.old }
 {
     c_answers::of_written(recoding_wide::recode_wide(number, width, out))
 }
 
-#[unsafe(no_mangle)]
-pub extern "C" fn lesmutka_clean_wide(digits: &[u8], width: u32, out: &mut [u8]) -> Length
+pub fn lesmutka_clean_wide(digits: &[u8], width: u32, out: &mut [u8]) -> Length
     ensures answer { result ≡ written_fields (clean_wide_answer width digits.now (length out.old)) }
     ensures buffer { out.new ≡ clean_wide_buffer width digits.now out.old }
 {
     c_answers::of_written(cleaning_wide::clean_wide(digits, width, out))
 }
 
-#[unsafe(no_mangle)]
-pub extern "C" fn lesmutka_read_back_wide(digits: &[u8], width: u32, out: &mut [u8]) -> Value
+pub fn lesmutka_read_back_wide(digits: &[u8], width: u32, out: &mut [u8]) -> Value
     ensures answer { result ≡ read_fields (read_back_wide_answer width digits.now (length out.old)) }
     ensures buffer { out.new ≡ read_back_wide_buffer width digits.now out.old }
 {
@@ -118,8 +107,7 @@ pub extern "C" fn lesmutka_read_back_wide(digits: &[u8], width: u32, out: &mut [
 }
 
 // Writes the plan for a number by a method.
-#[unsafe(no_mangle)]
-pub extern "C" fn lesmutka_plan(number: &[u8], method: u32, width: u32, out: &mut [u8]) -> Counts
+pub fn lesmutka_plan(number: &[u8], method: u32, width: u32, out: &mut [u8]) -> Counts
     ensures answer { result ≡ counted_fields (plan_answer number.now method width (length out.old)) }
     ensures buffer { out.new ≡ plan_buffer number.now method width out.old }
 {
@@ -127,16 +115,14 @@ pub extern "C" fn lesmutka_plan(number: &[u8], method: u32, width: u32, out: &mu
 }
 
 // The counts of that plan's steps.
-#[unsafe(no_mangle)]
-pub extern "C" fn lesmutka_forecast(number: &[u8], method: u32, width: u32) -> Counts
+pub fn lesmutka_forecast(number: &[u8], method: u32, width: u32) -> Counts
     ensures { result ≡ counted_fields (forecast_answer number.now method width) }
 {
     c_answers::of_counted(planning::forecast(number, method, width))
 }
 
 // Checks a plan for a number, in a lent work space.
-#[unsafe(no_mangle)]
-pub extern "C" fn lesmutka_check(number: &[u8], plan: &[u8], space: &mut [u8]) -> Accepted
+pub fn lesmutka_check(number: &[u8], plan: &[u8], space: &mut [u8]) -> Accepted
     ensures answer { result ≡ checked_fields (check_answer number.now plan.now (length space.old)) }
     ensures space { space.new ≡ check_space number.now plan.now space.old }
 {
@@ -144,16 +130,14 @@ pub extern "C" fn lesmutka_check(number: &[u8], plan: &[u8], space: &mut [u8]) -
 }
 
 // The limits that the library keeps.
-#[unsafe(no_mangle)]
-pub extern "C" fn lesmutka_limits() -> Limits
+pub fn lesmutka_limits() -> Limits
     ensures { result ≡ limit_fields documented }
 {
     c_answers::of_limits(rules::current())
 }
 
 // Writes the number of a hexadecimal text.
-#[unsafe(no_mangle)]
-pub extern "C" fn lesmutka_hexadecimal(text: &[u8], out: &mut [u8]) -> Parsed
+pub fn lesmutka_hexadecimal(text: &[u8], out: &mut [u8]) -> Parsed
     ensures answer { result ≡ hexadecimal_fields (hexadecimal_text.parsed (hexadecimal_text.without_prefix text.now) (length out.old)) }
     ensures buffer { out.new ≡ hexadecimal_text.parsed_buffer (hexadecimal_text.without_prefix text.now) out.old }
 {
@@ -161,8 +145,7 @@ pub extern "C" fn lesmutka_hexadecimal(text: &[u8], out: &mut [u8]) -> Parsed
 }
 
 // Writes the number of a decimal text.
-#[unsafe(no_mangle)]
-pub extern "C" fn lesmutka_decimal(text: &[u8], out: &mut [u8]) -> Parsed
+pub fn lesmutka_decimal(text: &[u8], out: &mut [u8]) -> Parsed
     ensures answer { result ≡ decimal_fields (decimal_text.parsed text.now (length out.old)) }
     ensures buffer { out.new ≡ decimal_text.parsed_buffer text.now out.old }
 {
@@ -170,16 +153,14 @@ pub extern "C" fn lesmutka_decimal(text: &[u8], out: &mut [u8]) -> Parsed
 }
 
 // The version of the library.
-#[unsafe(no_mangle)]
-pub extern "C" fn lesmutka_version() -> u32
+pub fn lesmutka_version() -> u32
     ensures { result ≡ version }
 {
     rules::VERSION
 }
 
 // Writes what a refusal's number says.
-#[unsafe(no_mangle)]
-pub extern "C" fn lesmutka_write_words(refusal: usize, out: &mut [u8]) -> Length
+pub fn lesmutka_write_words(refusal: usize, out: &mut [u8]) -> Length
     ensures answer { result ≡ written_fields (words_answer refusal (length out.old)) }
     ensures buffer { out.new ≡ words_buffer refusal out.old }
 {
@@ -187,8 +168,7 @@ pub extern "C" fn lesmutka_write_words(refusal: usize, out: &mut [u8]) -> Length
 }
 
 // Writes the digits of a text.
-#[unsafe(no_mangle)]
-pub extern "C" fn lesmutka_read_digits(text: &[u8], out: &mut [u8]) -> Length
+pub fn lesmutka_read_digits(text: &[u8], out: &mut [u8]) -> Length
     ensures answer { result ≡ written_fields (digits_answer text.now (length out.old)) }
     ensures buffer { out.new ≡ digits_buffer text.now out.old }
 {
@@ -196,8 +176,7 @@ pub extern "C" fn lesmutka_read_digits(text: &[u8], out: &mut [u8]) -> Length
 }
 
 // Writes the plan of a text, a word for each step.
-#[unsafe(no_mangle)]
-pub extern "C" fn lesmutka_read_steps(text: &[u8], out: &mut [u8]) -> Length
+pub fn lesmutka_read_steps(text: &[u8], out: &mut [u8]) -> Length
     ensures answer { result ≡ written_fields (steps_answer text.now (length out.old)) }
     ensures buffer { out.new ≡ steps_buffer text.now out.old }
 {

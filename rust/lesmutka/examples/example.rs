@@ -2,7 +2,7 @@
 //! shows a refusal.
 //!
 //! ```text
-//! rt staticlib lesmutka
+//! ./lesmutka --build
 //! cargo run --manifest-path rust/Cargo.toml -p lesmutka --example example
 //! ```
 use lesmutka::{check, digits, plan, work_space, Method, Refusal, PLAN_ROOM, PLAN_STEPS, STEP_BYTES};

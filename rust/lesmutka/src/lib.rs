@@ -24,7 +24,7 @@
 //! ```
 //!
 //! To link, set `LESMUTKA_LIB_DIR` to the folder that holds liblesmutka.a, which is for x86-64 Linux.
-//! In the library's own repository it is found where `rt staticlib lesmutka` writes it.
+//! In the library's own repository it is found where `./lesmutka --build` writes it.
 #![cfg_attr(not(feature = "std"), no_std)]
 #![deny(missing_docs)]
 

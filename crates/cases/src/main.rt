@@ -38,14 +38,18 @@ use lesmutka::{
     lesmutka_recode_wide, lesmutka_recode_words, lesmutka_start, lesmutka_take,
     lesmutka_write_words,
 };
-use libc::STDIN_FILENO;
 use line::{LINE_BYTES, Line, empty, part, with};
 use rules::{NUMBER_WORDS, PLAN_STEPS, RECORD_BYTES};
 use show::{FILL, put, put_buffer, put_number};
+use std::io;
+use std::io::{BufWriter, Read, Write};
 use taking::{Recoder, Take};
 
 // The most room that is lent: a record more than the longest plan takes.
 const ROOM_BYTES: usize = RECORD_BYTES * (PLAN_STEPS + 2);
+
+// How much is read and written at a time.
+const BLOCK_BYTES: usize = 65536;
 
 // The names of the calls: their letters in base 256.
 const RECODE: u64 = 0x7265636f6465;
@@ -95,31 +99,32 @@ fn number_of(answer: Take) -> usize {
 
 // Takes this many digits, in place as C does and by value. Each take is answered by one number; were
 // the two to differ, by two. What a recoder holds is fixed only once it is done: zeros.
-fn take(number: &[u8], times: usize) {
+fn take<W: Write>(to: &mut W, number: &[u8], times: usize) -> io::Result<()> {
     let mut recoder = [0; NUMBER_WORDS + 1];
     let a = lesmutka_start(number, &mut recoder);
-    put_number(a.refusal);
-    put_number(a.place);
+    put_number(to, a.refusal)?;
+    put_number(to, a.place)?;
     let started = Recoder::start(number);
     let mut by_value = started.recoder;
     let mut i = 0;
     while i < times {
         let answer = lesmutka_take(&mut recoder) as usize;
-        put_number(answer);
+        put_number(to, answer)?;
         let taken = by_value.take();
         by_value = taken.next;
         let digit = taken.answer;
         let same = number_of(digit);
         if same != answer {
-            put_number(same);
+            put_number(to, same)?;
         }
         i += 1;
     }
     let mut k = 0;
     while k < NUMBER_WORDS + 1 {
-        put_number(recoder[k] as usize);
+        put_number(to, recoder[k] as usize)?;
         k += 1;
     }
+    Ok(())
 }
 
 // The fields of an answer, in the order of include/lesmutka.h, and how many there are.
@@ -205,96 +210,114 @@ fn made(name: u64, input: &[u8], plan: &[u8], method: u32, width: u32, out: &mut
     }
 }
 
-fn put_fields(fields: Fields) {
+fn put_fields<W: Write>(to: &mut W, fields: Fields) -> io::Result<()> {
     let values = fields.values;
     let mut i = 0;
     while i < 6 {
         if i < fields.count {
-            put_number(values[i]);
+            put_number(to, values[i])?;
         }
         i += 1;
     }
+    Ok(())
 }
 
 // Makes a call, and writes what it answered and left.
-fn call(name: u64, input: &[u8], plan: &[u8], method: u32, width: u32, out: &mut [u8]) {
+fn call<W: Write>(
+    to: &mut W,
+    name: u64,
+    input: &[u8],
+    plan: &[u8],
+    method: u32,
+    width: u32,
+    out: &mut [u8],
+) -> io::Result<()> {
     let fields = made(name, input, plan, method, width, out);
     if fields.count == 0 {
-        put(b" unknown");
-        return;
+        return put(to, b" unknown");
     }
-    put_fields(fields);
+    put_fields(to, fields)?;
     if name != FORECAST {
-        put_buffer(out);
+        return put_buffer(to, out);
     }
+    Ok(())
 }
 
 // Answers a line, if it is a request.
-fn answer(line: Line, bytes: &[u8; LINE_BYTES]) {
+fn answer<W: Write>(to: &mut W, line: Line, bytes: &[u8; LINE_BYTES]) -> io::Result<()> {
     if line.names[0] <= COMMENT {
-        return;
+        return Ok(());
     }
     if 2 * LINE_BYTES < line.digits {
-        put(b": long");
-        return;
+        return put(to, b": long");
     }
     let room = line.numbers[1] as usize;
     if ROOM_BYTES < room {
-        put(b": room");
-        return;
+        return put(to, b": room");
     }
-    put(b":");
+    put(to, b":")?;
     let name = line.names[0];
     let input = part(bytes, line.starts[2], line.starts[3]);
     if name == TAKE {
-        take(input, room);
-        return;
+        return take(to, input, room);
     }
     let mut space = [FILL; ROOM_BYTES];
     call(
+        to,
         name,
         input,
         part(bytes, line.starts[3], line.starts[4]),
         (line.numbers[3] % 0x100000000) as u32,
         (line.numbers[4] % 0x100000000) as u32,
         &mut space[0..room],
-    );
+    )
 }
 
 // Copies a byte of the input. Where it ends a line, the answer comes before it.
-fn read_byte(byte: u8, line: Line, bytes: &mut [u8; LINE_BYTES]) -> Line {
+fn read_byte<W: Write>(
+    to: &mut W,
+    byte: u8,
+    line: Line,
+    bytes: &mut [u8; LINE_BYTES],
+) -> io::Result<Line> {
     if byte == b'\n' {
         let ended = with(line, b' ', bytes);
-        answer(ended, bytes);
-        put(b"\n");
-        return empty();
+        answer(to, ended, bytes)?;
+        put(to, b"\n")?;
+        return Ok(empty());
     }
-    put(&[byte]);
-    with(line, byte, bytes)
+    put(to, &[byte])?;
+    Ok(with(line, byte, bytes))
 }
 
-fn read_block(block: &[u8], before: Line, bytes: &mut [u8; LINE_BYTES]) -> Line {
+fn read_block<W: Write>(
+    to: &mut W,
+    block: &[u8],
+    before: Line,
+    bytes: &mut [u8; LINE_BYTES],
+) -> io::Result<Line> {
     let mut line = before;
     let mut i = 0;
     while i < block.len() {
-        line = read_byte(block[i], line, bytes);
+        line = read_byte(to, block[i], line, bytes)?;
         i += 1;
     }
-    line
+    Ok(line)
 }
 
-// Nothing says that the input ends, so the loop counts down from a number that no run uses up.
-fn main() {
-    let mut block = io::large_buffer();
+// Nothing says that the input ends, so the loop has as many turns as no run uses up.
+fn main(rt: HostRuntime) -> io::Result<()> {
+    let mut input = rt.stdin();
+    let mut output = BufWriter::with_capacity(rt.alloc(), BLOCK_BYTES, rt.stdout())?;
+    let mut block = [0; BLOCK_BYTES];
     let mut bytes = [0; LINE_BYTES];
     let mut line = empty();
-    let mut turns = u64::MAX;
-    while 0 < turns {
-        let length = io::read_full(STDIN_FILENO, &mut block);
+    for _ in 0..u64::MAX {
+        let length = input.read(&mut block)?;
         if length == 0 {
-            return;
+            break;
         }
-        line = read_block(&block[0..length], line, &mut bytes);
-        turns -= 1;
+        line = read_block(&mut output, &block[0..length], line, &mut bytes)?;
     }
+    output.flush()
 }

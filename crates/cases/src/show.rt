@@ -1,24 +1,24 @@
 // What is written of an answer: its fields, and what a call left in the buffer that it was lent.
-use libc::STDOUT_FILENO;
+use std::io;
+use std::io::Write;
 
 // What a lent buffer holds before the call: no digit, no sign, no operation.
 pub const FILL: u8 = 0xa5;
 
-pub fn put(text: &[u8]) {
-    io::write_all(STDOUT_FILENO, text);
+pub fn put<W: Write>(to: &mut W, text: &[u8]) -> io::Result<()> {
+    to.write_all(text)
 }
 
-pub fn put_number(number: usize) {
-    put(b" ");
-    io::print_decimal(STDOUT_FILENO, number as u64);
+pub fn put_number<W: Write>(to: &mut W, number: usize) -> io::Result<()> {
+    write!(to, " {number}")
 }
 
-fn put_byte(byte: u8) {
-    io::print_hex(STDOUT_FILENO, byte as u64, 2);
+fn put_byte<W: Write>(to: &mut W, byte: u8) -> io::Result<()> {
+    write!(to, "{byte:02x}")
 }
 
 // The bytes up to the last one that changed, and how many stand above it.
-pub fn put_buffer(bytes: &[u8]) {
+pub fn put_buffer<W: Write>(to: &mut W, bytes: &[u8]) -> io::Result<()> {
     let mut end = bytes.len();
     while 0 < end {
         if bytes[end - 1] != FILL {
@@ -26,12 +26,12 @@ pub fn put_buffer(bytes: &[u8]) {
         }
         end -= 1;
     }
-    put(b" ");
+    put(to, b" ")?;
     let mut i = 0;
     while i < end {
-        put_byte(bytes[i]);
+        put_byte(to, bytes[i])?;
         i += 1;
     }
-    put(b"+");
-    io::print_decimal(STDOUT_FILENO, (bytes.len() - end) as u64);
+    let above = bytes.len() - end;
+    write!(to, "+{above}")
 }

@@ -459,6 +459,7 @@ int main(void) {
     lesmutka_plan(one, 1, LESMUTKA_NAF, 0, out, sizeof out);
     lesmutka_decimal((const uint8_t *)"1", 1, out, sizeof out);
     lesmutka_write_words(0, out, sizeof out);
+    lesmutka_recode_wide(one, 1, 2, out, sizeof out);
 
     measure(empty, 0);
     report("(empty)");

@@ -41,7 +41,7 @@ recoded-length-requires c =
     let a = (allowed_is _).0 (width_passed (goal.at.recoded-length-requires c).In_default-width_verdict) in
     let short = ((admitted_is _).0 (number_passed (goal.at.recoded-length-requires c).In_default)).short in
     record {
-      least_width_le_width = (a.least, a.most);
+      least_width_le_width = (omega (arith, a.least), omega (arith, a.most));
       number_len_bound = short;
       number_in_bounds = omega arith;
       blank = zeros_blank (8 * number_bytes + 1);

@@ -3,8 +3,8 @@ use mathlib.Core.Path.{refl}
 use Prim.Native.Nat.{◌≤◌, ◌*◌, ◌^◌, ◌%◌, ◌/◌}
 use native.Mathlib.Omega.{arith}
 use lib.Count.{count_trailing_zeros}
+use lib.Pow.{pow_pos, pow_mono}
 use Rattle.integers.specs.Positional.{bytes_value}
-use Rattle.digit_strings.proofs.Digits.{bound_fits}
 use Rattle.wide_digits.specs.Internal.{blank_places}
 use Rattle.wide_digits.proofs.Scan.{Taken, scanned_none, scanned_blank, digit_taken, scanned_all}
 use borrow.Author.Rules.{rules}
@@ -12,7 +12,7 @@ use Rattle.wide_digits.proofs.write.Goals.{Else-left-eq0}
 use Rattle.wide_digits.proofs.write.Goals as goal
 
 half_fits : (c : Else-left-eq0) → (1 ≤ c.power_of_two-half.result) × (c.power_of_two-half.result ≤ 128)
-half_fits c = rw c.power_of_two-half.ensures (bound_fits c.args.width (search rules))
+half_fits c = rw c.power_of_two-half.ensures (pow_pos _, pow_mono {j = 7} (omega arith))
 
 -- the digit past the trailing zeros
 taken : (c : Else-left-eq0)

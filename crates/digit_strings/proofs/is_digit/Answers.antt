@@ -1,4 +1,4 @@
--- `digit_strings::is_digit_lem` meets its contract. Assumes nothing.
+-- `digit_strings::is_digit` meets its contract. Assumes nothing.
 use borrow.Author.Rules.{rules}
 use Rattle.digit_strings.proofs.Digits.{tested}
 use Rattle.digit_strings.proofs.is_digit.Goals as goal

@@ -1,4 +1,4 @@
--- `hexadecimal::digit_at_lem` meets its contract. Assumes nothing.
+-- `hexadecimal::digit_at` meets its contract. Assumes nothing.
 use native.Mathlib.Omega.{arith}
 use Rattle.hexadecimal.proofs.Value.{digit_here}
 use Rattle.hexadecimal.proofs.digit_at.Goals as goal

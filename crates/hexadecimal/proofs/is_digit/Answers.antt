@@ -1,4 +1,4 @@
--- `hexadecimal::is_digit_lem` meets its contract. Assumes nothing.
+-- `hexadecimal::is_digit` meets its contract. Assumes nothing.
 use Rattle.hexadecimal.proofs.Value.{digit_law}
 use Rattle.hexadecimal.proofs.is_digit.Goals as goal
 

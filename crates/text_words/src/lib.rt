@@ -11,6 +11,7 @@ pub struct Word {
     pub end: usize,
 }
 
+#[tactic(auto, unfolding(crate::specs::Words::is_blank))]
 fn is_blank(c: u8) -> bool
     ensures { result ≡ is_blank c }
 {

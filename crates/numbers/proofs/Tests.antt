@@ -7,6 +7,7 @@ use Prim.Native.Nat.{ℕ, ◌-◌, ◌<◌, ◌≤◌}
 use borrow.Author.Tests.{lt-ltb, le-ltb, eq-eqb, ne_eqb}
 use native.Mathlib.Decide.{dec_lt, ℕ_discrete}
 use native.Mathlib.Omega.{arith}
+use lib.Dec.{eqb}
 use lib.ListN.{length, get_or, take}
 use lib.Seq.{take_all}
 use Rattle.rules.specs.Limits.{number_bytes}
@@ -88,6 +89,28 @@ module _ (number : List ℕ) where
       go (Failed r) t _ = let p = refused t in rw (positive_only p) p
       go Passed (admitted a) (yes z) = let p = is_zero a z in rw (positive_only p) p
       go Passed (admitted a) (no n) = let p = positive (record { admitted = a; nonzero = n }) in rw (positive_only p) p
+
+-- ---- what the code's tests say of the highest byte and of refusals 1 and 13
+
+pub padded_none : (number : List ℕ) → length number ≡ 0 → false ≡ is_padded number
+unfolding is_padded
+padded_none number e = rw e
+
+pub padded_highest : (number : List ℕ) → 0 < length number → eqb (get_or number (length number - 1) 0) 0 ≡ is_padded number
+unfolding is_padded
+padded_highest number h = rw (lt-ltb 0 (length number) h)
+
+pub verdict_too_long : (number : List ℕ) → number_bytes < length number → Failed NumberTooLong ≡ number_verdict number
+unfolding number_verdict
+verdict_too_long number h = rw (lt-ltb number_bytes (length number) h)
+
+pub verdict_padded : (number : List ℕ) → length number ≤ number_bytes → is_padded number ≡ true → Failed HighestByteIsZero ≡ number_verdict number
+unfolding number_verdict
+verdict_padded number h p = rw (le-ltb number_bytes (length number) h, p)
+
+pub verdict_passed : (number : List ℕ) → length number ≤ number_bytes → is_padded number ≡ false → Passed ≡ number_verdict number
+unfolding number_verdict
+verdict_passed number h p = rw (le-ltb number_bytes (length number) h, p)
 
 -- ---- the empty number is admitted, and zero; no other admitted number is zero
 

@@ -7,6 +7,7 @@ ghost use Rattle.numbers.specs.Admission.{is_padded, number_verdict, positive_ve
 use rules::{NUMBER_BYTES, Refusal, Verdict};
 
 // Whether the highest byte is zero. The empty number has none.
+#[tactic(auto, using(crate::proofs::Tests::padded_none, crate::proofs::Tests::padded_highest))]
 fn is_padded(number: &[u8]) -> bool
     ensures { result ≡ is_padded number.now }
 {
@@ -18,6 +19,7 @@ fn is_padded(number: &[u8]) -> bool
 }
 
 // Refusal 1, then 13.
+#[tactic(auto, using(crate::proofs::Tests::verdict_too_long, crate::proofs::Tests::verdict_padded, crate::proofs::Tests::verdict_passed))]
 pub fn number_verdict(number: &[u8]) -> Verdict
     ensures { result ≡ number_verdict number.now }
 {

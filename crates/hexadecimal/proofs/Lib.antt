@@ -1,1 +1,1 @@
-mod Value
+pub mod Value

@@ -176,6 +176,15 @@ pub byte_more : (text bytes : List ℕ) (k : ℕ) {byte : ℕ} → byte ≡ byte
     → set (tabulate (byte_at text) k ++ drop k bytes) k byte ≡ tabulate (byte_at text) (k + 1) ++ drop (k + 1) bytes
 byte_more text bytes k e h = rw e (tabulate_more (byte_at text) bytes k h)
 
+-- of an odd number of digits the first, behind the bytes of the others, is the last byte
+pub odd_end : (text bytes now : List ℕ) (digit : ℕ) → length text % 2 ≡ 1 → now ≡ tabulate (byte_at text) (length text / 2) ++ drop (length text / 2) bytes
+    → digit ≡ place_value text (2 * (length text / 2)) → byte_count text ≤ length bytes
+    → set now (length text / 2) digit ≡ tabulate (byte_at text) (byte_count text) ++ drop (byte_count text) bytes
+odd_end text bytes now digit odd e d room =
+    let half : ℕ = length text / 2 in
+    let count : byte_count text ≡ half + 1 = omega arith in
+    rw (count, e) (byte_more text bytes half (d ∙ odd_byte text half (omega arith)) (omega arith))
+
 -- ---- where there is no number
 
 -- a byte of the text is no digit

@@ -45,6 +45,7 @@ fn digit_at(text: &[u8], place: usize) -> u8
 }
 
 // Writes the number, two digits a byte; of an odd number of digits the first has a byte of its own.
+#[tactic(auto, using(crate::proofs::Value::odd_end))]
 fn write(text: &[u8], bytes: &mut [u8])
     requires text_value { is_hex text.now ≡ true }
     requires text_in_bounds { byte_count text.now ≤ length bytes.old }

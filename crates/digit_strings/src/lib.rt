@@ -69,6 +69,7 @@ fn first_bad(digits: &[u8], largest: u8) -> usize
 }
 
 // Refusal 5, then 4, for digits of this width.
+#[tactic(auto, using(crate::proofs::Tests::verdict_too_long, crate::proofs::Tests::verdict_bad_digit, crate::proofs::Tests::verdict_passed))]
 pub fn string_verdict(digits: &[u8], width: usize) -> Verdict
     requires { (least_width ≤ width) × (width ≤ largest_width) }
     ensures { result ≡ string_verdict width digits.now }

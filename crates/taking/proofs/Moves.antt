@@ -3,8 +3,7 @@ use mathlib.Core.Path.{◌≡◌, refl, sym, ap, ◌∙◌}
 use mathlib.Core.Logic.{◌≢◌}
 use mathlib.Core.Bool.{Bool, true, false, not, ◌&&◌}
 use mathlib.Core.List.{List, [], ◌∷◌}
-use Prim.Native.Nat.{ℕ, zero, suc, ◌+◌, ◌*◌, ◌/◌, ◌%◌, ◌^◌, ◌≤◌}
-use borrow.Author.Tests.{ne_eqb}
+use Prim.Native.Nat.{ℕ, zero, suc, ◌+◌, ◌*◌, ◌/◌, ◌%◌, ◌^◌, ◌<◌, ◌≤◌}
 use native.Mathlib.Omega.{arith}
 use lib.Dec.{leb, eqb}
 use lib.ListN.{get_or, take}
@@ -22,7 +21,7 @@ use Rattle.signed_digits.specs.Bytes.{digit_byte}
 use Rattle.signed_digits.proofs.Steps.{low_digit_2, rest_2, by_four}
 use Rattle.taking.specs.declared.Recoder.{Recoder}
 use Rattle.taking.specs.declared.Start.TheVariants.{Ready, Refused}
-use Rattle.taking.specs.declared.Take.TheVariants.{Digit, Done}
+use Rattle.taking.specs.declared.Take.TheVariants.{Digit}
 use Rattle.taking.specs.Take.{stands_for, take_answer, take_leaves, IsStart, IsTake}
 
 -- ---- the byte of the lowest digit, by the remainder modulo 4
@@ -71,50 +70,65 @@ leaves_some : (n : ℕ) → n ≢ 0 → take_leaves n ≡ rest 2 n
 leaves_some zero h = absurd (h refl)
 leaves_some (suc n) h = refl
 
--- ---- whether a recoder is done
-
-ended : (v : ℕ) (b : Bool) → (eqb v 0 && not b) ≡ true → v + bool_byte b ≡ 0
-ended zero false h = refl
-ended zero true h = let z : ◌≡◌ {A = ℕ} 0 1 = cc in absurd (omega arith)
-ended (suc v) b h = let z : ◌≡◌ {A = ℕ} 0 1 = cc (rw (ne_eqb (suc v) 0 (λ y. omega arith)) at h) in absurd (omega arith)
-
-going : (v : ℕ) (b : Bool) → (eqb v 0 && not b) ≡ false → v + bool_byte b ≢ 0
-going zero false h z = let y : ◌≡◌ {A = ℕ} 0 1 = cc in omega arith
-going zero true h z = omega arith
-going (suc v) b h z = omega arith
-
--- ---- the two returns of a take
-module _ (r : Recoder) (none : Bool) (is_none : none ≡ eqb (words_value r.words) 0) where
-  pub done_is : (none && not r.carry) ≡ true → IsTake r (record { next = r; answer = Done })
+-- ---- the parts of a take, each by what the code has there: whether something is left, then the answer and what is left
+module _ (r : Recoder) where
+  pub none_left : words_value r.words ≡ 0 → r.carry ≡ false → stands_for r ≡ 0
   unfolding stands_for
-  done_is h =
+  none_left z n = rw (z, n)
+
+  pub some_left : (words_value r.words ≡ 0 → r.carry ≡ false → ⊥) → 0 < stands_for r
+  unfolding stands_for
+  some_left h = go (words_value r.words) r.carry h
+    where
+      go : (v : ℕ) (b : Bool) → (v ≡ 0 → b ≡ false → ⊥) → 0 < v + bool_byte b
+      go zero false k = absurd (k refl refl)
+      go zero true k = omega arith
+      go (suc v) b k = omega arith
+
+  pub digit_answered : (digit : ℕ) → 0 < stands_for r → digit ≡ digit_byte (low_digit 2 (get_or r.words 0 0 % 4 + bool_byte r.carry))
+      → Digit digit ≡ take_answer (stands_for r)
+  unfolding stands_for
+  digit_answered digit some byte =
       let v : ℕ = words_value r.words in
-      let z : v + bool_byte r.carry ≡ 0 = ended v r.carry (sym (ap (λ (t : Bool). t && not r.carry) is_none) ∙ h) in
-      record { answer = rw z; next = rw z; done = λ h. refl }
+      let c : ℕ = bool_byte r.carry in
+      let word : ℕ = get_or r.words 0 0 in
+      let w : word % 4 ≡ v % 4 = low_word r.words in
+      let d : low_digit 2 (word % 4 + c) ≡ low_digit 2 (v + c) = same_digit (word % 4 + c) (v + c) (omega arith) in
+      rw (byte, d) (sym (answer_some (v + c) (λ z. omega arith)))
 
-  pub move_is : (digit : ℕ) (half : List ℕ) → let word = get_or r.words 0 0 in let ones = word % 2 + word / 2 % 2 + bool_byte r.carry in
-      (none && not r.carry) ≡ false → words_value half ≡ words_value r.words / 2
-      → digit ≡ digit_byte (low_digit 2 (word % 4 + bool_byte r.carry))
-      → IsTake r (record { next = record { words = half; carry = leb 2 ones }; answer = Digit digit })
+  pub digit_taken_off : (half : List ℕ) (carry : Bool) → let word = get_or r.words 0 0 in
+      0 < stands_for r → words_value half ≡ words_value r.words / 2 → carry ≡ leb 2 (word % 2 + word / 2 % 2 + bool_byte r.carry)
+      → stands_for (record { words = half; carry = carry }) ≡ take_leaves (stands_for r)
   unfolding stands_for
-  move_is digit half left halves byte =
+  digit_taken_off half carry some halves carries =
       let v : ℕ = words_value r.words in
       let c : ℕ = bool_byte r.carry in
       let word : ℕ = get_or r.words 0 0 in
       let ones : ℕ = word % 2 + word / 2 % 2 + c in
       let small : c ≤ 1 = omega (arith, bool_small r.carry) in
-      let some : v + c ≢ 0 = going v r.carry (sym (ap (λ (t : Bool). t && not r.carry) is_none) ∙ left) in
       let w : word % 4 ≡ v % 4 = low_word r.words in
-      let d : low_digit 2 (word % 4 + c) ≡ low_digit 2 (v + c) = same_digit (word % 4 + c) (v + c) (omega arith) in
       let m : rest 2 (v + c) ≡ v / 2 + ones / 2 = moved v c small ∙ ap (λ (k : ℕ). v / 2 + k / 2) (sum v c word w) in
-      record {
-        answer = rw (byte, d) (sym (answer_some (v + c) some));
-        next = rw (halves, carry_half ones (omega arith), leaves_some (v + c) some) (sym m);
-        done = λ z. absurd (some z);
-      }
+      rw (halves, carries, carry_half ones (omega arith), leaves_some (v + c) (λ z. omega arith)) (sym m)
     where
       sum : (v c word : ℕ) → word % 4 ≡ v % 4 → v % 4 % 2 + v % 4 / 2 + c ≡ word % 2 + word / 2 % 2 + c
       sum v c word w = omega arith
+
+-- ---- the return of a take that gives a digit
+module _ (r : Recoder) (none : Bool) (is_none : none ≡ eqb (words_value r.words) 0) where
+  pub move_is : (digit : ℕ) (half : List ℕ) → let word = get_or r.words 0 0 in let ones = word % 2 + word / 2 % 2 + bool_byte r.carry in
+      (none && not r.carry) ≡ false → words_value half ≡ words_value r.words / 2
+      → digit ≡ digit_byte (low_digit 2 (word % 4 + bool_byte r.carry))
+      → IsTake r (record { next = record { words = half; carry = leb 2 ones }; answer = Digit digit })
+  move_is digit half left halves byte =
+      let some : 0 < stands_for r = some_left r (going (sym (ap (λ (t : Bool). t && not r.carry) is_none) ∙ left)) in
+      record {
+        answer = digit_answered r digit some byte;
+        next = digit_taken_off r half _ some halves refl;
+        done = λ z. absurd (omega arith);
+      }
+    where
+      going : (eqb (words_value r.words) 0 && not r.carry) ≡ false → words_value r.words ≡ 0 → r.carry ≡ false → ⊥
+      going h z n = grind arith
 
 -- ---- the two returns of the start
 pub refused_is : (number words : List ℕ) {r : Refusal} → number_verdict number ≡ Failed r → words_value words ≡ 0

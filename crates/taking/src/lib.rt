@@ -68,6 +68,7 @@ impl Recoder {
     }
 
     // The lowest digit, and the recoder moved on by one place; done if no digit is left.
+    #[tactic(auto, using(crate::proofs::Moves::none_left, crate::proofs::Moves::some_left, crate::proofs::Moves::digit_answered, crate::proofs::Moves::digit_taken_off))]
     pub fn take(self) -> Taken
         ensures { IsTake self result }
     {

@@ -67,6 +67,11 @@ module _ (refusal : ℕ) where
   unfolding words
   no_such h = get_or-eq_default texts "no such refusal" (omega (arith, count))
 
+  -- the same in bytes, as the code has them
+  pub no_such_bytes : 13 < refusal → text_bytes (words refusal) ≡ 110 ∷ 111 ∷ 32 ∷ 115 ∷ 117 ∷ 99 ∷ 104 ∷ 32 ∷ 114 ∷ 101 ∷ 102 ∷ 117 ∷ 115 ∷ 97 ∷ 108 ∷ []
+  unfolding text_bytes
+  no_such_bytes h = rw (no_such h)
+
   abbrev from : ℕ
   from = get_or (starts 0 texts) refusal 0
 

@@ -29,6 +29,7 @@ const STARTS: [usize; 15] = [
 ];
 
 // Writes what a refusal's number says.
+#[tactic(auto, using(crate::proofs::Texts::no_such_bytes))]
 pub fn write_words(refusal: usize, out: &mut [u8]) -> Written
     ensures answer { result ≡ words_answer refusal (length out.old) }
     ensures buffer { out.new ≡ words_buffer refusal out.old }

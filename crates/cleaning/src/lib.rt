@@ -9,6 +9,7 @@ use digit_strings::{CANONICAL_WIDTH, string_verdict};
 use rules::{Refusal, Verdict, Written};
 
 // Writes the canonical string of a digit string's value, lowest digit first.
+#[tactic(auto, using(crate::proofs::Outcomes::string_within, crate::proofs::Outcomes::string_digit, crate::proofs::Outcomes::refused_room, crate::proofs::Outcomes::enough_room, crate::proofs::Outcomes::cleaning_written))]
 pub fn clean(digits: &[u8], out: &mut [u8]) -> Written
     ensures answer { result ≡ clean_answer digits.now (length out.old) }
     ensures buffer { out.new ≡ clean_buffer digits.now out.old }

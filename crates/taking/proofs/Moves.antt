@@ -4,6 +4,7 @@ use mathlib.Core.Logic.{◌≢◌}
 use mathlib.Core.Bool.{Bool, true, false, not, ◌&&◌}
 use mathlib.Core.List.{List, [], ◌∷◌}
 use Prim.Native.Nat.{ℕ, zero, suc, ◌+◌, ◌*◌, ◌/◌, ◌%◌, ◌^◌, ◌<◌, ◌≤◌}
+use borrow.Author.Tests.{ne_eqb}
 use native.Mathlib.Omega.{arith}
 use lib.Dec.{leb, eqb}
 use lib.ListN.{get_or, take}
@@ -21,7 +22,7 @@ use Rattle.signed_digits.specs.Bytes.{digit_byte}
 use Rattle.signed_digits.proofs.Steps.{low_digit_2, rest_2, by_four}
 use Rattle.taking.specs.declared.Recoder.{Recoder}
 use Rattle.taking.specs.declared.Start.TheVariants.{Ready, Refused}
-use Rattle.taking.specs.declared.Take.TheVariants.{Digit}
+use Rattle.taking.specs.declared.Take.TheVariants.{Digit, Done}
 use Rattle.taking.specs.Take.{stands_for, take_answer, take_leaves, IsStart, IsTake}
 
 -- ---- the byte of the lowest digit, by the remainder modulo 4
@@ -113,8 +114,22 @@ module _ (r : Recoder) where
       sum : (v c word : ℕ) → word % 4 ≡ v % 4 → v % 4 % 2 + v % 4 / 2 + c ≡ word % 2 + word / 2 % 2 + c
       sum v c word w = omega arith
 
--- ---- the return of a take that gives a digit
+-- ---- whether a recoder is done
+
+ended : (v : ℕ) (b : Bool) → (eqb v 0 && not b) ≡ true → v + bool_byte b ≡ 0
+ended zero false h = refl
+ended zero true h = let z : ◌≡◌ {A = ℕ} 0 1 = cc in absurd (omega arith)
+ended (suc v) b h = let z : ◌≡◌ {A = ℕ} 0 1 = cc (rw (ne_eqb (suc v) 0 (λ y. omega arith)) at h) in absurd (omega arith)
+
+-- ---- the two returns of a take
 module _ (r : Recoder) (none : Bool) (is_none : none ≡ eqb (words_value r.words) 0) where
+  pub done_is : (none && not r.carry) ≡ true → IsTake r (record { next = r; answer = Done })
+  unfolding stands_for
+  done_is h =
+      let v : ℕ = words_value r.words in
+      let z : v + bool_byte r.carry ≡ 0 = ended v r.carry (sym (ap (λ (t : Bool). t && not r.carry) is_none) ∙ h) in
+      record { answer = rw z; next = rw z; done = λ h. refl }
+
   pub move_is : (digit : ℕ) (half : List ℕ) → let word = get_or r.words 0 0 in let ones = word % 2 + word / 2 % 2 + bool_byte r.carry in
       (none && not r.carry) ≡ false → words_value half ≡ words_value r.words / 2
       → digit ≡ digit_byte (low_digit 2 (word % 4 + bool_byte r.carry))

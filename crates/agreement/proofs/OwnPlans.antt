@@ -1,5 +1,6 @@
 -- Our own plans are all accepted, with the forecast's counts (docs/RULES.md, 4.12) and the bits that the method gives (5.11), and have no hidden doubling
 -- (3.8). Assumes nothing.
+use Rattle.std.specs.Prelude.{Ok}
 use mathlib.Core.Path.{◌≡◌, refl}
 use mathlib.Core.List.{List}
 use Prim.Native.Nat.{ℕ, ◌≤◌}
@@ -16,7 +17,6 @@ use Rattle.chains.specs.Largest.{largest_bits}
 use Rattle.chains.proofs.Counts.{position_counts, unhidden_counts}
 use Rattle.chains.proofs.Bytes.{length_plan, steps_of_plan}
 use Rattle.methods.specs.declared.Method.{Method}
-use Rattle.methods.specs.declared.Chosen.{Chosen}
 use Rattle.methods.specs.Method.{method_of, steps_by}
 use Rattle.methods.specs.Largest.{largest_bits_by}
 use Rattle.methods.proofs.Laws.{Fit, plannable}
@@ -27,7 +27,7 @@ use Rattle.check_admission.specs.Admission.{room_for}
 use Rattle.checking.specs.Check.{check_answer}
 use Rattle.checking.proofs.Promises.{accepts}
 
-module _ (number : List ℕ) (bytes : Below 256 number) (positive : Positive number) (method width : ℕ) (m : Method) (asked : method_of method width ≡ Chosen.Method m) where
+module _ (number : List ℕ) (bytes : Below 256 number) (positive : Positive number) (method width : ℕ) (m : Method) (asked : method_of method width ≡ Ok m) where
   -- the steps, and the plan that is written
   abbrev pub steps : List Step
   steps = steps_by m (bytes_value number)

@@ -1,4 +1,5 @@
 -- What read digits writes, clean and read back take exactly if every word is 0, 1 or -1. Assumes nothing.
+use Rattle.std.specs.Prelude.{Ok, Err}
 use mathlib.Core.Path.{◌≡◌, refl, sym, ◌∙◌}
 use mathlib.Core.Logic.{◌↔◌, ◌⊎◌, inl, inr}
 use mathlib.Core.Bool.{Bool, true, false, true≢false}
@@ -9,7 +10,6 @@ use lib.IntN.{pos, negsuc}
 use lib.ListN.{length, get_or}
 use Rattle.rules.specs.Limits.{string_digits}
 use Rattle.rules.specs.declared.Refusal.TheVariants.{NotADigit}
-use Rattle.rules.specs.declared.Verdict.TheVariants.{Passed, Failed}
 use Rattle.signed_digits.specs.Bytes.{byte_digit}
 use Rattle.signed_digits.specs.Naf.{canonical_width}
 use Rattle.digit_strings.specs.Admission.{digit_up_to, is_digit, string_verdict, DigitString, LowestBad}
@@ -112,13 +112,13 @@ module _ (text : List ℕ) where
       }
 
   -- its digits pass the tests of clean and read back
-  pub text_taken : string_verdict canonical_width (text_digits text) ≡ Passed ↔ DigitText
+  pub text_taken : string_verdict canonical_width (text_digits text) ≡ Ok tt ↔ DigitText
   text_taken =
       let is = digit_string_is canonical_width (text_digits text) in
       (λ e. of_string (is.0 e), λ d. is.1 (to_string d))
 
   -- or they are refused with 4 at the last word that is no digit
-  pub text_refused : (p : ℕ) → string_verdict canonical_width (text_digits text) ≡ Failed (NotADigit p) ↔ (word_count ≤ string_digits) × LastOther p
+  pub text_refused : (p : ℕ) → string_verdict canonical_width (text_digits text) ≡ Err (NotADigit p) ↔ (word_count ≤ string_digits) × LastOther p
   text_refused p = (
     λ e. elim (rw e at (string_test canonical_width (text_digits text))) [ bad_digit h l ↦ (omega (arith, digit_each text), of_bad l) ],
     λ h. string_only canonical_width (text_digits text) (bad_digit (omega (arith, digit_each text)) (to_bad h.1)),

@@ -1,18 +1,9 @@
 -- The answers as C takes them. If a call is not refused, the refusal and its place are 0; if it is, they are its number and place (docs/RULES.md, 4.13), and
 -- every other field is 0: a refusal answers its number and place and nothing else.
-use Rattle.std.specs.Prelude.{ℕ}
+use Rattle.reading.specs.declared.ReadBack.{ReadBack}
+use Rattle.std.specs.Prelude.{ℕ, Result, Ok, Err}
 use Rattle.rules.specs.Refusals.{refusal_number, refusal_place}
 use Rattle.rules.specs.declared.Refusal.{Refusal}
-use Rattle.rules.specs.declared.Written.{Written}
-use Rattle.rules.specs.declared.Written.TheVariants.{Length as Fitted, Refused as NotWritten}
-use Rattle.rules.specs.declared.Counted.{Counted}
-use Rattle.rules.specs.declared.Counted.TheVariants.{Steps as Made, Refused as NotCounted}
-use Rattle.rules.specs.declared.Checked.{Checked}
-use Rattle.rules.specs.declared.Checked.TheVariants.{Accepted as Passes, Refused as NotAccepted}
-use Rattle.reading.specs.declared.ReadBack.{ReadBack}
-use Rattle.reading.specs.declared.ReadBack.TheVariants.{Value as Reads, Refused as NotRead}
-use Rattle.taking.specs.declared.Start.{Start}
-use Rattle.taking.specs.declared.Start.TheVariants.{Ready, Refused as NotStarted}
 use Rattle.hexadecimal.specs.declared.Parsed.{Parsed as Hexadecimal}
 use Rattle.hexadecimal.specs.declared.Parsed.TheVariants.{Bytes as HexBytes, NotHex}
 use Rattle.decimal.specs.declared.Parsed.{Parsed as Decimal}
@@ -30,21 +21,21 @@ use Rattle.c_answers.specs.declared.Parsed.{Parsed}
 abbrev pub refused_fields : Refusal → Started
 refused_fields r = record { refusal = refusal_number r; place = refusal_place r }
 
-abbrev pub started_fields : Start → Started
-started_fields Ready = record { refusal = 0; place = 0 }
-started_fields (NotStarted r) = refused_fields r
+abbrev pub started_fields : Result Unit Refusal → Started
+started_fields (Ok tt) = record { refusal = 0; place = 0 }
+started_fields (Err r) = refused_fields r
 
-abbrev pub written_fields : Written → Length
-written_fields (Fitted n) = record { refusal = 0; place = 0; length = n }
-written_fields (NotWritten r) = record { refusal = refusal_number r; place = refusal_place r; length = 0 }
+abbrev pub written_fields : Result ℕ Refusal → Length
+written_fields (Ok n) = record { refusal = 0; place = 0; length = n }
+written_fields (Err r) = record { refusal = refusal_number r; place = refusal_place r; length = 0 }
 
-abbrev pub read_fields : ReadBack → Value
-read_fields (Reads sign n) = record { refusal = 0; place = 0; sign = sign; length = n }
-read_fields (NotRead r) = record { refusal = refusal_number r; place = refusal_place r; sign = 0; length = 0 }
+abbrev pub read_fields : Result ReadBack Refusal → Value
+read_fields (READVALUE sign n) = record { refusal = 0; place = 0; sign = sign; length = n }
+read_fields (Err r) = record { refusal = refusal_number r; place = refusal_place r; sign = 0; length = 0 }
 
-abbrev pub counted_fields : Counted → Counts
-counted_fields (Made c) = record { refusal = 0; place = 0; doublings = c.doublings; additions = c.additions; subtractions = c.subtractions }
-counted_fields (NotCounted r) = record { refusal = refusal_number r; place = refusal_place r; doublings = 0; additions = 0; subtractions = 0 }
+abbrev pub counted_fields : Result Counts Refusal → Counts
+counted_fields (Ok c) = record { refusal = 0; place = 0; doublings = c.doublings; additions = c.additions; subtractions = c.subtractions }
+counted_fields (Err r) = record { refusal = refusal_number r; place = refusal_place r; doublings = 0; additions = 0; subtractions = 0 }
 
 -- the fields of the counts, and then the bits, which are 0 beside a refusal
 abbrev pub accepted_fields : Counts → ℕ → Accepted
@@ -57,9 +48,9 @@ accepted_fields c bits = record {
   largest_bits = bits;
 }
 
-abbrev pub checked_fields : Checked → Accepted
-checked_fields (Passes c bits) = accepted_fields (counted_fields (Made c)) bits
-checked_fields (NotAccepted r) = accepted_fields (counted_fields (NotCounted r)) 0
+abbrev pub checked_fields : Result Accepted Refusal → Accepted
+checked_fields (ACCEPTED c bits) = accepted_fields (counted_fields (Ok c)) bits
+checked_fields (Err r) = accepted_fields (counted_fields (Err r)) 0
 
 -- a text that is a number, by how many bytes it has; if it is none, a decimal one tells its place
 abbrev pub hexadecimal_fields : Hexadecimal → Parsed

@@ -6,7 +6,7 @@ ghost use Rattle.std.specs.Prelude.{◌≡◌};
 ghost use Rattle.c_answers.specs.Answers.{refused_fields, started_fields, written_fields, read_fields, counted_fields, accepted_fields, checked_fields, limit_fields, hexadecimal_fields, decimal_fields};
 
 use reading::ReadBack;
-use rules::{Checked, Counted, Refusal, Written};
+use rules::{Accepted, Counts, Refusal};
 use taking::Start;
 
 // What the start of taking answers.
@@ -120,12 +120,12 @@ pub fn of_written(answer: Written) -> Length
     ensures { result ≡ written_fields answer }
 {
     match answer {
-        Written::Length(length) => Length {
+        Ok(length) => Length {
             refusal: 0,
             place: 0,
             length,
         },
-        Written::Refused(refusal) => {
+        Err(refusal) => {
             let given = refused(refusal);
             Length {
                 refusal: given.refusal,
@@ -146,7 +146,7 @@ pub fn of_read_back(answer: ReadBack) -> Value
             sign: sign as usize,
             length,
         },
-        ReadBack::Refused(refusal) => {
+        Err(refusal) => {
             let given = refused(refusal);
             Value {
                 refusal: given.refusal,
@@ -162,14 +162,14 @@ pub fn of_counted(answer: Counted) -> Counts
     ensures { result ≡ counted_fields answer }
 {
     match answer {
-        Counted::Steps(counts) => Counts {
+        Ok(counts) => Counts {
             refusal: 0,
             place: 0,
             doublings: counts.doublings,
             additions: counts.additions,
             subtractions: counts.subtractions,
         },
-        Counted::Refused(refusal) => {
+        Err(refusal) => {
             let given = refused(refusal);
             Counts {
                 refusal: given.refusal,
@@ -203,8 +203,8 @@ pub fn of_checked(answer: Checked) -> Accepted
         Checked::Accepted {
             counts,
             largest_bits,
-        } => with_bits(of_counted(Counted::Steps(counts)), largest_bits),
-        Checked::Refused(refusal) => with_bits(of_counted(Counted::Refused(refusal)), 0),
+        } => with_bits(of_counted(Ok(counts)), largest_bits),
+        Err(refusal) => with_bits(of_counted(Err(refusal)), 0),
     }
 }
 

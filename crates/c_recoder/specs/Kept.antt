@@ -1,11 +1,9 @@
 -- A recoder in words that the caller keeps: the number that it stands for, whatever they hold, and what start and take do to it.
-use Rattle.std.specs.Prelude.{ℕ, ◌+◌, ◌≡◌, cond, not, List, [], ◌∷◌, eqb, take, get_or}
+use Rattle.std.specs.Prelude.{ℕ, ◌+◌, ◌≡◌, cond, not, List, [], ◌∷◌, eqb, take, get_or, Option, Some, None}
 use mir.Val.{bool_byte}
 use Rattle.rules.specs.Limits.{number_words}
 use Rattle.rules.specs.Outcome.{Outcome, answered, done}
 use Rattle.integers.specs.Positional.{words_value}
-use Rattle.taking.specs.declared.Take.{Take}
-use Rattle.taking.specs.declared.Take.TheVariants.{Digit, Done}
 use Rattle.taking.specs.Take.{take_answer, take_leaves}
 
 -- the number: that of the first words, least significant first, plus one where it carries, which is where the last word is not 0
@@ -16,9 +14,9 @@ kept_number kept = words_value (take number_words kept) + bool_byte (not (eqb (g
 abbrev pub done_number : ℕ
 done_number = 256
 
-abbrev pub taken_number : Take → ℕ
-taken_number (Digit d) = d
-taken_number Done = done_number
+abbrev pub taken_number : Option ℕ → ℕ
+taken_number (Some d) = d
+taken_number None = done_number
 
 -- the same number as an outcome
 abbrev pub taken_outcome : ℕ → Outcome

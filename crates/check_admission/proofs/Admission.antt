@@ -1,4 +1,5 @@
 -- Refusals 1, 13, 2, 7 and 8, each by what it is given for. Assumes nothing.
+use Rattle.std.specs.Prelude.{Result, Ok, Err}
 use mathlib.Core.Path.{◌≡◌, refl}
 use mathlib.Core.Logic.{◌↔◌, ◌≢◌, ◌⊎◌, inl, inr}
 use mathlib.Core.Bool.{Bool, true, false, not, ◌||◌}
@@ -11,8 +12,6 @@ use lib.Dec.{ltb, eqb}
 use Rattle.rules.specs.Limits.{step_bytes, plan_steps}
 use Rattle.rules.specs.declared.Refusal.{Refusal}
 use Rattle.rules.specs.declared.Refusal.TheVariants.{PlanLength, WorkSpaceTooShort}
-use Rattle.rules.specs.declared.Verdict.{Verdict}
-use Rattle.rules.specs.declared.Verdict.TheVariants.{Passed, Failed}
 use Rattle.numbers.specs.Admission.{positive_verdict, Positive}
 use Rattle.numbers.proofs.Tests.{PositiveTest, positive, positive_only, positive_test}
 use Rattle.check_admission.specs.Admission.{room_for, is_wrong_length, admission}
@@ -37,13 +36,13 @@ few_steps l e = ltb-false (step_bytes * plan_steps) l (neither (not (eqb (l % st
 
 module _ (number : List ℕ) (planLength room : ℕ) where
   -- what the tests before the steps come to
-  pub data Admits : Verdict → Type 0 where
-    number_refused : {r : Refusal} → PositiveTest number (Failed r) → Admits (Failed r)
-    plan_length : Positive number → (planLength % step_bytes ≢ 0) ⊎ (step_bytes * plan_steps < planLength) → Admits (Failed PlanLength)
-    space_too_short : Positive number → planLength % step_bytes ≡ 0 → planLength ≤ step_bytes * plan_steps → room < room_for planLength → Admits (Failed WorkSpaceTooShort)
-    checkable : Checkable number planLength room → Admits Passed
+  pub data Admits : Result Unit Refusal → Type 0 where
+    number_refused : {r : Refusal} → PositiveTest number (Err r) → Admits (Err r)
+    plan_length : Positive number → (planLength % step_bytes ≢ 0) ⊎ (step_bytes * plan_steps < planLength) → Admits (Err PlanLength)
+    space_too_short : Positive number → planLength % step_bytes ≡ 0 → planLength ≤ step_bytes * plan_steps → room < room_for planLength → Admits (Err WorkSpaceTooShort)
+    checkable : Checkable number planLength room → Admits (Ok tt)
 
-  pub admits_only : {v : Verdict} → Admits v → admission number planLength room ≡ v
+  pub admits_only : {v : Result Unit Refusal} → Admits v → admission number planLength room ≡ v
   unfolding admission
   admits_only (number_refused t) = rw (positive_only number t)
   admits_only (plan_length p (inl w)) = rw (positive_only number (positive p), ne_eqb _ _ w)
@@ -54,16 +53,16 @@ module _ (number : List ℕ) (planLength room : ℕ) where
   pub admits : Admits (admission number planLength room)
   admits = go (positive_verdict number) (positive_test number) (ℕ_discrete (planLength % step_bytes) 0) (dec_lt (step_bytes * plan_steps) planLength) (dec_lt room (room_for planLength))
     where
-      be : {v : Verdict} → Admits v → Admits (admission number planLength room)
+      be : {v : Result Unit Refusal} → Admits v → Admits (admission number planLength room)
       be a = rw (admits_only a) a
 
-      go : (v : Verdict) → PositiveTest number v → Dec (planLength % step_bytes ≡ 0) → Dec (step_bytes * plan_steps < planLength) → Dec (room < room_for planLength)
+      go : (v : Result Unit Refusal) → PositiveTest number v → Dec (planLength % step_bytes ≡ 0) → Dec (step_bytes * plan_steps < planLength) → Dec (room < room_for planLength)
           → Admits (admission number planLength room)
-      go (Failed r) t _ _ _ = be (number_refused t)
-      go Passed (positive p) (no w) _ _ = be (plan_length p (inl w))
-      go Passed (positive p) (yes w) (yes m) _ = be (plan_length p (inr m))
-      go Passed (positive p) (yes w) (no f) (yes l) = be (space_too_short p w (omega arith) l)
-      go Passed (positive p) (yes w) (no f) (no l) = be (checkable (record { positive = p; whole = w; few = omega arith; fits = omega arith }))
+      go (Err r) t _ _ _ = be (number_refused t)
+      go (Ok tt) (positive p) (no w) _ _ = be (plan_length p (inl w))
+      go (Ok tt) (positive p) (yes w) (yes m) _ = be (plan_length p (inr m))
+      go (Ok tt) (positive p) (yes w) (no f) (yes l) = be (space_too_short p w (omega arith) l)
+      go (Ok tt) (positive p) (yes w) (no f) (no l) = be (checkable (record { positive = p; whole = w; few = omega arith; fits = omega arith }))
 
-  pub checkable_is : admission number planLength room ≡ Passed ↔ Checkable number planLength room
+  pub checkable_is : admission number planLength room ≡ Ok tt ↔ Checkable number planLength room
   checkable_is = (λ e. elim (rw e at admits) [ checkable c ↦ c ], λ c. admits_only (checkable c))

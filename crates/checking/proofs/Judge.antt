@@ -1,4 +1,5 @@
 -- Judging the steps of a plan: passed exactly where all of them are sound, and else stopped at the first that is not. Assumes nothing.
+use Rattle.std.specs.Prelude.{Result, Ok, Err}
 use mathlib.Core.Path.{◌≡◌, sym, ap, ◌∙◌}
 use mathlib.Core.List.{List}
 use Prim.Native.Nat.{ℕ, zero, suc, ◌+◌, ◌<◌, ◌≤◌}
@@ -8,8 +9,6 @@ use lib.IntN.{ℤ}
 use lib.ListN.{length, drop}
 use lib.Seq.{drop-cons, drop-length}
 use Rattle.rules.specs.declared.Refusal.{Refusal}
-use Rattle.rules.specs.declared.Verdict.{Verdict}
-use Rattle.rules.specs.declared.Verdict.TheVariants.{Passed, Failed}
 use Rattle.chains.specs.Steps.{Step, add}
 use Rattle.chains.specs.Values.{at, start, values_of}
 use Rattle.chains.specs.Sound.{step_at, WellFormed, Representable, Sound}
@@ -24,22 +23,22 @@ module _ (steps : List Step) (n : ℕ) (h : n < length steps) where
   step_tested : Tested (suc n) (step_at steps n) (at (values_of steps) (suc n)) (step_verdict (values_after steps n) (step_at steps n))
   step_tested = rw (length_after steps n (omega arith), ← value_at steps n h) at (tested (values_after steps n) (step_at steps n))
 
-  step_tested_only : {v : Verdict} → Tested (suc n) (step_at steps n) (at (values_of steps) (suc n)) v → step_verdict (values_after steps n) (step_at steps n) ≡ v
+  step_tested_only : {v : Result Unit Refusal} → Tested (suc n) (step_at steps n) (at (values_of steps) (suc n)) v → step_verdict (values_after steps n) (step_at steps n) ≡ v
   step_tested_only t = tested_only (values_after steps n) (step_at steps n) (rw (length_after steps n (omega arith), ← value_at steps n h) t)
 
   -- one that passes is well formed
-  pub step_formed : step_verdict (values_after steps n) (step_at steps n) ≡ Passed → WellFormed (suc n) (step_at steps n)
+  pub step_formed : step_verdict (values_after steps n) (step_at steps n) ≡ Ok tt → WellFormed (suc n) (step_at steps n)
   step_formed e = elim (rw e at step_tested) [ passed f v ↦ f ]
 
   -- it passes: on to the next
-  pub judge_next : step_verdict (values_after steps n) (step_at steps n) ≡ Passed
+  pub judge_next : step_verdict (values_after steps n) (step_at steps n) ≡ Ok tt
       → judge (values_after steps n) (drop n steps) ≡ judge (values_after steps (suc n)) (drop (suc n) steps)
   unfolding judge
   judge_next e = rw (drop-cons steps n (add 0 0) h, e) (ap (λ (values : List ℤ). judge values (drop (suc n) steps)) (sym (after_more steps n h)))
 
   -- it fails: the first refusal, with the values recorded by then
-  pub judge_stop : {r : Refusal} → step_verdict (values_after steps n) (step_at steps n) ≡ Failed r
-      → judge (values_after steps n) (drop n steps) ≡ record { verdict = Failed r; values = values_after steps n }
+  pub judge_stop : {r : Refusal} → step_verdict (values_after steps n) (step_at steps n) ≡ Err r
+      → judge (values_after steps n) (drop n steps) ≡ record { verdict = Err r; values = values_after steps n }
   unfolding judge
   judge_stop e = rw (drop-cons steps n (add 0 0) h, e)
 
@@ -63,7 +62,7 @@ sound_more steps n before here m h = go (dec_lt m n)
 
 module _ (steps : List Step) where
   -- after the last: none refused
-  pub judge_end : judge (values_after steps (length steps)) (drop (length steps) steps) ≡ record { verdict = Passed; values = values_of steps }
+  pub judge_end : judge (values_after steps (length steps)) (drop (length steps) steps) ≡ record { verdict = (Ok tt); values = values_of steps }
   unfolding judge
   judge_end = rw (drop-length steps, after_all steps)
 
@@ -76,9 +75,9 @@ module _ (steps : List Step) where
 
 -- what judging comes to
 pub data Judges (steps : List Step) : Judged → Type 0 where
-  sound : Sound steps → Judges steps (record { verdict = Passed; values = values_of steps })
-  stops : {n : ℕ} {r : Refusal} → n < length steps → SoundTo steps n → Tested (suc n) (step_at steps n) (at (values_of steps) (suc n)) (Failed r)
-      → Judges steps (record { verdict = Failed r; values = values_after steps n })
+  sound : Sound steps → Judges steps (record { verdict = (Ok tt); values = values_of steps })
+  stops : {n : ℕ} {r : Refusal} → n < length steps → SoundTo steps n → Tested (suc n) (step_at steps n) (at (values_of steps) (suc n)) (Err r)
+      → Judges steps (record { verdict = Err r; values = values_after steps n })
 
 module _ (steps : List Step) where
   pub judges_only : {j : Judged} → Judges steps j → judge start steps ≡ j
@@ -90,10 +89,10 @@ module _ (steps : List Step) where
   judges_from (suc k) n e b =
       go (step_verdict (values_after steps n) (step_at steps n)) (step_tested steps n (omega arith)) (λ s. judges_from k (suc n) (omega arith) s)
     where
-      go : (v : Verdict) → Tested (suc n) (step_at steps n) (at (values_of steps) (suc n)) v → (SoundTo steps (suc n) → (j : Judged) × Judges steps j)
+      go : (v : Result Unit Refusal) → Tested (suc n) (step_at steps n) (at (values_of steps) (suc n)) v → (SoundTo steps (suc n) → (j : Judged) × Judges steps j)
           → (j : Judged) × Judges steps j
-      go Passed (passed x y) later = later (sound_more steps n b (record { formed = x; representable = y }))
-      go (Failed r) t later = (_, stops {n = n} (omega arith) b t)
+      go (Ok tt) (passed x y) later = later (sound_more steps n b (record { formed = x; representable = y }))
+      go (Err r) t later = (_, stops {n = n} (omega arith) b t)
 
   pub judges : Judges steps (judge start steps)
   judges = let found = judges_from (length steps) 0 (omega arith) (λ m l. absurd (omega arith)) in rw (judges_only found.1) found.1

@@ -1,4 +1,5 @@
 -- What the rules promise of check, as theorems about the definitions that its statement cites. Assumes nothing.
+use Rattle.std.specs.Prelude.{Result, Err}
 use mathlib.Core.Path.{◌≡◌, refl, ◌∙◌}
 use mathlib.Core.Logic.{◌↔◌, ◌≢◌, ◌⊎◌, inl, inr}
 use mathlib.Core.List.{List, [], ◌∷◌}
@@ -7,11 +8,8 @@ use native.Mathlib.Omega.{arith}
 use lib.IntN.{ℤ, pos, nat_abs, ℤ_discrete}
 use lib.ListN.{length, take}
 use Rattle.rules.specs.Limits.{number_bytes, step_bytes, plan_steps, value_bytes, value_bound}
-use Rattle.rules.specs.Outcome.{Outcome, refused, answered, refusal, checked_values, checked_outcome, and_then, unless_failed}
+use Rattle.rules.specs.Outcome.{Outcome, refused, answered, refusal, checked_values, checked_outcome, and_then}
 use Rattle.rules.specs.declared.Refusal.{Refusal}
-use Rattle.rules.specs.declared.Checked.TheVariants.{Accepted, Refused}
-use Rattle.rules.specs.declared.Verdict.{Verdict}
-use Rattle.rules.specs.declared.Verdict.TheVariants.{Failed}
 use Rattle.integers.specs.Bits.{bit_length}
 use Rattle.integers.specs.Positional.{bytes_value}
 use Rattle.integers.proofs.Signed.{same_true, same_false}
@@ -44,7 +42,7 @@ first {n = n} h b w = record { before = n; place = refl; within = h; earlier = b
 
 -- judging stops there, with the values of the positions below i
 first_judged : {steps : List Step} {i : ℕ} {Wrong : Step → ℤ → Type 0} {r : Refusal} (f : FirstAt steps i Wrong)
-    → Tested i (step_at steps f.before) (at (values_of steps) i) (Failed r) → judge start steps ≡ record { verdict = Failed r; values = take i (values_of steps) }
+    → Tested i (step_at steps f.before) (at (values_of steps) i) (Err r) → judge start steps ≡ record { verdict = Err r; values = take i (values_of steps) }
 first_judged {steps} f t = rw f.place (judges_only steps (stops f.within f.earlier (rw f.place at t)))
 
 -- ---- each refusal is given exactly when the rules say, and no other
@@ -69,17 +67,17 @@ module _ (number plan : List ℕ) (room : ℕ) where
     accepted : {vs : List ℕ} → Checkable number (length plan) room → Sound (steps_of plan) → end_of (steps_of plan) ≡ pos (bytes_value number)
         → vs ≡ checked_values (counts_of (steps_of plan)) (largest_bits (steps_of plan)) → Given (answered vs)
 
-  stopped : {r : Refusal} → Admits number (length plan) room (Failed r) → outcome ≡ refusal r
+  stopped : {r : Refusal} → Admits number (length plan) room (Err r) → outcome ≡ refusal r
   stopped t = rw (admits_only number (length plan) room t)
 
   -- the outcome by what judging comes to
   outcome_is : Checkable number (length plan) room → {j : Judged} → judge start (steps_of plan) ≡ j
-      → let r = length (steps_of plan) in outcome ≡ checked_outcome (unless_failed Refused (and_then j.verdict (end_verdict number (at j.values r) r)) (Accepted (counts_of (steps_of plan)) (largest_bits (steps_of plan))))
+      → let r = length (steps_of plan) in outcome ≡ checked_outcome (and_then (and_then j.verdict (end_verdict number (at j.values r) r)) (ACCEPTED (counts_of (steps_of plan)) (largest_bits (steps_of plan))))
   unfolding steps_verdict judged
   outcome_is a e = rw (admits_only number (length plan) room (checkable a), e)
 
   refused_first : {i : ℕ} {Wrong : Step → ℤ → Type 0} {r : Refusal} → Checkable number (length plan) room → (f : FirstAt (steps_of plan) i Wrong)
-      → Tested i (step_at (steps_of plan) f.before) (at (values_of (steps_of plan)) i) (Failed r) → outcome ≡ refusal r
+      → Tested i (step_at (steps_of plan) f.before) (at (values_of (steps_of plan)) i) (Err r) → outcome ≡ refusal r
   refused_first a f t = outcome_is a (first_judged f t)
 
   given_only : {o : Outcome} → Given o → outcome ≡ o
@@ -111,7 +109,7 @@ module _ (number plan : List ℕ) (room : ℕ) where
       steps a (stops h b (value_is_zero x z)) = be (ten a (first h b (x, z)))
       steps a (stops h b (value_too_large x l)) = be (eleven a (first h b (x, l)))
 
-      go : {v : Verdict} → Admits number (length plan) room v → Given outcome
+      go : {v : Result Unit Refusal} → Admits number (length plan) room v → Given outcome
       go (number_refused (not-admitted (too_long h))) = be (one h)
       go (number_refused (not-admitted (padded h p))) = be (thirteen h p)
       go (number_refused (is_zero a z)) = be (two a z)
@@ -192,7 +190,7 @@ module _ (number plan : List ℕ) (room : ℕ) where
 -- ---- memory
 
 module _ (number plan space : List ℕ) where
-  pub untouched : {r : Refusal} → admission number (length plan) (length space) ≡ Failed r → check_space number plan space ≡ space
+  pub untouched : {r : Refusal} → admission number (length plan) (length space) ≡ Err r → check_space number plan space ≡ space
   untouched e = rw e
 
   filled : Checkable number (length plan) (length space) → {j : Judged} → judge start (steps_of plan) ≡ j → check_space number plan space ≡ recorded j.values space
@@ -203,7 +201,7 @@ module _ (number plan space : List ℕ) where
   pub refused_untouched : (n p : ℕ) → outcome number plan (length space) ≡ refused n p → (n ≤ 8) ⊎ (12 < n) → check_space number plan space ≡ space
   refused_untouched n p e h = to (given number plan (length space) e) h
     where
-      stays : {r : Refusal} → Admits number (length plan) (length space) (Failed r) → check_space number plan space ≡ space
+      stays : {r : Refusal} → Admits number (length plan) (length space) (Err r) → check_space number plan space ≡ space
       stays t = untouched (admits_only number (length plan) (length space) t)
 
       none : {n : ℕ} → 8 < n → n ≤ 12 → (n ≤ 8) ⊎ (12 < n) → ⊥

@@ -1,4 +1,5 @@
 -- Checking the steps of a plan one after the other. Assumes nothing.
+use Rattle.std.specs.Prelude.{Result, Ok, Err}
 use mathlib.Core.Path.{◌≡◌, sym, ◌∙◌}
 use mathlib.Core.Bool.{Bool, cond}
 use mathlib.Core.List.{List}
@@ -7,12 +8,9 @@ use native.Mathlib.Numerals.{add-one}
 use native.Mathlib.Omega.{arith}
 use lib.ListN.{length, drop, length-take}
 use Rattle.rules.specs.Limits.{step_bytes, value_bytes}
-use Rattle.rules.specs.Outcome.{unless_failed}
+use Rattle.rules.specs.Outcome.{and_then}
 use Rattle.rules.specs.declared.Refusal.{Refusal}
 use Rattle.rules.specs.declared.Refusal.TheVariants.{WrongEnd}
-use Rattle.rules.specs.declared.Checked.TheVariants.{Accepted, Refused}
-use Rattle.rules.specs.declared.Verdict.{Verdict}
-use Rattle.rules.specs.declared.Verdict.TheVariants.{Passed, Failed}
 use Rattle.chains.specs.Steps.{Step, subtracting, read_step, steps_of}
 use Rattle.chains.specs.Values.{start, step_value, values_of}
 use Rattle.chains.specs.Sound.{step_at}
@@ -39,12 +37,12 @@ pub underway_none : (plan lent here : List ℕ) → Recording lent here start �
 underway_none plan lent here w = record { rest = rw (after_none (steps_of plan)); recording = rw (after_none (steps_of plan)) w }
 
 -- the verdict on all steps and their end, and the values recorded by then
-pub record Done (number plan lent here : List ℕ) (v : Verdict) : Type 0 where
+pub record Done (number plan lent here : List ℕ) (v : Result Unit Refusal) : Type 0 where
   pub verdict : steps_verdict number plan ≡ v
   pub recording : Recording lent here (judged plan).values
 
-module _ {number plan lent here : List ℕ} {v : Verdict} (passed : admission number (length plan) (length lent) ≡ Passed) (d : Done number plan lent here v) where
-  pub done_answer : unless_failed Refused v (Accepted (counts_of (steps_of plan)) (largest_bits (steps_of plan))) ≡ check_answer number plan (length lent)
+module _ {number plan lent here : List ℕ} {v : Result Unit Refusal} (passed : admission number (length plan) (length lent) ≡ Ok tt) (d : Done number plan lent here v) where
+  pub done_answer : and_then v (ACCEPTED (counts_of (steps_of plan)) (largest_bits (steps_of plan))) ≡ check_answer number plan (length lent)
   done_answer = rw (passed, d.verdict)
 
   pub done_space : here ≡ check_space number plan lent
@@ -52,25 +50,25 @@ module _ {number plan lent here : List ℕ} {v : Verdict} (passed : admission nu
 
 module _ (number plan lent here : List ℕ) (n : ℕ) (u : Underway plan lent here n) where
   -- the step at hand
-  module _ (h : n < length plan / step_bytes) (s : Step) (read : s ≡ read_step (drop (step_bytes * n) plan)) (r : Verdict) (d : Bool) (next : List ℕ) (checked : StepChecked s n here next r d) where
+  module _ (h : n < length plan / step_bytes) (s : Step) (read : s ≡ read_step (drop (step_bytes * n) plan)) (r : Result Unit Refusal) (d : Bool) (next : List ℕ) (checked : StepChecked s n here next r d) where
     within : n < length (steps_of plan)
     within = rw (length_steps plan) h
 
     tested : (r ≡ step_verdict (values_after (steps_of plan) n) (step_at (steps_of plan) n))
         × Recording lent next (grown r (values_after (steps_of plan) n) (step_value (values_after (steps_of plan) n) (step_at (steps_of plan) n)))
-        × (r ≡ Passed → d ≡ is_doubling (values_after (steps_of plan) n) (step_at (steps_of plan) n))
+        × (r ≡ Ok tt → d ≡ is_doubling (values_after (steps_of plan) n) (step_at (steps_of plan) n))
     tested =
         let same : s ≡ step_at (steps_of plan) n = read ∙ sym (step_at_lem plan n h) in
         rw same at (checked lent (values_after (steps_of plan) n) (rw add-one (length_after (steps_of plan) n (omega (arith, within)))) u.recording)
 
     -- it passes: its operation is known, and the values of the whole plan tell whether it is a doubling
-    pub underway_counted : r ≡ Passed → (s.operation ≤ subtracting) × (d ≡ is_doubling (values_of (steps_of plan)) s)
+    pub underway_counted : r ≡ Ok tt → (s.operation ≤ subtracting) × (d ≡ is_doubling (values_of (steps_of plan)) s)
     underway_counted e =
         let formed = step_formed (steps_of plan) n within (sym tested.0 ∙ e) in
         let same : s ≡ step_at (steps_of plan) n = read ∙ sym (step_at_lem plan n h) in
         rw same (formed.operation, tested.2 e ∙ doubling_after (steps_of plan) n (step_at (steps_of plan) n) formed.first formed.second)
 
-    pub underway_next : r ≡ Passed → Underway plan lent next (n + 1)
+    pub underway_next : r ≡ Ok tt → Underway plan lent next (n + 1)
     underway_next e =
         rw add-one
         (record {
@@ -79,19 +77,19 @@ module _ (number plan lent here : List ℕ) (n : ℕ) (u : Underway plan lent he
         })
 
     -- it does not
-    pub underway_stop : {x : Refusal} → r ≡ Failed x → Done number plan lent next (Failed x)
+    pub underway_stop : {x : Refusal} → r ≡ Err x → Done number plan lent next (Err x)
     unfolding steps_verdict judged
     underway_stop e =
         let stop = u.rest ∙ judge_stop (steps_of plan) n within (sym tested.0 ∙ e) in
         record { verdict = rw stop; recording = rw stop (rw e at tested.1) }
 
   -- after the last
-  pub underway_end : n ≡ length plan / step_bytes → {t : Bool} → EndsAt number n here t → Done number plan lent here (cond t Passed (Failed (WrongEnd n)))
+  pub underway_end : n ≡ length plan / step_bytes → {t : Bool} → EndsAt number n here t → Done number plan lent here (cond t (Ok tt) (Err (WrongEnd n)))
   unfolding steps_verdict judged
   underway_end e end =
       let f : n ≡ length (steps_of plan) = e ∙ sym (length_steps plan) in
       let all : Recording lent here (values_of (steps_of plan)) = rw (← after_all (steps_of plan), ← f) u.recording in
-      let none : judge start (steps_of plan) ≡ record { verdict = Passed; values = values_of (steps_of plan) } = u.rest ∙ rw f (judge_end (steps_of plan)) in
+      let none : judge start (steps_of plan) ≡ record { verdict = (Ok tt); values = values_of (steps_of plan) } = u.rest ∙ rw f (judge_end (steps_of plan)) in
       record {
         verdict = rw (none, f, rw f at (end lent (values_of (steps_of plan)) (rw add-one (rw f (length_values (steps_of plan)))) all));
         recording = rw none all;

@@ -5,19 +5,17 @@ ghost use Rattle.std.specs.Prelude.{◌≡◌, length};
 ghost use Rattle.checking.specs.Check.{check_answer, check_space};
 
 use check_admission::admit;
-use rules::{Checked, Counts, Refusal, STEP_BYTES, Verdict};
+use rules::{Accepted, Counts, Refusal, STEP_BYTES};
 use step_checking::check_step;
 use step_reading::read_step;
 use work_space::{begin, ends_at, grown_bits};
 
 // Checks a plan for a number, in a lent work space.
-pub fn check(number: &[u8], plan: &[u8], space: &mut [u8]) -> Checked
+pub fn check(number: &[u8], plan: &[u8], space: &mut [u8]) -> Result<Accepted, Refusal>
     ensures answer { result ≡ check_answer number.now plan.now (length space.old) }
     ensures space { space.new ≡ check_space number.now plan.now space.old }
 {
-    if let Verdict::Failed(refusal) = admit(number, plan.len(), space.len()) {
-        return Checked::Refused(refusal);
-    }
+    admit(number, plan.len(), space.len())?;
     begin(space);
     let steps = plan.len() / STEP_BYTES;
     // Kept are the doublings, and all steps but the additions; the other counts follow at the end.
@@ -30,9 +28,7 @@ pub fn check(number: &[u8], plan: &[u8], space: &mut [u8]) -> Checked
         let step = read_step(plan, n);
         let checked = check_step(step, space, n);
         let verdict = checked.verdict;
-        if let Verdict::Failed(refusal) = verdict {
-            return Checked::Refused(refusal);
-        }
+        verdict?;
         doublings += checked.doubling as usize;
         not_additions += checked.doubling as usize | step.operation as usize;
         n += 1;
@@ -51,5 +47,5 @@ pub fn check(number: &[u8], plan: &[u8], space: &mut [u8]) -> Checked
             largest_bits,
         };
     }
-    Checked::Refused(Refusal::WrongEnd(steps))
+    Err(Refusal::WrongEnd(steps))
 }

@@ -1,4 +1,5 @@
 -- Demand 3 (docs/PROMISES.md): theorems about the definitions that the statement of clean cites. Assumes nothing.
+use Rattle.std.specs.Prelude.{Ok}
 use mathlib.Core.Path.{◌≡◌, sym, ap, ◌∙◌}
 use mathlib.Core.Logic.{◌↔◌}
 use mathlib.Core.List.{List, [], ◌∷◌}
@@ -9,7 +10,6 @@ use lib.ListN.{length, drop}
 use lib.Seq.{take-append_seam}
 use Rattle.rules.specs.Limits.{string_digits, least_width, largest_width}
 use Rattle.rules.specs.Outcome.{refused, answered, written_outcome, length_value}
-use Rattle.rules.specs.declared.Written.TheVariants.{Length}
 use Rattle.rules.proofs.Fitted.{fits}
 use Rattle.signed_digits.specs.Strings.{value}
 use Rattle.signed_digits.specs.Form.{SignedBits, NonAdjacent, Canonical}
@@ -29,7 +29,7 @@ use Rattle.cleaning.proofs.Outcomes.{length_cleaning_of}
 -- ---- for every width, the non-adjacent form of that width in place of the canonical string
 
 module _ (w : ℕ) (least : least_width ≤ w) (most : w ≤ largest_width) where
-  answer : (s out : List ℕ) → DigitString w s → RoomEnoughOf w s out → clean_answer_of w s (length out) ≡ Length (length (cleaning_of w s))
+  answer : (s out : List ℕ) → DigitString w s → RoomEnoughOf w s out → clean_answer_of w s (length out) ≡ Ok (length (cleaning_of w s))
   answer s out given room = rw (string_only w s (digits given), fits (cleaning_of w s) (length out) (rw (length_cleaning_of w s) room))
 
   bytes : (s out : List ℕ) → DigitString w s → RoomEnoughOf w s out → bytes_written_of w s out ≡ cleaning_of w s

@@ -1,7 +1,7 @@
 -- Clean (docs/RULES.md, "Calls"): a digit string into the canonical string of the same value. Refusals in the order 5, 4, 6.
-use Rattle.std.specs.Prelude.{ℕ, ◌≤◌, List, length, take}
+use Rattle.rules.specs.declared.Refusal.{Refusal}
+use Rattle.std.specs.Prelude.{ℕ, ◌≤◌, List, length, take, Result}
 use Rattle.rules.specs.Memory.{written, leaves, length_written}
-use Rattle.rules.specs.declared.Written.{Written}
 use Rattle.signed_digits.specs.Naf.{naf, canonical_width}
 use Rattle.signed_digits.specs.Bytes.{digit_bytes}
 use Rattle.digit_strings.specs.Admission.{string_verdict, string_value}
@@ -13,7 +13,7 @@ unfoldable pub cleaning_of : ℕ → List ℕ → List ℕ
 cleaning_of w digits = digit_bytes (naf w (string_value digits))
 
 -- the answer, by the string and the bytes lent
-abbrev pub clean_answer_of : ℕ → List ℕ → ℕ → Written
+abbrev pub clean_answer_of : ℕ → List ℕ → ℕ → Result ℕ Refusal
 clean_answer_of w digits room = written (string_verdict w digits) (cleaning_of w digits) room
 
 -- the second buffer afterwards
@@ -33,7 +33,7 @@ bytes_written_of w digits out = take (length_written (clean_answer_of w digits (
 abbrev pub cleaning : List ℕ → List ℕ
 cleaning digits = cleaning_of canonical_width digits
 
-abbrev pub clean_answer : List ℕ → ℕ → Written
+abbrev pub clean_answer : List ℕ → ℕ → Result ℕ Refusal
 clean_answer digits room = clean_answer_of canonical_width digits room
 
 abbrev pub clean_buffer : List ℕ → List ℕ → List ℕ

@@ -6,21 +6,19 @@ ghost use Rattle.cleaning.specs.Clean.{clean_answer, clean_buffer};
 
 use cleaning_digits::{count, write};
 use digit_strings::{CANONICAL_WIDTH, string_verdict};
-use rules::{Refusal, Verdict, Written};
+use rules::Refusal;
 
 // Writes the canonical string of a digit string's value, lowest digit first.
 #[tactic(auto, using(crate::proofs::Outcomes::string_within, crate::proofs::Outcomes::string_digit, crate::proofs::Outcomes::refused_room, crate::proofs::Outcomes::enough_room, crate::proofs::Outcomes::cleaning_written))]
-pub fn clean(digits: &[u8], out: &mut [u8]) -> Written
+pub fn clean(digits: &[u8], out: &mut [u8]) -> Result<usize, Refusal>
     ensures answer { result ≡ clean_answer digits.now (length out.old) }
     ensures buffer { out.new ≡ clean_buffer digits.now out.old }
 {
-    if let Verdict::Failed(refusal) = string_verdict(digits, CANONICAL_WIDTH) {
-        return Written::Refused(refusal);
-    }
+    string_verdict(digits, CANONICAL_WIDTH)?;
     let length = count(digits);
     if out.len() < length {
-        return Written::Refused(Refusal::RoomTooSmall(length));
+        return Err(Refusal::RoomTooSmall(length));
     }
     write(digits, out, length);
-    Written::Length(length)
+    Ok(length)
 }

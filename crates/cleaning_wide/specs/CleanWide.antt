@@ -1,12 +1,12 @@
 -- Clean wide (docs/RULES.md, "Calls"): a digit string of width w into the non-adjacent form of the same value. Refusals in the order 3, 5, 4, 6.
-use Rattle.std.specs.Prelude.{ℕ, List, length, take}
+use Rattle.rules.specs.declared.Refusal.{Refusal}
+use Rattle.std.specs.Prelude.{ℕ, List, length, take, Result}
 use Rattle.rules.specs.Memory.{written, leaves, length_written}
-use Rattle.rules.specs.declared.Written.{Written}
 use Rattle.widths.specs.Width.{wide_verdict}
 use Rattle.cleaning.specs.Clean.{cleaning_of}
 
 -- the answer, by the width, the string and the bytes lent
-abbrev pub clean_wide_answer : ℕ → List ℕ → ℕ → Written
+abbrev pub clean_wide_answer : ℕ → List ℕ → ℕ → Result ℕ Refusal
 clean_wide_answer w digits room = written (wide_verdict w digits) (cleaning_of w digits) room
 
 -- the second buffer afterwards

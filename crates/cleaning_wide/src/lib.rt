@@ -8,7 +8,7 @@ ghost use Rattle.cleaning_wide.specs.CleanWide.{clean_wide_answer, clean_wide_bu
 use output::put;
 use reading::{ReadBack, read_of_width};
 use reading_digits::SIZE_BYTES;
-use rules::{LARGEST_WIDTH, STRING_DIGITS, Verdict, Written};
+use rules::{LARGEST_WIDTH, Refusal, STRING_DIGITS};
 use wide_digits::write;
 use widths::width_verdict;
 
@@ -16,17 +16,15 @@ use widths::width_verdict;
 const DIGIT_ROOM: usize = STRING_DIGITS + LARGEST_WIDTH;
 
 // Writes the form of a digit string's value, lowest digit first, one byte a digit.
-pub fn clean_wide(digits: &[u8], width: u32, out: &mut [u8]) -> Written
+pub fn clean_wide(digits: &[u8], width: u32, out: &mut [u8]) -> Result<usize, Refusal>
     ensures answer { result ≡ clean_wide_answer width digits.now (length out.old) }
     ensures buffer { out.new ≡ clean_wide_buffer width digits.now out.old }
 {
-    if let Verdict::Failed(refusal) = width_verdict(width) {
-        return Written::Refused(refusal);
-    }
+    width_verdict(width)?;
     let w = width as usize;
     let mut size = [0u8; SIZE_BYTES];
     match read_of_width(digits, w, &mut size) {
-        ReadBack::Refused(refusal) => Written::Refused(refusal),
+        Err(refusal) => Err(refusal),
         ReadBack::Value { sign, length: _ } => {
             let mut form = [0u8; DIGIT_ROOM];
             let length = write(&size, digits.len() + (w - 1), w, sign, &mut form);

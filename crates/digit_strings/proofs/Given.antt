@@ -1,4 +1,5 @@
 -- A call that is handed a digit string and writes bytes: each outcome with what it is given for, and no other. Assumes nothing.
+use Rattle.std.specs.Prelude.{Err}
 use mathlib.Core.Path.{◌≡◌, refl}
 use mathlib.Core.Logic.{◌↔◌}
 use mathlib.Core.List.{List}
@@ -7,7 +8,6 @@ use lib.ListN.{length}
 use Rattle.rules.specs.Limits.{string_digits}
 use Rattle.rules.specs.Outcome.{Outcome, refused, answered, refusal}
 use Rattle.rules.specs.declared.Refusal.{Refusal}
-use Rattle.rules.specs.declared.Verdict.TheVariants.{Failed}
 use Rattle.rules.proofs.Memory.{writes, Writes, stopped, no_room, all_fits, writes_only, writes_one}
 use Rattle.digit_strings.specs.Admission.{string_verdict, DigitString, LowestBad}
 use Rattle.digit_strings.proofs.Tests.{StringTest, too_long, bad_digit, digits, string_only, string_test, digit_string_is}
@@ -28,7 +28,7 @@ module _ (values : ℕ → List ℕ) (w : ℕ) (string bytes : List ℕ) (room :
   given_only (six d h e) = rw e (writes_only values _ bytes room (no_room (string_only w string (digits d)) h))
   given_only (answer d h e) = rw e (writes_only values _ bytes room (all_fits (string_only w string (digits d)) h))
 
-  stops : {r : Refusal} → StringTest w string (Failed r) → Given (refusal r)
+  stops : {r : Refusal} → StringTest w string (Err r) → Given (refusal r)
   stops (too_long h) = five h
   stops (bad_digit h l) = four h l
 

@@ -1,10 +1,9 @@
 -- Which digit strings a call takes (docs/RULES.md, "Digit strings"), over the width of the digits: the one definition of refusals 5 and 4, in that order.
-use Rattle.std.specs.Prelude.{ℕ, suc, ◌-◌, ◌%◌, ◌^◌, ◌<◌, ◌≤◌, ◌≡◌, Bool, true, false, cond, ◌&&◌, ◌||◌, List, [], ◌∷◌, ltb, leb, eqb, ℤ, nat_abs, length, get_or}
+use Rattle.rules.specs.declared.Refusal.{Refusal}
+use Rattle.std.specs.Prelude.{ℕ, suc, ◌-◌, ◌%◌, ◌^◌, ◌<◌, ◌≤◌, ◌≡◌, Bool, true, false, cond, ◌&&◌, ◌||◌, List, [], ◌∷◌, ltb, leb, eqb, ℤ, nat_abs, length, get_or, Result, Ok, Err}
 use Rattle.rules.specs.Limits.{string_digits}
 use Rattle.rules.specs.Outcome.{and_then}
 use Rattle.rules.specs.declared.Refusal.TheVariants.{NotADigit, StringTooLong}
-use Rattle.rules.specs.declared.Verdict.{Verdict}
-use Rattle.rules.specs.declared.Verdict.TheVariants.{Passed, Failed}
 use Rattle.signed_digits.specs.Strings.{value}
 use Rattle.signed_digits.specs.Bytes.{byte_digit, string_of}
 
@@ -29,10 +28,10 @@ abbrev pub first_bad : ℕ → List ℕ → ℕ
 first_bad w digits = first_failing (is_digit w) digits
 
 -- 5 where the string is longer than the limit, then 4 at the lowest byte that is no digit
-unfoldable pub string_verdict : ℕ → List ℕ → Verdict
+unfoldable pub string_verdict : ℕ → List ℕ → Result Unit Refusal
 string_verdict w digits =
-    and_then (cond (ltb string_digits (length digits)) (Failed StringTooLong) Passed)
-    (cond (ltb (first_bad w digits) (length digits)) (Failed (NotADigit (first_bad w digits))) Passed)
+    and_then (cond (ltb string_digits (length digits)) (Err StringTooLong) (Ok tt))
+    (cond (ltb (first_bad w digits) (length digits)) (Err (NotADigit (first_bad w digits))) (Ok tt))
 
 -- a digit string within the limit, every byte of it a digit
 pub record DigitString (w : ℕ) (bytes : List ℕ) : Type 0 where

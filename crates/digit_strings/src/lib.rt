@@ -7,7 +7,7 @@ ghost use Rattle.rules.specs.Limits.{least_width, largest_width};
 ghost use Rattle.digit_strings.specs.Admission.{digit_up_to, first_failing, string_verdict};
 ghost use Rattle.digit_strings.specs.Internal.{PassFor};
 
-use rules::{LEAST_WIDTH, Refusal, STRING_DIGITS, Verdict};
+use rules::{LEAST_WIDTH, Refusal, STRING_DIGITS};
 
 // The width of the canonical string, whose digits are 0, 1 and -1.
 pub const CANONICAL_WIDTH: usize = LEAST_WIDTH;
@@ -70,16 +70,16 @@ fn first_bad(digits: &[u8], largest: u8) -> usize
 
 // Refusal 5, then 4, for digits of this width.
 #[tactic(auto, using(crate::proofs::Tests::verdict_too_long, crate::proofs::Tests::verdict_bad_digit, crate::proofs::Tests::verdict_passed))]
-pub fn string_verdict(digits: &[u8], width: usize) -> Verdict
+pub fn string_verdict(digits: &[u8], width: usize) -> Result<(), Refusal>
     requires { (least_width ≤ width) × (width ≤ largest_width) }
     ensures { result ≡ string_verdict width digits.now }
 {
     if STRING_DIGITS < digits.len() {
-        return Verdict::Failed(Refusal::StringTooLong);
+        return Err(Refusal::StringTooLong);
     }
     let bad = first_bad(digits, ((1usize << (width - 1)) - 1) as u8);
     if bad < digits.len() {
-        return Verdict::Failed(Refusal::NotADigit(bad));
+        return Err(Refusal::NotADigit(bad));
     }
-    Verdict::Passed
+    Ok(())
 }

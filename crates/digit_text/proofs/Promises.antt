@@ -1,4 +1,5 @@
 -- What the call promises of a text's digits. Assumes nothing.
+use Rattle.std.specs.Prelude.{Ok}
 use mathlib.Core.Path.{◌≡◌, refl, ◌∙◌}
 use mathlib.Core.Logic.{◌↔◌, ◌⊎◌, ◌≢◌, inl, inr}
 use mathlib.Core.Bool.{Bool, true, false, cond}
@@ -9,7 +10,6 @@ use native.Mathlib.Decide.{dec_lt}
 use lib.ListN.{length, get_or, drop, length-map, length-reverse, get_or-append}
 use lib.Seq.{get_or_at}
 use Rattle.rules.specs.Outcome.{Outcome, refused, answered, written_outcome}
-use Rattle.rules.specs.declared.Written.TheVariants.{Length}
 use Rattle.rules.proofs.Fitted.{fits}
 use Rattle.rules.proofs.Untested as untested
 use Rattle.text_words.specs.Words.{is_blank, words_after, text_words}
@@ -111,7 +111,7 @@ written_bytes text out n room h =
 
 -- ---- half the text's length, rounded up, is room enough
 
-pub digits_answered : (text : List ℕ) (room : ℕ) → (length text + 1) / 2 ≤ room → digits_answer text room ≡ Length (length (text_digits text))
+pub digits_answered : (text : List ℕ) (room : ℕ) → (length text + 1) / 2 ≤ room → digits_answer text room ≡ Ok (length (text_digits text))
 digits_answered text room h = fits (text_digits text) room (omega (arith, as_many text, words_room_lem text))
 
 -- ---- each outcome is given exactly when the rules say, and no other

@@ -1,7 +1,7 @@
 -- Digit strings as people write them: a word for each digit, the most significant first.
-use Rattle.std.specs.Prelude.{ℕ, Bool, true, false, cond, List, [], ◌∷◌, map, reverse, eqb, length}
+use Rattle.rules.specs.declared.Refusal.{Refusal}
+use Rattle.std.specs.Prelude.{ℕ, Bool, true, false, cond, List, [], ◌∷◌, map, reverse, eqb, length, Result}
 use Rattle.rules.specs.Memory.{fitted, leaves}
-use Rattle.rules.specs.declared.Written.{Written}
 use Rattle.text_words.specs.Words.{text_words}
 
 -- two words are the same, byte for byte
@@ -30,7 +30,7 @@ unfoldable pub text_digits : List ℕ → List ℕ
 text_digits text = reverse (map word_digit (text_words text))
 
 -- into a lent buffer: all of them or, where there is no room, nothing and refusal 6
-abbrev pub digits_answer : List ℕ → ℕ → Written
+abbrev pub digits_answer : List ℕ → ℕ → Result ℕ Refusal
 digits_answer text room = fitted (text_digits text) room
 
 -- the buffer afterwards

@@ -4,7 +4,7 @@
 ghost use Rattle.std.specs.Prelude.{◌≡◌, length};
 ghost use Rattle.digit_text.specs.Digits.{word_digit, digits_answer, digits_buffer};
 
-use rules::{Refusal, Written};
+use rules::Refusal;
 use text_words::{next_word, word_count};
 
 // The byte of a word that is no digit. It is none either, so the calls that take digits refuse it at
@@ -38,13 +38,13 @@ fn digit_of(word: &[u8]) -> u8
 }
 
 // Writes the digits of a text, least significant first: the first word's digit goes to the last place.
-pub fn read_digits(text: &[u8], out: &mut [u8]) -> Written
+pub fn read_digits(text: &[u8], out: &mut [u8]) -> Result<usize, Refusal>
     ensures answer { result ≡ digits_answer text.now (length out.old) }
     ensures buffer { out.new ≡ digits_buffer text.now out.old }
 {
     let n = word_count(text);
     if out.len() < n {
-        return Written::Refused(Refusal::RoomTooSmall(n));
+        return Err(Refusal::RoomTooSmall(n));
     }
     let mut left = n;
     let mut at = 0;
@@ -56,5 +56,5 @@ pub fn read_digits(text: &[u8], out: &mut [u8]) -> Written
         out[left] = digit_of(&text[start..end]);
         at = end;
     }
-    Written::Length(n)
+    Ok(n)
 }

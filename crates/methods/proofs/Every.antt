@@ -1,5 +1,6 @@
 -- Every method that is allowed: which they are, and that the steps are sound, end at the number, are no more than a plan may have, and hide no doubling,
 -- and how many bits the largest size has. Assumes nothing.
+use Rattle.std.specs.Prelude.{Result, Ok, Err}
 use mathlib.Core.Path.{◌≡◌, refl, sym}
 use mathlib.Core.Logic.{◌↔◌, ⊎_elim}
 use mathlib.Core.List.Memᴰ
@@ -18,7 +19,6 @@ use Rattle.chains.specs.Counts.{NoHiddenDoubling}
 use Rattle.chains.specs.Largest.{largest_bits}
 use Rattle.methods.specs.declared.Method.{Method}
 use Rattle.methods.specs.declared.Method.TheVariants.{Binary, FixedWindows, SlidingWindows, Naf, WideNaf, ModifiedNaf}
-use Rattle.methods.specs.declared.Chosen.{Chosen}
 use Rattle.methods.specs.Widths.{fixed_window_bits, sliding_window_bits}
 use Rattle.methods.specs.Method.{steps_by, method_number, method_width, Entry, methods, within, numbered, method_of, Allowed, count_from, every_width, choices}
 use Rattle.methods.specs.Largest.{largest_bits_by}
@@ -34,12 +34,12 @@ use Rattle.methods.proofs.ModifiedNaf.{modified_length, modified_fit, modified_s
 
 module _ (method : Method) (width least most : ℕ) where
   -- the method, or refusal 3 for a width that is too narrow or too wide
-  pub data Within : Chosen → Type 0 where
-    allowed : {m : Method} → m ≡ method → least ≤ width → width ≤ most → Within (Chosen.Method m)
-    too_narrow : {r : Refusal} → r ≡ MethodOrWidth → width < least → Within (Chosen.Refused r)
-    too_wide : {r : Refusal} → r ≡ MethodOrWidth → least ≤ width → most < width → Within (Chosen.Refused r)
+  pub data Within : Result Method Refusal → Type 0 where
+    allowed : {m : Method} → m ≡ method → least ≤ width → width ≤ most → Within (Ok m)
+    too_narrow : {r : Refusal} → r ≡ MethodOrWidth → width < least → Within (Err r)
+    too_wide : {r : Refusal} → r ≡ MethodOrWidth → least ≤ width → most < width → Within (Err r)
 
-  pub within_only : {c : Chosen} → Within c → within method width least most ≡ c
+  pub within_only : {c : Result Method Refusal} → Within c → within method width least most ≡ c
   unfolding within
   within_only (allowed e l h) = rw (le-leb least width l, le-leb width most h, e)
   within_only (too_narrow e h) = rw (lt-leb least width h, e)
@@ -53,14 +53,14 @@ module _ (method : Method) (width least most : ℕ) where
       go (no n) (yes h) = let t = too_wide refl (omega arith) h in rw (within_only t) t
       go (no n) (no h) = let t = allowed refl (omega arith) (omega arith) in rw (within_only t) t
 
-  within_is : {m : Method} → within method width least most ≡ Chosen.Method m → (m ≡ method) × (least ≤ width) × (width ≤ most)
+  within_is : {m : Method} → within method width least most ≡ Ok m → (m ≡ method) × (least ≤ width) × (width ≤ most)
   within_is e = elim (rw e at within_one) [ allowed q l h ↦ (q, l, h) ]
 
-  within_3 : {r : Refusal} → within method width least most ≡ Chosen.Refused r → r ≡ MethodOrWidth
+  within_3 : {r : Refusal} → within method width least most ≡ Err r → r ≡ MethodOrWidth
   within_3 e = elim (rw e at within_one) [ too_narrow q h ↦ q | too_wide q l h ↦ q ]
 
 -- the two numbers that ask for a method are its own
-pub asked : (method width : ℕ) {m : Method} → method_of method width ≡ Chosen.Method m → (method_number m ≡ method) × (method_width m ≡ width)
+pub asked : (method width : ℕ) {m : Method} → method_of method width ≡ Ok m → (method_number m ≡ method) × (method_width m ≡ width)
 unfolding method_of numbered
 asked zero width e = let z : ◌≡◌ {A = ℕ} 0 1 = cc in absurd (omega arith)
 asked (suc zero) width e = let w = within_is Binary width 0 0 e in rw w.0 (refl, omega arith)
@@ -71,17 +71,17 @@ asked (suc (suc (suc (suc (suc zero))))) width e = let w = within_is (WideNaf wi
 asked (suc (suc (suc (suc (suc (suc zero)))))) width e = let w = within_is ModifiedNaf width 0 0 e in rw w.0 (refl, omega arith)
 asked (suc (suc (suc (suc (suc (suc (suc n))))))) width e = let z : ◌≡◌ {A = ℕ} 0 1 = cc in absurd (omega arith)
 
-pub is_allowed : (method width : ℕ) {m : Method} → method_of method width ≡ Chosen.Method m → Allowed m
+pub is_allowed : (method width : ℕ) {m : Method} → method_of method width ≡ Ok m → Allowed m
 is_allowed method width e = let a = asked method width e in rw (a.0, a.1) e
 
-numbered_3 : (ms : List Entry) (n width : ℕ) {r : Refusal} → numbered ms n width ≡ Chosen.Refused r → r ≡ MethodOrWidth
+numbered_3 : (ms : List Entry) (n width : ℕ) {r : Refusal} → numbered ms n width ≡ Err r → r ≡ MethodOrWidth
 unfolding numbered
 numbered_3 [] n width e = cc
 numbered_3 (m ∷ ms) zero width e = within_3 (m.method width) width m.least m.most e
 numbered_3 (m ∷ ms) (suc n) width e = numbered_3 ms n width e
 
 -- any other two are refused by 3
-pub refused_3 : (method width : ℕ) {r : Refusal} → method_of method width ≡ Chosen.Refused r → r ≡ MethodOrWidth
+pub refused_3 : (method width : ℕ) {r : Refusal} → method_of method width ≡ Err r → r ≡ MethodOrWidth
 unfolding method_of
 refused_3 zero width e = cc
 refused_3 (suc n) width e = numbered_3 methods n width e
@@ -100,7 +100,7 @@ between k zero d m = absurd (Memᴰ.not-nil m)
 between k (suc n) d m =
     ⊎_elim (λ (e : d ≡ k). (omega arith, omega arith)) (λ t. let b = between (suc k) n d t in (omega arith, omega arith)) (Memᴰ.cases_cons m)
 
-in_list : (ms : List Entry) (n width : ℕ) {m : Method} → numbered ms n width ≡ Chosen.Method m → Memᴰ m (every_width ms)
+in_list : (ms : List Entry) (n width : ℕ) {m : Method} → numbered ms n width ≡ Ok m → Memᴰ m (every_width ms)
 unfolding numbered every_width
 in_list [] n width e = let z : ◌≡◌ {A = ℕ} 0 1 = cc in absurd (omega arith)
 in_list (x ∷ ms) zero width e =
@@ -109,7 +109,7 @@ in_list (x ∷ ms) zero width e =
 in_list (x ∷ ms) (suc n) width e =
     Memᴰ.append_right (map x.method (count_from x.least (suc x.most - x.least))) (in_list ms n width e)
 
-from_list : (ms : List Entry) {m : Method} → Memᴰ m (every_width ms) → (n : ℕ) × (width : ℕ) × (numbered ms n width ≡ Chosen.Method m)
+from_list : (ms : List Entry) {m : Method} → Memᴰ m (every_width ms) → (n : ℕ) × (width : ℕ) × (numbered ms n width ≡ Ok m)
 unfolding numbered every_width
 from_list [] h = absurd (Memᴰ.not-nil h)
 from_list (x ∷ ms) {m} h =
@@ -121,7 +121,7 @@ from_list (x ∷ ms) {m} h =
     (λ later. let w = from_list ms later in (suc w.0, w.1, w.2))
     (Memᴰ.append_cases (map x.method (count_from x.least (suc x.most - x.least))) h)
 
-choice : (method width : ℕ) {m : Method} → method_of method width ≡ Chosen.Method m → Memᴰ m choices
+choice : (method width : ℕ) {m : Method} → method_of method width ≡ Ok m → Memᴰ m choices
 unfolding method_of
 choice zero width e = let z : ◌≡◌ {A = ℕ} 0 1 = cc in absurd (omega arith)
 choice (suc n) width e = in_list methods n width e

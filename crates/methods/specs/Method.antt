@@ -1,11 +1,11 @@
 -- The methods by number and width (docs/RULES.md, "Methods"). A new method is a file beside this one, a line in `methods` and in each definition by cases.
-use Rattle.std.specs.Prelude.{ℕ, zero, suc, ◌-◌, ◌≡◌, cond, List, [], ◌∷◌, ◌++◌, map, leb}
+use Rattle.rules.specs.declared.Refusal.{Refusal}
+use Rattle.std.specs.Prelude.{ℕ, zero, suc, ◌-◌, ◌≡◌, cond, List, [], ◌∷◌, ◌++◌, map, leb, Result, Ok, Err}
 use Rattle.rules.specs.Limits.{least_width, largest_width}
 use Rattle.rules.specs.declared.Refusal.TheVariants.{MethodOrWidth}
 use Rattle.chains.specs.Steps.{Step}
 use Rattle.methods.specs.declared.Method.{Method}
 use Rattle.methods.specs.declared.Method.TheVariants.{Binary, FixedWindows, SlidingWindows, Naf, WideNaf, ModifiedNaf}
-use Rattle.methods.specs.declared.Chosen.{Chosen}
 use Rattle.methods.specs.Widths.{fixed_window_bits, sliding_window_bits}
 use Rattle.methods.specs.Binary.{binary_steps}
 use Rattle.methods.specs.FixedWindows.{fixed_window_steps}
@@ -61,23 +61,23 @@ methods =
     ∷ [])))))
 
 -- the method, if its width is one that it allows
-unfoldable pub within : Method → ℕ → ℕ → ℕ → Chosen
-within method width least most = cond (leb least width) (cond (leb width most) (Chosen.Method method) (Chosen.Refused MethodOrWidth)) (Chosen.Refused MethodOrWidth)
+unfoldable pub within : Method → ℕ → ℕ → ℕ → Result Method Refusal
+within method width least most = cond (leb least width) (cond (leb width most) (Ok method) (Err MethodOrWidth)) (Err MethodOrWidth)
 
 -- the method of entry n, counted from 0
-unfoldable pub numbered : List Entry → ℕ → ℕ → Chosen
-numbered [] n width = Chosen.Refused MethodOrWidth
+unfoldable pub numbered : List Entry → ℕ → ℕ → Result Method Refusal
+numbered [] n width = Err MethodOrWidth
 numbered (m ∷ ms) zero width = within (m.method width) width m.least m.most
 numbered (m ∷ ms) (suc n) width = numbered ms n width
 
 -- the method that the two numbers ask for, or refusal 3; methods are numbered from 1
-unfoldable pub method_of : ℕ → ℕ → Chosen
-method_of zero width = Chosen.Refused MethodOrWidth
+unfoldable pub method_of : ℕ → ℕ → Result Method Refusal
+method_of zero width = Err MethodOrWidth
 method_of (suc n) width = numbered methods n width
 
 -- a method that two numbers ask for: its own
 abbrev pub Allowed : Method → Type 0
-Allowed m = method_of (method_number m) (method_width m) ≡ Chosen.Method m
+Allowed m = method_of (method_number m) (method_width m) ≡ Ok m
 
 -- n numbers from k on
 unfoldable pub count_from : ℕ → ℕ → List ℕ

@@ -1,4 +1,5 @@
 -- A call that is handed a number and writes bytes, with refusals 1, 13 and 6: each outcome with what it is given for, and no other. Assumes nothing.
+use Rattle.std.specs.Prelude.{Err}
 use mathlib.Core.Path.{◌≡◌, refl}
 use mathlib.Core.Logic.{◌↔◌}
 use mathlib.Core.List.{List}
@@ -7,7 +8,6 @@ use lib.ListN.{length}
 use Rattle.rules.specs.Limits.{number_bytes}
 use Rattle.rules.specs.Outcome.{Outcome, refused, answered, refusal}
 use Rattle.rules.specs.declared.Refusal.{Refusal}
-use Rattle.rules.specs.declared.Verdict.TheVariants.{Failed}
 use Rattle.rules.proofs.Memory.{writes, Writes, stopped, no_room, all_fits, writes_only, writes_one}
 use Rattle.numbers.specs.Admission.{Padded, number_verdict, Admitted}
 use Rattle.numbers.proofs.Tests.{NumberTest, too_long, padded, number_only, number_test, admitted_is}
@@ -28,7 +28,7 @@ module _ (values : ℕ → List ℕ) (number bytes : List ℕ) (room : ℕ) wher
   given_only (six a h e) = rw e (writes_only values _ bytes room (no_room ((admitted_is number).1 a) h))
   given_only (fits a h e) = rw e (writes_only values _ bytes room (all_fits ((admitted_is number).1 a) h))
 
-  stops : {r : Refusal} → NumberTest number (Failed r) → Given (refusal r)
+  stops : {r : Refusal} → NumberTest number (Err r) → Given (refusal r)
   stops (too_long h) = one h
   stops (padded h p) = thirteen h p
 

@@ -1,4 +1,6 @@
 -- One spelling (docs/RULES.md, 1.3): of the numbers that are admitted, those of equal value are the same bytes, and every value within the limit has one. Assumes nothing.
+use Rattle.rules.specs.declared.Refusal.{Refusal}
+use Rattle.std.specs.Prelude.{Result}
 use mathlib.Core.Path.{◌≡◌, sym, ap, ◌∙◌}
 use mathlib.Core.Logic.{◌↔◌, ◌≢◌}
 use mathlib.Core.List.{List}
@@ -7,7 +9,6 @@ use native.Mathlib.Omega.{arith}
 use lib.ListN.{length}
 use Rattle.rules.specs.Limits.{number_bytes}
 use Rattle.rules.specs.Outcome.{Outcome, refused}
-use Rattle.rules.specs.declared.Verdict.{Verdict}
 use Rattle.integers.specs.Positional.{bytes_value, bytes_of}
 use Rattle.integers.proofs.Positional.{Below}
 use Rattle.integers.proofs.Shortest.{bytes_value_lem, bytes_below, bytes_fit, bytes_top, bytes_only}
@@ -34,7 +35,7 @@ module _ (number : List ℕ) {o : Outcome} (one : o ≡ refused 1 0 ↔ number_b
   pub admitting_is : Admitting o ↔ Admitted number
   admitting_is = (λ s. go s (number_test number), λ a. record { not_1 = λ e. omega (arith, one.0 e, a.short); not_13 = λ e. let p = (thirteen.0 e).1 in a.top p.some p.highest_zero })
     where
-      go : Admitting o → {v : Verdict} → NumberTest number v → Admitted number
+      go : Admitting o → {v : Result Unit Refusal} → NumberTest number v → Admitted number
       go s (too_long h) = absurd (s.not_1 (one.1 h))
       go s (padded h p) = absurd (s.not_13 (thirteen.1 (h, p)))
       go s (admitted a) = a

@@ -1,5 +1,6 @@
 -- Each verdict on a number with what it is given for, and no other. Assumes nothing.
-use mathlib.Core.Path.{◌≡◌, ap}
+use Rattle.std.specs.Prelude.{Result, Ok, Err}
+use mathlib.Core.Path.{◌≡◌, sym, ap}
 use mathlib.Core.Logic.{◌↔◌, ◌≢◌, ◌⊎◌, inl, inr}
 use mathlib.Core.Bool.{true, false}
 use mathlib.Core.List.{List, []}
@@ -13,10 +14,8 @@ use lib.Seq.{take_all}
 use Rattle.rules.specs.Limits.{number_bytes}
 use Rattle.rules.specs.declared.Refusal.{Refusal}
 use Rattle.rules.specs.declared.Refusal.TheVariants.{NumberTooLong, NumberIsZero, HighestByteIsZero}
-use Rattle.rules.specs.declared.Verdict.{Verdict}
-use Rattle.rules.specs.declared.Verdict.TheVariants.{Passed, Failed}
 use Rattle.integers.specs.Positional.{bytes_value, Unpadded}
-use Rattle.integers.proofs.Positional.{all_significant, significant_some}
+use Rattle.integers.proofs.Positional.{all_significant, significant_some, zero_if_empty}
 use Rattle.numbers.specs.Admission.{Padded, is_padded, number_verdict, positive_verdict, Admitted, Positive}
 
 module _ (number : List ℕ) where
@@ -44,12 +43,12 @@ module _ (number : List ℕ) where
 
   -- ---- refusals 1 and 13
 
-  pub data NumberTest : Verdict → Type 0 where
-    too_long : number_bytes < length number → NumberTest (Failed NumberTooLong)
-    padded : length number ≤ number_bytes → Padded number → NumberTest (Failed HighestByteIsZero)
-    admitted : Admitted number → NumberTest Passed
+  pub data NumberTest : Result Unit Refusal → Type 0 where
+    too_long : number_bytes < length number → NumberTest (Err NumberTooLong)
+    padded : length number ≤ number_bytes → Padded number → NumberTest (Err HighestByteIsZero)
+    admitted : Admitted number → NumberTest (Ok tt)
 
-  pub number_only : {v : Verdict} → NumberTest v → number_verdict number ≡ v
+  pub number_only : {v : Result Unit Refusal} → NumberTest v → number_verdict number ≡ v
   unfolding number_verdict
   number_only (too_long h) = rw (lt-ltb number_bytes (length number) h)
   number_only (padded h p) = rw (le-ltb number_bytes (length number) h, padded_true p)
@@ -58,7 +57,7 @@ module _ (number : List ℕ) where
   pub number_test : NumberTest (number_verdict number)
   number_test = go (dec_lt number_bytes (length number)) by_top
     where
-      be : {v : Verdict} → NumberTest v → NumberTest (number_verdict number)
+      be : {v : Result Unit Refusal} → NumberTest v → NumberTest (number_verdict number)
       be t = rw (number_only t) t
 
       go : Dec (number_bytes < length number) → Padded number ⊎ Unpadded number → NumberTest (number_verdict number)
@@ -66,17 +65,17 @@ module _ (number : List ℕ) where
       go (no h) (inl p) = be (padded (omega arith) p)
       go (no h) (inr t) = be (admitted (record { short = omega arith; top = t }))
 
-  pub admitted_is : number_verdict number ≡ Passed ↔ Admitted number
+  pub admitted_is : number_verdict number ≡ Ok tt ↔ Admitted number
   admitted_is = (λ e. elim (rw e at number_test) [ admitted a ↦ a ], λ a. number_only (admitted a))
 
   -- ---- then refusal 2
 
-  pub data PositiveTest : Verdict → Type 0 where
-    refused : {r : Refusal} → NumberTest (Failed r) → PositiveTest (Failed r)
-    is_zero : Admitted number → bytes_value number ≡ 0 → PositiveTest (Failed NumberIsZero)
-    positive : Positive number → PositiveTest Passed
+  pub data PositiveTest : Result Unit Refusal → Type 0 where
+    refused : {r : Refusal} → NumberTest (Err r) → PositiveTest (Err r)
+    is_zero : Admitted number → bytes_value number ≡ 0 → PositiveTest (Err NumberIsZero)
+    positive : Positive number → PositiveTest (Ok tt)
 
-  pub positive_only : {v : Verdict} → PositiveTest v → positive_verdict number ≡ v
+  pub positive_only : {v : Result Unit Refusal} → PositiveTest v → positive_verdict number ≡ v
   unfolding positive_verdict
   positive_only (refused t) = rw (number_only t)
   positive_only (is_zero a z) = rw (number_only (admitted a), eq-eqb (bytes_value number) 0 z)
@@ -85,10 +84,10 @@ module _ (number : List ℕ) where
   pub positive_test : PositiveTest (positive_verdict number)
   positive_test = go (number_verdict number) number_test (ℕ_discrete (bytes_value number) 0)
     where
-      go : (v : Verdict) → NumberTest v → Dec (bytes_value number ≡ 0) → PositiveTest (positive_verdict number)
-      go (Failed r) t _ = let p = refused t in rw (positive_only p) p
-      go Passed (admitted a) (yes z) = let p = is_zero a z in rw (positive_only p) p
-      go Passed (admitted a) (no n) = let p = positive (record { admitted = a; nonzero = n }) in rw (positive_only p) p
+      go : (v : Result Unit Refusal) → NumberTest v → Dec (bytes_value number ≡ 0) → PositiveTest (positive_verdict number)
+      go (Err r) t _ = let p = refused t in rw (positive_only p) p
+      go (Ok tt) (admitted a) (yes z) = let p = is_zero a z in rw (positive_only p) p
+      go (Ok tt) (admitted a) (no n) = let p = positive (record { admitted = a; nonzero = n }) in rw (positive_only p) p
 
 -- ---- what the code's tests say of the highest byte and of refusals 1 and 13
 
@@ -100,15 +99,15 @@ pub padded_highest : (number : List ℕ) → 0 < length number → eqb (get_or n
 unfolding is_padded
 padded_highest number h = rw (lt-ltb 0 (length number) h)
 
-pub verdict_too_long : (number : List ℕ) → number_bytes < length number → Failed NumberTooLong ≡ number_verdict number
+pub verdict_too_long : (number : List ℕ) → number_bytes < length number → Err NumberTooLong ≡ number_verdict number
 unfolding number_verdict
 verdict_too_long number h = rw (lt-ltb number_bytes (length number) h)
 
-pub verdict_padded : (number : List ℕ) → length number ≤ number_bytes → is_padded number ≡ true → Failed HighestByteIsZero ≡ number_verdict number
+pub verdict_padded : (number : List ℕ) → length number ≤ number_bytes → is_padded number ≡ true → Err HighestByteIsZero ≡ number_verdict number
 unfolding number_verdict
 verdict_padded number h p = rw (le-ltb number_bytes (length number) h, p)
 
-pub verdict_passed : (number : List ℕ) → length number ≤ number_bytes → is_padded number ≡ false → Passed ≡ number_verdict number
+pub verdict_passed : (number : List ℕ) → length number ≤ number_bytes → is_padded number ≡ false → Ok tt ≡ number_verdict number
 unfolding number_verdict
 verdict_passed number h p = rw (le-ltb number_bytes (length number) h, p)
 
@@ -123,3 +122,13 @@ empty_admitted = record { short = omega arith; top = λ h. absurd (omega arith) 
 
 pub nonzero_if_some : (number : List ℕ) → Admitted number → length number ≢ 0 → bytes_value number ≢ 0
 nonzero_if_some number a = significant_some number (length number) (all_significant number a.top)
+
+-- ---- what the code's test says of refusal 2
+
+pub positive_zero : (number : List ℕ) → number_verdict number ≡ Ok tt → length number ≡ 0 → Err NumberIsZero ≡ positive_verdict number
+positive_zero number e z = sym (positive_only number (is_zero ((admitted_is number).0 e) (zero_if_empty number z)))
+
+pub positive_passed : (number : List ℕ) → number_verdict number ≡ Ok tt → length number ≢ 0 → Ok tt ≡ positive_verdict number
+positive_passed number e n =
+    let a = (admitted_is number).0 e in
+    sym (positive_only number (positive (record { admitted = a; nonzero = nonzero_if_some number a n })))

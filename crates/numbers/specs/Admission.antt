@@ -1,10 +1,9 @@
 -- Which numbers a call takes (docs/RULES.md, "Numbers"): the one definition of refusals 1, 13 and 2, in that order.
-use Rattle.std.specs.Prelude.{◌≡◌, ◌≢◌, Bool, ◌&&◌, cond, List, ℕ, ◌-◌, ◌<◌, ◌≤◌, ltb, eqb, length, get_or}
+use Rattle.rules.specs.declared.Refusal.{Refusal}
+use Rattle.std.specs.Prelude.{◌≡◌, ◌≢◌, Bool, ◌&&◌, cond, List, ℕ, ◌-◌, ◌<◌, ◌≤◌, ltb, eqb, length, get_or, Result, Ok, Err}
 use Rattle.rules.specs.Limits.{number_bytes}
 use Rattle.rules.specs.Outcome.{and_then}
 use Rattle.rules.specs.declared.Refusal.TheVariants.{NumberTooLong, NumberIsZero, HighestByteIsZero}
-use Rattle.rules.specs.declared.Verdict.{Verdict}
-use Rattle.rules.specs.declared.Verdict.TheVariants.{Passed, Failed}
 use Rattle.integers.specs.Positional.{bytes_value, Unpadded}
 
 -- the highest byte is zero; the empty number has none
@@ -16,12 +15,12 @@ unfoldable pub is_padded : List ℕ → Bool
 is_padded number = ltb 0 (length number) && eqb (get_or number (length number - 1) 0) 0
 
 -- 1: the number is longer than the limit; then 13: it is padded
-unfoldable pub number_verdict : List ℕ → Verdict
-number_verdict number = cond (ltb number_bytes (length number)) (Failed NumberTooLong) (cond (is_padded number) (Failed HighestByteIsZero) Passed)
+unfoldable pub number_verdict : List ℕ → Result Unit Refusal
+number_verdict number = cond (ltb number_bytes (length number)) (Err NumberTooLong) (cond (is_padded number) (Err HighestByteIsZero) (Ok tt))
 
 -- then, in calls that take no zero, 2
-unfoldable pub positive_verdict : List ℕ → Verdict
-positive_verdict number = and_then (number_verdict number) (cond (eqb (bytes_value number) 0) (Failed NumberIsZero) Passed)
+unfoldable pub positive_verdict : List ℕ → Result Unit Refusal
+positive_verdict number = and_then (number_verdict number) (cond (eqb (bytes_value number) 0) (Err NumberIsZero) (Ok tt))
 
 -- a number that every call takes
 pub record Admitted (number : List ℕ) : Type 0 where

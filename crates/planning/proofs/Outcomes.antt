@@ -1,4 +1,5 @@
 -- The two outcomes of plan for a request that is granted. Assumes nothing.
+use Rattle.std.specs.Prelude.{Ok, Err}
 use mathlib.Core.Path.{◌≡◌, refl, sym, ap, ◌∙◌}
 use mathlib.Core.List.{List, ◌++◌}
 use Prim.Native.Nat.{ℕ, ◌*◌, ◌<◌, ◌≤◌}
@@ -6,7 +7,6 @@ use lib.ListN.{length, drop}
 use Rattle.rules.specs.Limits.{step_bytes, plan_steps}
 use Rattle.rules.specs.declared.Refusal.TheVariants.{RoomTooSmall}
 use Rattle.rules.specs.declared.Counts.{Counts}
-use Rattle.rules.specs.declared.Counted.TheVariants.{Steps, Refused}
 use Rattle.rules.proofs.Returns.{returns_refused, returns_written}
 use Rattle.integers.specs.Positional.{bytes_value}
 use Rattle.integers.proofs.Positional.{Below}
@@ -14,7 +14,6 @@ use Rattle.chains.specs.Steps.{Step, plan_bytes_of}
 use Rattle.chains.specs.Counts.{counts_of, total}
 use Rattle.chains.proofs.Bytes.{length_plan}
 use Rattle.methods.specs.declared.Method.{Method}
-use Rattle.methods.specs.declared.Chosen.{Chosen}
 use Rattle.methods.specs.Method.{steps_by}
 use Rattle.chains.proofs.Counts.{length_counted}
 use Rattle.methods.proofs.Laws.{plannable}
@@ -24,7 +23,7 @@ use Rattle.requests.proofs.Requests.{granted_allowed}
 use Rattle.planning.specs.Plan.{with_counts, plan_answer, plan_buffer}
 
 -- the steps of a granted request are counted within the limit
-pub counted_few : (number : List ℕ) (method width : ℕ) → Below 256 number → {m : Method} → request number method width ≡ Chosen.Method m
+pub counted_few : (number : List ℕ) (method width : ℕ) → Below 256 number → {m : Method} → request number method width ≡ Ok m
     → total (counts_of (steps_by m (bytes_value number))) ≤ plan_steps
 counted_few number method width b {m} e =
     let g = granted_allowed number method width e in
@@ -41,15 +40,15 @@ module _ (steps : List Step) (c : Counts) (counted : c ≡ counts_of steps) wher
   pub room_for : {room : ℕ} → step_bytes * total c ≤ room → step_bytes * length steps ≤ room
   room_for l = rw all_counted l
 
-module _ (number : List ℕ) (method width : ℕ) (out : List ℕ) {m : Method} (granted : request number method width ≡ Chosen.Method m) (c : Counts)
+module _ (number : List ℕ) (method width : ℕ) (out : List ℕ) {m : Method} (granted : request number method width ≡ Ok m) (c : Counts)
     (counted : c ≡ counts_of (steps_by m (bytes_value number))) where
   abbrev steps : List Step
   steps = steps_by m (bytes_value number)
 
   pub no_room : length out < step_bytes * total c
-      → (Refused (RoomTooSmall (step_bytes * total c)) ≡ plan_answer number method width (length out)) × (out ≡ plan_buffer number method width out)
+      → (Err (RoomTooSmall (step_bytes * total c)) ≡ plan_answer number method width (length out)) × (out ≡ plan_buffer number method width out)
   no_room l = rw granted (returns_refused (with_counts (counts_of steps)) (plan_bytes_of steps) out refl (needed steps c counted) l)
 
   pub plan_written : step_bytes * total c ≤ length out → {after : List ℕ} → after ≡ plan_bytes_of steps ++ drop (length (plan_bytes_of steps)) out
-      → (Steps c ≡ plan_answer number method width (length out)) × (after ≡ plan_buffer number method width out)
+      → (Ok c ≡ plan_answer number method width (length out)) × (after ≡ plan_buffer number method width out)
   plan_written l e = rw (granted, ← counted) (returns_written (with_counts c) (plan_bytes_of steps) out refl (needed steps c counted) l (rw (needed steps c counted) e))

@@ -1,4 +1,5 @@
 -- What docs/RULES.md promises of plan and forecast, as theorems about the definitions that their statements cite. Assumes nothing.
+use Rattle.std.specs.Prelude.{Result, Ok, Err}
 use mathlib.Core.Path.{◌≡◌, refl, sym, ◌∙◌}
 use mathlib.Core.Logic.{◌↔◌}
 use mathlib.Core.List.{List, ◌++◌}
@@ -8,7 +9,6 @@ use Rattle.rules.specs.Limits.{number_bytes}
 use Rattle.rules.specs.Outcome.{Outcome, refused, answered, refusal, outcome_of, counted_outcome, count_values}
 use Rattle.rules.specs.declared.Refusal.{Refusal}
 use Rattle.rules.specs.declared.Refusal.TheVariants.{NumberTooLong, NumberIsZero, MethodOrWidth, HighestByteIsZero}
-use Rattle.rules.specs.declared.Written.{Written}
 use Rattle.rules.proofs.Fitted.{too_small, fits, by_room}
 use Rattle.rules.proofs.Memory as memory
 use Rattle.integers.specs.Positional.{bytes_value}
@@ -17,7 +17,6 @@ use Rattle.numbers.proofs.Tests.{too_long, padded, refused as number_refused, is
 use Rattle.chains.specs.Steps.{plan_bytes_of}
 use Rattle.chains.specs.Counts.{counts_of}
 use Rattle.methods.specs.declared.Method.{Method}
-use Rattle.methods.specs.declared.Chosen.{Chosen}
 use Rattle.methods.specs.Method.{method_of, steps_by}
 use Rattle.methods.proofs.Every.{refused_3}
 use Rattle.planning.specs.Plan.{steps_for, forecast_answer, plan_written, with_counts, plan_answer, plan_buffer}
@@ -37,15 +36,15 @@ module _ (number : List ℕ) (method width : ℕ) where
     one : number_bytes < length number → Refuses (refused 1 0)
     thirteen : length number ≤ number_bytes → Padded number → Refuses (refused 13 0)
     two : Admitted number → bytes_value number ≡ 0 → Refuses (refused 2 0)
-    three : Positive number → method_of method width ≡ Chosen.Refused MethodOrWidth → Refuses (refused 3 0)
+    three : Positive number → method_of method width ≡ Err MethodOrWidth → Refuses (refused 3 0)
 
-  refuses_only : {o : Outcome} → Refuses o → (r : Refusal) × (request number method width ≡ Chosen.Refused r) × (refusal r ≡ o)
+  refuses_only : {o : Outcome} → Refuses o → (r : Refusal) × (request number method width ≡ Err r) × (refusal r ≡ o)
   refuses_only (one h) = (NumberTooLong, requests_only number method width (stopped (number_refused (too_long h))), refl)
   refuses_only (thirteen h p) = (HighestByteIsZero, requests_only number method width (stopped (number_refused (padded h p))), refl)
   refuses_only (two a z) = (NumberIsZero, requests_only number method width (stopped (is_zero a z)), refl)
   refuses_only (three p e) = (MethodOrWidth, requests_only number method width (chosen p e), refl)
 
-  refuses_one : {r : Refusal} → Requests number method width (Chosen.Refused r) → Refuses (refusal r)
+  refuses_one : {r : Refusal} → Requests number method width (Err r) → Refuses (refusal r)
   refuses_one (stopped (number_refused (too_long h))) = one h
   refuses_one (stopped (number_refused (padded h p))) = thirteen h p
   refuses_one (stopped (is_zero a z)) = two a z
@@ -59,7 +58,7 @@ module _ (number : List ℕ) (method width : ℕ) where
 
   pub data ForecastGiven : Outcome → Type 0 where
     refuses : {o : Outcome} → Refuses o → ForecastGiven o
-    counts : {vs : List ℕ} {m : Method} → Positive number → method_of method width ≡ Chosen.Method m → vs ≡ counts_by number m
+    counts : {vs : List ℕ} {m : Method} → Positive number → method_of method width ≡ Ok m → vs ≡ counts_by number m
         → ForecastGiven (answered vs)
 
   forecast_given_only : {o : Outcome} → ForecastGiven o → forecasts ≡ o
@@ -69,9 +68,9 @@ module _ (number : List ℕ) (method width : ℕ) where
   pub forecast_no_other : ForecastGiven forecasts
   forecast_no_other = go (request number method width) refl
     where
-      go : (c : Chosen) → request number method width ≡ c → ForecastGiven forecasts
-      go (Chosen.Refused r) e = rw e (refuses (refuses_one (rw e at (requests_one number method width))))
-      go (Chosen.Method m) e = let g = granted number method width e in rw e (counts g.0 g.1 refl)
+      go : (c : Result Method Refusal) → request number method width ≡ c → ForecastGiven forecasts
+      go (Err r) e = rw e (refuses (refuses_one (rw e at (requests_one number method width))))
+      go (Ok m) e = let g = granted number method width e in rw e (counts g.0 g.1 refl)
 
   forecast_given : {o : Outcome} → forecasts ≡ o → ForecastGiven o
   forecast_given e = rw e at forecast_no_other
@@ -89,12 +88,12 @@ module _ (number : List ℕ) (method width : ℕ) where
   forecast_refuses_2 = (λ e. elim (forecast_given e) [ refuses (two a z) ↦ (a, z) ], λ h. forecast_given_only (refuses (two h.0 h.1)))
 
   -- 3, place 0: no such method, or a width that it does not allow
-  pub forecast_refuses_3 : forecasts ≡ refused 3 0 ↔ Positive number × (method_of method width ≡ Chosen.Refused MethodOrWidth)
+  pub forecast_refuses_3 : forecasts ≡ refused 3 0 ↔ Positive number × (method_of method width ≡ Err MethodOrWidth)
   forecast_refuses_3 = (λ e. elim (forecast_given e) [ refuses (three p c) ↦ (p, c) ], λ h. forecast_given_only (refuses (three h.0 h.1)))
 
   -- otherwise the counts of the method's steps are answered
   pub forecast_answers : (vs : List ℕ)
-      → forecasts ≡ answered vs ↔ ((m : Method) × Positive number × (method_of method width ≡ Chosen.Method m) × (vs ≡ counts_by number m))
+      → forecasts ≡ answered vs ↔ ((m : Method) × Positive number × (method_of method width ≡ Ok m) × (vs ≡ counts_by number m))
   forecast_answers vs = (λ e. elim (forecast_given e) [ counts {m = m} p c v ↦ (m, p, c, v) | refuses x ↦ elim x [ ] ], λ h. forecast_given_only (counts h.1 h.2 h.3))
 
   -- ---- plan, lent this many bytes: the same refusals, then room
@@ -106,9 +105,9 @@ module _ (number : List ℕ) (method width : ℕ) where
 
     pub data PlanGiven : Outcome → Type 0 where
       refuses : {o : Outcome} → Refuses o → PlanGiven o
-      six : {p : ℕ} {m : Method} → Positive number → method_of method width ≡ Chosen.Method m → room < length (plan_by number m)
+      six : {p : ℕ} {m : Method} → Positive number → method_of method width ≡ Ok m → room < length (plan_by number m)
           → p ≡ length (plan_by number m) → PlanGiven (refused 6 p)
-      counts : {vs : List ℕ} {m : Method} → Positive number → method_of method width ≡ Chosen.Method m → length (plan_by number m) ≤ room
+      counts : {vs : List ℕ} {m : Method} → Positive number → method_of method width ≡ Ok m → length (plan_by number m) ≤ room
           → vs ≡ counts_by number m → PlanGiven (answered vs)
 
     plan_given_only : {o : Outcome} → PlanGiven o → plans ≡ o
@@ -119,11 +118,11 @@ module _ (number : List ℕ) (method width : ℕ) where
     pub plan_no_other : PlanGiven plans
     plan_no_other = go (request number method width) refl
       where
-        go : (c : Chosen) → request number method width ≡ c → PlanGiven plans
-        go (Chosen.Refused r) e = rw e (refuses (refuses_one (rw e at (requests_one number method width))))
-        go (Chosen.Method m) e =
+        go : (c : Result Method Refusal) → request number method width ≡ c → PlanGiven plans
+        go (Err r) e = rw e (refuses (refuses_one (rw e at (requests_one number method width))))
+        go (Ok m) e =
             let g = granted number method width e in
-            let answer : Written → Outcome = λ w. counted_outcome (with_counts (counts_of (steps_by m (bytes_value number))) w) in
+            let answer : Result ℕ Refusal → Outcome = λ w. counted_outcome (with_counts (counts_of (steps_by m (bytes_value number))) w) in
             rw e (by_room (plan_by number m) room (λ w. PlanGiven (answer w)) (λ l. six g.0 g.1 l refl) (λ l. counts g.0 g.1 l refl))
 
     plan_given : {o : Outcome} → plans ≡ o → PlanGiven o
@@ -142,7 +141,7 @@ module _ (number : List ℕ) (method width : ℕ) where
     plan_refuses_2 = (λ e. elim (plan_given e) [ refuses (two a z) ↦ (a, z) ], λ h. plan_given_only (refuses (two h.0 h.1)))
 
     -- 3, place 0
-    pub plan_refuses_3 : plans ≡ refused 3 0 ↔ Positive number × (method_of method width ≡ Chosen.Refused MethodOrWidth)
+    pub plan_refuses_3 : plans ≡ refused 3 0 ↔ Positive number × (method_of method width ≡ Err MethodOrWidth)
     plan_refuses_3 = (λ e. elim (plan_given e) [ refuses (three p c) ↦ (p, c) ], λ h. plan_given_only (refuses (three h.0 h.1)))
 
     -- 6, place the bytes needed: more than lent
@@ -150,7 +149,7 @@ module _ (number : List ℕ) (method width : ℕ) where
         → plans ≡ refused 6 p
         ↔ ((m : Method)
         × Positive number
-        × (method_of method width ≡ Chosen.Method m)
+        × (method_of method width ≡ Ok m)
         × (room < length (plan_by number m))
         × (p ≡ length (plan_by number m)))
     plan_refuses_6 p = (λ e. elim (plan_given e) [ six {m = m} n c l q ↦ (m, n, c, l, q) | refuses x ↦ elim x [ ] ], λ h. plan_given_only (six h.1 h.2 h.3 h.4))
@@ -160,7 +159,7 @@ module _ (number : List ℕ) (method width : ℕ) where
         → plans ≡ answered vs
         ↔ ((m : Method)
         × Positive number
-        × (method_of method width ≡ Chosen.Method m)
+        × (method_of method width ≡ Ok m)
         × (length (plan_by number m) ≤ room)
         × (vs ≡ counts_by number m))
     plan_answers vs = (λ e. elim (plan_given e) [ counts {m = m} n c l q ↦ (m, n, c, l, q) | refuses x ↦ elim x [ ] ], λ h. plan_given_only (counts h.1 h.2 h.3 h.4))
@@ -174,9 +173,9 @@ module _ (number : List ℕ) (method width : ℕ) where
   plan_writes : (room : ℕ) → plans room ≡ outcome_of values (plan_written number method width room)
   plan_writes room = go (plan_written number method width room)
     where
-      go : (w : Written) → counted_outcome (with_counts (counts_of (steps_for number method width)) w) ≡ outcome_of values w
-      go (Written.Length n) = refl
-      go (Written.Refused r) = refl
+      go : (w : Result ℕ Refusal) → counted_outcome (with_counts (counts_of (steps_for number method width)) w) ≡ outcome_of values w
+      go (Ok n) = refl
+      go (Err r) = refl
 
   pub refused_leaves : (out : List ℕ) (n p : ℕ) → plans (length out) ≡ refused n p → plan_buffer number method width out ≡ out
   refused_leaves out n p e =

@@ -12,7 +12,7 @@ ghost use Rattle.planning.specs.Plan.{forecast_answer, plan_answer, plan_buffer}
 
 use methods::{Chosen, Method};
 use requests::requested;
-use rules::{Counted, Counts, Refusal, STEP_BYTES};
+use rules::{Counts, Refusal, STEP_BYTES};
 
 // The counts of the steps that a method gives for a number. A line a method.
 fn counts(number: &[u8], method: Method) -> Counts
@@ -49,33 +49,33 @@ fn write(number: &[u8], method: Method, out: &mut [u8])
 
 // The counts of the steps of a plan, without the plan. Those of method 1 do not go through `counts`:
 // to hand them over in memory takes as long as to count them.
-pub fn forecast(number: &[u8], method: u32, width: u32) -> Counted
+pub fn forecast(number: &[u8], method: u32, width: u32) -> Result<Counts, Refusal>
     ensures { result ≡ forecast_answer number.now method width }
 {
     match requested(number, method, width) {
-        Chosen::Refused(refusal) => Counted::Refused(refusal),
-        Chosen::Method(chosen) => match chosen {
-            Method::Binary => Counted::Steps(method_binary::counts(number)),
-            _ => Counted::Steps(counts(number, chosen)),
+        Err(refusal) => Err(refusal),
+        Ok(chosen) => match chosen {
+            Method::Binary => Ok(method_binary::counts(number)),
+            _ => Ok(counts(number, chosen)),
         },
     }
 }
 
 // Writes the plan for a number by a method, and answers the counts of its steps.
-pub fn plan(number: &[u8], method: u32, width: u32, out: &mut [u8]) -> Counted
+pub fn plan(number: &[u8], method: u32, width: u32, out: &mut [u8]) -> Result<Counts, Refusal>
     ensures answer { result ≡ plan_answer number.now method width (length out.old) }
     ensures buffer { out.new ≡ plan_buffer number.now method width out.old }
 {
     match requested(number, method, width) {
-        Chosen::Refused(refusal) => Counted::Refused(refusal),
-        Chosen::Method(chosen) => {
+        Err(refusal) => Err(refusal),
+        Ok(chosen) => {
             let steps = counts(number, chosen);
             let needed = STEP_BYTES * (steps.doublings + steps.additions + steps.subtractions);
             if out.len() < needed {
-                return Counted::Refused(Refusal::RoomTooSmall(needed));
+                return Err(Refusal::RoomTooSmall(needed));
             }
             write(number, chosen, out);
-            Counted::Steps(steps)
+            Ok(steps)
         }
     }
 }

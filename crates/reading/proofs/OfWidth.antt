@@ -1,4 +1,6 @@
 -- Read back over the width of the digits: the outcome by its tests, and what it gives of what recode writes. Assumes nothing.
+use Rattle.rules.specs.declared.Refusal.{Refusal}
+use Rattle.std.specs.Prelude.{Result, Ok, Err}
 use mathlib.Core.Path.{◌≡◌, refl, ◌∙◌}
 use mathlib.Core.List.{List, [], ◌∷◌, ◌++◌}
 use Prim.Native.Nat.{ℕ, ◌≤◌}
@@ -7,8 +9,6 @@ use lib.IntN.{ℤ, pos}
 use lib.ListN.{length, drop}
 use Rattle.rules.specs.Limits.{least_width, largest_width}
 use Rattle.rules.specs.Outcome.{Outcome, answered, outcome_of}
-use Rattle.rules.specs.declared.Written.{Written}
-use Rattle.rules.specs.declared.Written.TheVariants.{Length, Refused}
 use Rattle.rules.proofs.Memory as memory
 use Rattle.integers.specs.Positional.{bytes_value, bytes_of}
 use Rattle.integers.specs.Signed.{sign_of}
@@ -26,9 +26,9 @@ use Rattle.reading.specs.ReadBack.{size_bytes, read_length_of, with_sign, read_a
 abbrev pub values : List ℕ → ℕ → List ℕ
 values digits n = sign_of (string_value digits) ∷ n ∷ []
 
-pub with_sign_lem : (sign : ℕ) (w : Written) → read_back_outcome (with_sign sign w) ≡ outcome_of (λ n. sign ∷ n ∷ []) w
-with_sign_lem sign (Length n) = refl
-with_sign_lem sign (Refused r) = refl
+pub with_sign_lem : (sign : ℕ) (w : Result ℕ Refusal) → read_back_outcome (with_sign sign w) ≡ outcome_of (λ n. sign ∷ n ∷ []) w
+with_sign_lem sign (Ok n) = refl
+with_sign_lem sign (Err r) = refl
 
 module _ (w : ℕ) (digits : List ℕ) (room : ℕ) where
   -- the outcome, in the rules' numbers

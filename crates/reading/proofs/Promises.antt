@@ -1,4 +1,6 @@
 -- What is promised of read back (docs/RULES.md, "Calls", "Refusals" and "Memory"), as theorems about the definitions that its statement cites. Assumes nothing.
+use Rattle.rules.specs.declared.Refusal.{Refusal}
+use Rattle.std.specs.Prelude.{Result}
 use mathlib.Core.Path.{◌≡◌, refl, sym, ap, ◌∙◌}
 use mathlib.Core.Logic.{◌↔◌, ◌⊎◌, inl, inr}
 use mathlib.Core.List.{List, [], ◌∷◌, ◌++◌}
@@ -10,7 +12,6 @@ use lib.Seq.{take-append_seam}
 use Rattle.rules.specs.Limits.{string_digits}
 use Rattle.rules.specs.Memory.{written, leaves}
 use Rattle.rules.specs.Outcome.{Outcome, refused, answered}
-use Rattle.rules.specs.declared.Verdict.{Verdict}
 use Rattle.rules.proofs.Memory as memory
 use Rattle.rules.proofs.Memory.{Writes, stopped, no_room, all_fits}
 use Rattle.integers.specs.Positional.{bytes_value, Unpadded, bytes_of}
@@ -95,7 +96,7 @@ reads_value digits = go (string_value digits)
         let e = bytes_value_lem (suc n) in
         record { signed = inr (refl, ap (λ (m : ℕ). neg_ℤ (pos m)) (sym e), omega (arith, e)); below = bytes_below (suc n); top = bytes_top (suc n) }
 
-answered_is : (values : ℕ → List ℕ) (tests : Verdict) (bytes : List ℕ) (room : ℕ) (vs : List ℕ) → memory.writes values tests bytes room ≡ answered vs → vs ≡ values (length bytes)
+answered_is : (values : ℕ → List ℕ) (tests : Result Unit Refusal) (bytes : List ℕ) (room : ℕ) (vs : List ℕ) → memory.writes values tests bytes room ≡ answered vs → vs ≡ values (length bytes)
 answered_is values tests bytes room vs = go (memory.writes_one values tests bytes room)
   where
     go : {o : Outcome} → Writes values tests bytes room o → o ≡ answered vs → vs ≡ values (length bytes)
@@ -104,7 +105,7 @@ answered_is values tests bytes room vs = go (memory.writes_one values tests byte
     go (all_fits t h) e = cc
 
 -- so does what it answers and writes, whatever it tests before
-pub reads_back_after : (tests : Verdict) (digits out : List ℕ) (sign n : ℕ)
+pub reads_back_after : (tests : Result Unit Refusal) (digits out : List ℕ) (sign n : ℕ)
     → read_back_outcome (with_sign (sign_of (string_value digits)) (written tests (size_bytes digits) (length out))) ≡ answered (sign ∷ n ∷ [])
     → Gives (string_value digits) sign (take n (leaves (written tests (size_bytes digits) (length out)) (size_bytes digits) out))
 reads_back_after tests digits out sign n e =

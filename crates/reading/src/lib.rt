@@ -9,7 +9,7 @@ use digit_strings::{CANONICAL_WIDTH, string_verdict};
 use integers::significant;
 use output::put;
 use reading_digits::{sign_of, size_of};
-use rules::{Refusal, Verdict, Written};
+use rules::Refusal;
 
 // What read back answers: the sign, 1 below zero, and how many bytes of size it wrote.
 #[derive(Drop)]
@@ -20,26 +20,24 @@ pub enum ReadBack {
 
 // Writes the size of a digit string's value, with no high zero byte, least significant first;
 // answers the sign and how many bytes. The digits are of this width.
-pub fn read_of_width(digits: &[u8], width: usize, out: &mut [u8]) -> ReadBack
+pub fn read_of_width(digits: &[u8], width: usize, out: &mut [u8]) -> Result<ReadBack, Refusal>
     requires { (least_width ≤ width) × (width ≤ largest_width) }
     ensures answer { result ≡ read_answer_of width digits.now (length out.old) }
     ensures buffer { out.new ≡ read_buffer_of width digits.now out.old }
 {
-    if let Verdict::Failed(refusal) = string_verdict(digits, width) {
-        return ReadBack::Refused(refusal);
-    }
+    string_verdict(digits, width)?;
     let count = significant(digits);
     let sign = sign_of(digits, count, width);
     let size = size_of(digits, count, width, sign);
     let bytes = significant(&size);
     match put(&size[..bytes], out) {
-        Written::Length(length) => ReadBack::Value { sign, length },
-        Written::Refused(refusal) => ReadBack::Refused(refusal),
+        Ok(length) => ReadBack::Value { sign, length },
+        Err(refusal) => Err(refusal),
     }
 }
 
 // The same of a string of the digits 0, 1 and -1.
-pub fn read_back(digits: &[u8], out: &mut [u8]) -> ReadBack
+pub fn read_back(digits: &[u8], out: &mut [u8]) -> Result<ReadBack, Refusal>
     ensures answer { result ≡ read_back_answer digits.now (length out.old) }
     ensures buffer { out.new ≡ read_back_buffer digits.now out.old }
 {

@@ -1,7 +1,7 @@
 -- Recode (docs/RULES.md, "Calls"): a number into its canonical string. Refusals in the order 1, 13, 6.
-use Rattle.std.specs.Prelude.{ℕ, List, pos, length}
+use Rattle.rules.specs.declared.Refusal.{Refusal}
+use Rattle.std.specs.Prelude.{ℕ, List, pos, length, Result}
 use Rattle.rules.specs.Memory.{written, leaves}
-use Rattle.rules.specs.declared.Written.{Written}
 use Rattle.integers.specs.Positional.{bytes_value}
 use Rattle.numbers.specs.Admission.{number_verdict}
 use Rattle.signed_digits.specs.Naf.{naf, canonical_width}
@@ -16,7 +16,7 @@ abbrev pub recoding : List ℕ → List ℕ
 recoding number = recoding_of canonical_width number
 
 -- the answer, by the number and the bytes lent
-abbrev pub recode_answer : List ℕ → ℕ → Written
+abbrev pub recode_answer : List ℕ → ℕ → Result ℕ Refusal
 recode_answer number room = written (number_verdict number) (recoding number) room
 
 -- the buffer afterwards

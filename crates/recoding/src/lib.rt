@@ -6,20 +6,18 @@ ghost use Rattle.recoding.specs.Recode.{recode_answer, recode_buffer};
 
 use numbers::number_verdict;
 use recoding_digits::{count, write};
-use rules::{Refusal, Verdict, Written};
+use rules::Refusal;
 
 // Writes the canonical string of a number, lowest digit first, one byte a digit.
-pub fn recode(number: &[u8], out: &mut [u8]) -> Written
+pub fn recode(number: &[u8], out: &mut [u8]) -> Result<usize, Refusal>
     ensures answer { result ≡ recode_answer number.now (length out.old) }
     ensures buffer { out.new ≡ recode_buffer number.now out.old }
 {
-    if let Verdict::Failed(refusal) = number_verdict(number) {
-        return Written::Refused(refusal);
-    }
+    number_verdict(number)?;
     let length = count(number);
     if out.len() < length {
-        return Written::Refused(Refusal::RoomTooSmall(length));
+        return Err(Refusal::RoomTooSmall(length));
     }
     write(number, out, length);
-    Written::Length(length)
+    Ok(length)
 }

@@ -8,24 +8,22 @@ ghost use Rattle.recoding_modified.specs.RecodeModified.{recode_modified_answer,
 use integers::words_of;
 use modified_digits::{shape_of, write_form};
 use numbers::number_verdict;
-use rules::{Refusal, Verdict, Written};
+use rules::Refusal;
 use triples::tripled;
 
 // Writes the modified form of a number, lowest digit first, one byte a digit.
-pub fn recode_modified(number: &[u8], out: &mut [u8]) -> Written
+pub fn recode_modified(number: &[u8], out: &mut [u8]) -> Result<usize, Refusal>
     ensures answer { result ≡ recode_modified_answer number.now (length out.old) }
     ensures buffer { out.new ≡ recode_modified_buffer number.now out.old }
 {
-    if let Verdict::Failed(refusal) = number_verdict(number) {
-        return Written::Refused(refusal);
-    }
+    number_verdict(number)?;
     let words = words_of(number);
     let triple = tripled(&words);
     let form = shape_of(number, &triple);
     let length = form.length;
     if out.len() < length {
-        return Written::Refused(Refusal::RoomTooSmall(length));
+        return Err(Refusal::RoomTooSmall(length));
     }
     write_form(&words, &triple, out, form);
-    Written::Length(length)
+    Ok(length)
 }

@@ -1,4 +1,5 @@
 -- What the rules promise of recode wide, as theorems about the definitions that its statement cites. Assumes nothing.
+use Rattle.std.specs.Prelude.{Result, Ok, Err}
 use mathlib.Core.Path.{◌≡◌, refl, ap, ◌∙◌}
 use mathlib.Core.Logic.{◌↔◌}
 use mathlib.Core.List.{List, [], ◌∷◌, ◌++◌}
@@ -8,8 +9,6 @@ use lib.ListN.{length, drop}
 use Rattle.rules.specs.Limits.{number_bytes, least_width}
 use Rattle.rules.specs.declared.Refusal.{Refusal}
 use Rattle.rules.specs.declared.Refusal.TheVariants.{MethodOrWidth}
-use Rattle.rules.specs.declared.Verdict.{Verdict}
-use Rattle.rules.specs.declared.Verdict.TheVariants.{Passed, Failed}
 use Rattle.rules.specs.Outcome.{Outcome, refused, answered, refusal, written_outcome, length_value, and_then}
 use Rattle.rules.proofs.Memory as memory
 use Rattle.rules.proofs.Memory.{Writes, stopped, no_room, all_fits, writes_only, writes_one}
@@ -39,12 +38,12 @@ pub record Taken (w : ℕ) (number : List ℕ) : Type 0 where
 
 module _ (w : ℕ) (number : List ℕ) where
   -- each verdict, with what it is given for
-  data RecodeTest : Verdict → Type 0 where
-    no_number : {r : Refusal} → NumberTest number (Failed r) → RecodeTest (Failed r)
-    no_width : Admitted number → (AllowedWidth w → ⊥) → RecodeTest (Failed MethodOrWidth)
-    taken : Taken w number → RecodeTest Passed
+  data RecodeTest : Result Unit Refusal → Type 0 where
+    no_number : {r : Refusal} → NumberTest number (Err r) → RecodeTest (Err r)
+    no_width : Admitted number → (AllowedWidth w → ⊥) → RecodeTest (Err MethodOrWidth)
+    taken : Taken w number → RecodeTest (Ok tt)
 
-  recode_only : {v : Verdict} → RecodeTest v → recode_wide_verdict w number ≡ v
+  recode_only : {v : Result Unit Refusal} → RecodeTest v → recode_wide_verdict w number ≡ v
   recode_only (no_number t) = rw (number_only number t)
   recode_only (no_width a n) = rw ((admitted_is number).1 a) ((not_allowed_is w).1 n)
   recode_only (taken t) = rw ((admitted_is number).1 t.short) ((allowed_is w).1 t.width)
@@ -52,19 +51,19 @@ module _ (w : ℕ) (number : List ℕ) where
   recode_test : RecodeTest (recode_wide_verdict w number)
   recode_test = go (number_test number)
     where
-      be : {v : Verdict} → RecodeTest v → RecodeTest (recode_wide_verdict w number)
+      be : {v : Result Unit Refusal} → RecodeTest v → RecodeTest (recode_wide_verdict w number)
       be t = rw (recode_only t) t
 
-      by_width : Admitted number → {v : Verdict} → WidthTest w v → RecodeTest (recode_wide_verdict w number)
+      by_width : Admitted number → {v : Result Unit Refusal} → WidthTest w v → RecodeTest (recode_wide_verdict w number)
       by_width a (not_allowed n) = be (no_width a n)
       by_width a (allowed b) = be (taken (record { short = a; width = b }))
 
-      go : {v : Verdict} → NumberTest number v → RecodeTest (recode_wide_verdict w number)
+      go : {v : Result Unit Refusal} → NumberTest number v → RecodeTest (recode_wide_verdict w number)
       go (too_long h) = be (no_number (too_long h))
       go (padded h p) = be (no_number (padded h p))
       go (admitted a) = by_width a (width_test w)
 
-  taken_is : recode_wide_verdict w number ≡ Passed ↔ Taken w number
+  taken_is : recode_wide_verdict w number ≡ Ok tt ↔ Taken w number
   taken_is = (λ e. elim (rw e at recode_test) [ taken t ↦ t ], λ t. recode_only (taken t))
 
 module _ (w : ℕ) (number : List ℕ) (room : ℕ) where
@@ -90,7 +89,7 @@ module _ (w : ℕ) (number : List ℕ) (room : ℕ) where
   given_only (six t h e) = rw e (only (no_room (recode_only w number (taken t)) h))
   given_only (fits t h e) = rw e (only (all_fits (recode_only w number (taken t)) h))
 
-  stops : {r : Refusal} → RecodeTest w number (Failed r) → Given (refusal r)
+  stops : {r : Refusal} → RecodeTest w number (Err r) → Given (refusal r)
   stops (no_number (too_long h)) = one h
   stops (no_number (padded h p)) = thirteen h p
   stops (no_width a n) = three a n
@@ -162,9 +161,9 @@ module _ (number : List ℕ) where
   unfolding width_verdict
   same_tests = go (number_verdict number)
     where
-      go : (v : Verdict) → and_then v (width_verdict canonical_width) ≡ v
-      go Passed = refl
-      go (Failed r) = refl
+      go : (v : Result Unit Refusal) → and_then v (width_verdict canonical_width) ≡ v
+      go (Ok tt) = refl
+      go (Err r) = refl
 
   pub wide_at_2 : (out : List ℕ)
       → (recode_wide_answer canonical_width number (length out) ≡ recode_answer number (length out)) × (recode_wide_buffer canonical_width number out ≡ recode_buffer number out)

@@ -1,19 +1,18 @@
 -- Recode wide (docs/RULES.md, "Calls"): a number into its non-adjacent form of width w. Refusals in the order 1, 13, 3, 6.
-use Rattle.std.specs.Prelude.{ℕ, List, length}
+use Rattle.rules.specs.declared.Refusal.{Refusal}
+use Rattle.std.specs.Prelude.{ℕ, List, length, Result}
 use Rattle.rules.specs.Memory.{written, leaves}
 use Rattle.rules.specs.Outcome.{and_then}
-use Rattle.rules.specs.declared.Verdict.{Verdict}
-use Rattle.rules.specs.declared.Written.{Written}
 use Rattle.numbers.specs.Admission.{number_verdict}
 use Rattle.recoding.specs.Recode.{recoding_of}
 use Rattle.widths.specs.Width.{width_verdict}
 
 -- the tests, in their order
-abbrev pub recode_wide_verdict : ℕ → List ℕ → Verdict
+abbrev pub recode_wide_verdict : ℕ → List ℕ → Result Unit Refusal
 recode_wide_verdict w number = and_then (number_verdict number) (width_verdict w)
 
 -- the answer, by the number, the width and the bytes lent
-abbrev pub recode_wide_answer : ℕ → List ℕ → ℕ → Written
+abbrev pub recode_wide_answer : ℕ → List ℕ → ℕ → Result ℕ Refusal
 recode_wide_answer w number room = written (recode_wide_verdict w number) (recoding_of w number) room
 
 -- the buffer afterwards

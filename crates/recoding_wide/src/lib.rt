@@ -6,7 +6,7 @@ ghost use Rattle.recoding_wide.specs.RecodeWide.{recode_wide_answer, recode_wide
 
 use numbers::number_verdict;
 use output::put;
-use rules::{NUMBER_BYTES, Verdict, Written};
+use rules::{NUMBER_BYTES, Refusal};
 use wide_digits::recoded;
 use widths::width_verdict;
 
@@ -14,16 +14,12 @@ use widths::width_verdict;
 const DIGIT_ROOM: usize = 8 * NUMBER_BYTES + 1;
 
 // Writes the form of a number, lowest digit first, one byte a digit.
-pub fn recode_wide(number: &[u8], width: u32, out: &mut [u8]) -> Written
+pub fn recode_wide(number: &[u8], width: u32, out: &mut [u8]) -> Result<usize, Refusal>
     ensures answer { result ≡ recode_wide_answer width number.now (length out.old) }
     ensures buffer { out.new ≡ recode_wide_buffer width number.now out.old }
 {
-    if let Verdict::Failed(refusal) = number_verdict(number) {
-        return Written::Refused(refusal);
-    }
-    if let Verdict::Failed(refusal) = width_verdict(width) {
-        return Written::Refused(refusal);
-    }
+    number_verdict(number)?;
+    width_verdict(width)?;
     let mut digits = [0u8; DIGIT_ROOM];
     let w = width as usize;
     let length = recoded(number, w, &mut digits);

@@ -7,23 +7,21 @@ ghost use Rattle.recoding.specs.Recode.{recode_answer, recode_buffer};
 use integers::words_of;
 use numbers::number_verdict;
 use recoding_words_digits::write;
-use rules::{Refusal, Verdict, Written};
+use rules::Refusal;
 use triples::{count, tripled};
 
 // Writes the canonical string of a number, lowest digit first, one byte a digit.
-pub fn recode_words(number: &[u8], out: &mut [u8]) -> Written
+pub fn recode_words(number: &[u8], out: &mut [u8]) -> Result<usize, Refusal>
     ensures answer { result ≡ recode_answer number.now (length out.old) }
     ensures buffer { out.new ≡ recode_buffer number.now out.old }
 {
-    if let Verdict::Failed(refusal) = number_verdict(number) {
-        return Written::Refused(refusal);
-    }
+    number_verdict(number)?;
     let words = words_of(number);
     let triple = tripled(&words);
     let length = count(number, &triple);
     if out.len() < length {
-        return Written::Refused(Refusal::RoomTooSmall(length));
+        return Err(Refusal::RoomTooSmall(length));
     }
     write(&words, &triple, out, length);
-    Written::Length(length)
+    Ok(length)
 }

@@ -1,4 +1,5 @@
 -- What the call promises of its texts. Assumes nothing.
+use Rattle.std.specs.Prelude.{Ok}
 use mathlib.Core.Path.{◌≡◌, refl}
 use mathlib.Core.Logic.{◌↔◌}
 use mathlib.Core.List.{List, [], ◌∷◌, ◌++◌}
@@ -10,7 +11,6 @@ use Rattle.rules.specs.Refusals.{refusal_number}
 use Rattle.rules.specs.Outcome.{Outcome, refused, answered, written_outcome}
 use Rattle.rules.specs.declared.Refusal.{Refusal}
 use Rattle.rules.specs.declared.Refusal.TheVariants.{NumberTooLong, NumberIsZero, MethodOrWidth, NotADigit, StringTooLong, RoomTooSmall, PlanLength, WorkSpaceTooShort, MalformedStep, ValueIsZero, ValueTooLarge, WrongEnd, HighestByteIsZero}
-use Rattle.rules.specs.declared.Written.TheVariants.{Length}
 use Rattle.rules.proofs.Fitted.{fits}
 use Rattle.rules.proofs.Untested as untested
 use Rattle.refusal_words.specs.Words.{text_bytes, texts, words, words_room, words_answer, words_buffer}
@@ -38,7 +38,7 @@ unfolding words texts text_bytes
 room_filled = refl
 
 -- so with this room no call is refused
-pub words_answered : (refusal room : ℕ) → words_room ≤ room → words_answer refusal room ≡ Length (length (text_bytes (words refusal)))
+pub words_answered : (refusal room : ℕ) → words_room ≤ room → words_answer refusal room ≡ Ok (length (text_bytes (words refusal)))
 words_answered refusal room h = fits (text_bytes (words refusal)) room (omega (arith, words_fit refusal))
 
 -- ---- every refusal has its words

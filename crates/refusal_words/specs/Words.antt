@@ -1,9 +1,9 @@
 -- The words of each refusal (docs/RULES.md, 6.1), in ASCII, and how a call writes them.
-use Rattle.std.specs.Prelude.{ℕ, List, [] as []ᴸ, ◌∷◌ as ◌∷ᴸ◌, length, get_or}
+use Rattle.rules.specs.declared.Refusal.{Refusal}
+use Rattle.std.specs.Prelude.{ℕ, List, [] as []ᴸ, ◌∷◌ as ◌∷ᴸ◌, length, get_or, Result}
 use Prim.Native.Char.{code}
 use Prim.Native.String.{String, [], ◌∷◌}
 use Rattle.rules.specs.Memory.{fitted, leaves}
-use Rattle.rules.specs.declared.Written.{Written}
 
 -- the bytes of a text: the codes of its characters
 unfoldable pub text_bytes : String → List ℕ
@@ -38,7 +38,7 @@ abbrev pub words_room : ℕ
 words_room = 75
 
 -- into a lent buffer: all of them or, where there is no room, nothing and refusal 6
-abbrev pub words_answer : ℕ → ℕ → Written
+abbrev pub words_answer : ℕ → ℕ → Result ℕ Refusal
 words_answer refusal room = fitted (text_bytes (words refusal)) room
 
 -- the buffer afterwards

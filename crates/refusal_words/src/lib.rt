@@ -5,7 +5,7 @@ ghost use Rattle.std.specs.Prelude.{◌≡◌, length};
 ghost use Rattle.refusal_words.specs.Words.{words_answer, words_buffer};
 
 use output::put;
-use rules::Written;
+use rules::Refusal;
 
 // What the refusals say, from 0, which is none, to 13, one text behind another.
 const TEXTS: [u8; 516] = *b"not refused\
@@ -30,7 +30,7 @@ const STARTS: [usize; 15] = [
 
 // Writes what a refusal's number says.
 #[tactic(auto, using(crate::proofs::Texts::no_such_bytes))]
-pub fn write_words(refusal: usize, out: &mut [u8]) -> Written
+pub fn write_words(refusal: usize, out: &mut [u8]) -> Result<usize, Refusal>
     ensures answer { result ≡ words_answer refusal (length out.old) }
     ensures buffer { out.new ≡ words_buffer refusal out.old }
 {

@@ -7,23 +7,23 @@ ghost use Rattle.requests.specs.Request.{request};
 
 use methods::{Chosen, FIXED_WINDOW_BITS, Method, SLIDING_WINDOW_BITS};
 use numbers::positive_verdict;
-use rules::{LARGEST_WIDTH, LEAST_WIDTH, Refusal, Verdict};
+use rules::{LARGEST_WIDTH, LEAST_WIDTH, Refusal};
 
 // The method, if its width is from the least to the most that it allows; else refusal 3.
-fn within(method: Method, width: usize, least: usize, most: usize) -> Chosen
+fn within(method: Method, width: usize, least: usize, most: usize) -> Result<Method, Refusal>
     ensures { result ≡ within method width least most }
 {
     if width < least {
-        return Chosen::Refused(Refusal::MethodOrWidth);
+        return Err(Refusal::MethodOrWidth);
     }
     if most < width {
-        return Chosen::Refused(Refusal::MethodOrWidth);
+        return Err(Refusal::MethodOrWidth);
     }
-    Chosen::Method(method)
+    Ok(method)
 }
 
 // The method that the two numbers ask for. A line a method.
-fn method_of(method: u32, width: u32) -> Chosen
+fn method_of(method: u32, width: u32) -> Result<Method, Refusal>
     ensures { result ≡ method_of method width }
 {
     let d = width as usize;
@@ -34,16 +34,14 @@ fn method_of(method: u32, width: u32) -> Chosen
         4 => within(Method::Naf, d, 0, 0),
         5 => within(Method::WideNaf(d), d, LEAST_WIDTH, LARGEST_WIDTH),
         6 => within(Method::ModifiedNaf, d, 0, 0),
-        _ => Chosen::Refused(Refusal::MethodOrWidth),
+        _ => Err(Refusal::MethodOrWidth),
     }
 }
 
 // The same, after refusals 1, 13 and 2.
-pub fn requested(number: &[u8], method: u32, width: u32) -> Chosen
+pub fn requested(number: &[u8], method: u32, width: u32) -> Result<Method, Refusal>
     ensures { result ≡ request number.now method width }
 {
-    if let Verdict::Failed(refusal) = positive_verdict(number) {
-        return Chosen::Refused(refusal);
-    }
+    positive_verdict(number)?;
     method_of(method, width)
 }

@@ -1,4 +1,5 @@
 -- A call that writes: its outcomes, and what each leaves in the buffer. Assumes nothing.
+use Rattle.std.specs.Prelude.{Result, Ok, Err}
 use mathlib.Core.Path.{◌≡◌, refl, sym}
 use mathlib.Core.Logic.{◌≢◌}
 use mathlib.Core.List.{List, ◌++◌}
@@ -6,46 +7,42 @@ use Prim.Native.Nat.{ℕ, ◌<◌, ◌≤◌}
 use native.Mathlib.Omega.{arith}
 use lib.ListN.{length, drop}
 use Rattle.rules.specs.declared.Refusal.{Refusal}
-use Rattle.rules.specs.declared.Verdict.{Verdict}
-use Rattle.rules.specs.declared.Verdict.TheVariants.{Passed, Failed}
-use Rattle.rules.specs.declared.Written.{Written}
-use Rattle.rules.specs.declared.Written.TheVariants.{Length, Refused}
 use Rattle.rules.specs.Outcome.{Outcome, refused, answered, refusal, outcome_of}
 use Rattle.rules.specs.Memory.{written, leaves}
 use Rattle.rules.proofs.Fitted.{too_small, fits, by_room}
 
-module _ (values : ℕ → List ℕ) (tests : Verdict) (bytes : List ℕ) (room : ℕ) where
+module _ (values : ℕ → List ℕ) (tests : Result Unit Refusal) (bytes : List ℕ) (room : ℕ) where
   abbrev pub writes : Outcome
   writes = outcome_of values (written tests bytes room)
 
   -- each outcome with what it is given for
   pub data Writes : Outcome → Type 0 where
-    stopped : {r : Refusal} → tests ≡ Failed r → Writes (refusal r)
-    no_room : tests ≡ Passed → room < length bytes → Writes (refused 6 (length bytes))
-    all_fits : tests ≡ Passed → length bytes ≤ room → Writes (answered (values (length bytes)))
+    stopped : {r : Refusal} → tests ≡ Err r → Writes (refusal r)
+    no_room : tests ≡ Ok tt → room < length bytes → Writes (refused 6 (length bytes))
+    all_fits : tests ≡ Ok tt → length bytes ≤ room → Writes (answered (values (length bytes)))
 
   pub writes_only : {o : Outcome} → Writes o → writes ≡ o
   writes_only (stopped t) = rw t
   writes_only (no_room t h) = rw (t, too_small bytes room h)
   writes_only (all_fits t h) = rw (t, fits bytes room h)
 
-pub writes_one : (values : ℕ → List ℕ) (tests : Verdict) (bytes : List ℕ) (room : ℕ) → Writes values tests bytes room (writes values tests bytes room)
-writes_one values (Failed r) bytes room = stopped refl
-writes_one values Passed bytes room = by_room bytes room (λ w. Writes values Passed bytes room (outcome_of values w)) (no_room refl) (all_fits refl)
+pub writes_one : (values : ℕ → List ℕ) (tests : Result Unit Refusal) (bytes : List ℕ) (room : ℕ) → Writes values tests bytes room (writes values tests bytes room)
+writes_one values (Err r) bytes room = stopped refl
+writes_one values (Ok tt) bytes room = by_room bytes room (λ w. Writes values (Ok tt) bytes room (outcome_of values w)) (no_room refl) (all_fits refl)
 
 not_both : {n p : ℕ} {vs : List ℕ} → refused n p ≢ answered vs
 not_both e =
     let z : ◌≡◌ {A = ℕ} 0 1 = cc in
     absurd (omega arith)
 
-module _ (values : ℕ → List ℕ) (tests : Verdict) (bytes out : List ℕ) where
+module _ (values : ℕ → List ℕ) (tests : Result Unit Refusal) (bytes out : List ℕ) where
   -- a refusal changes nothing
   pub refused_leaves : (n p : ℕ) → writes values tests bytes (length out) ≡ refused n p → leaves (written tests bytes (length out)) bytes out ≡ out
   refused_leaves n p = go (written tests bytes (length out))
     where
-      go : (w : Written) → outcome_of values w ≡ refused n p → leaves w bytes out ≡ out
-      go (Length _) e = absurd (not_both (sym e))
-      go (Refused _) e = refl
+      go : (w : Result ℕ Refusal) → outcome_of values w ≡ refused n p → leaves w bytes out ≡ out
+      go (Ok _) e = absurd (not_both (sym e))
+      go (Err _) e = refl
 
   -- on success the bytes stand at the start of the buffer, and those above stay
   pub answered_leaves : (vs : List ℕ) → writes values tests bytes (length out) ≡ answered vs

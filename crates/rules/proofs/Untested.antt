@@ -1,10 +1,10 @@
 -- A call that writes and tests nothing but the room: each outcome with what it is given for, and no other; and what it leaves. Assumes nothing.
+use Rattle.std.specs.Prelude.{Ok}
 use mathlib.Core.Path.{◌≡◌, refl}
 use mathlib.Core.Logic.{◌↔◌}
 use mathlib.Core.List.{List, [], ◌∷◌, ◌++◌}
 use Prim.Native.Nat.{ℕ, ◌<◌, ◌≤◌}
 use lib.ListN.{length, drop}
-use Rattle.rules.specs.declared.Verdict.TheVariants.{Passed}
 use Rattle.rules.specs.Outcome.{Outcome, refused, answered, written_outcome, length_value}
 use Rattle.rules.specs.Memory.{fitted, leaves}
 use Rattle.rules.proofs.Fitted.{too_small, fits, by_room}
@@ -40,8 +40,8 @@ module _ (bytes : List ℕ) (room : ℕ) where
 module _ (bytes out : List ℕ) where
   -- a refusal changes nothing
   pub refused_leaves : (n p : ℕ) → outcome bytes (length out) ≡ refused n p → leaves (fitted bytes (length out)) bytes out ≡ out
-  refused_leaves = memory.refused_leaves length_value Passed bytes out
+  refused_leaves = memory.refused_leaves length_value (Ok tt) bytes out
 
   -- on success the bytes stand at the start of the buffer, and those above stay
   pub answered_leaves : (vs : List ℕ) → outcome bytes (length out) ≡ answered vs → leaves (fitted bytes (length out)) bytes out ≡ bytes ++ drop (length bytes) out
-  answered_leaves = memory.answered_leaves length_value Passed bytes out
+  answered_leaves = memory.answered_leaves length_value (Ok tt) bytes out

@@ -138,40 +138,18 @@ impl Refusal {
     }
 }
 
-// The answer of a call that writes into a lent buffer: how many bytes stand there now, from its
-// start.
-#[derive(Drop)]
-pub enum Written {
-    Length(usize),
-    Refused(Refusal),
-}
-
 // How many steps of each kind a plan has.
-#[derive(Drop)]
+#[derive(Clone, Copy)]
 pub struct Counts {
     pub doublings: usize,
     pub additions: usize,
     pub subtractions: usize,
 }
 
-// The answer of a call that counts steps.
-#[derive(Drop)]
-pub enum Counted {
-    Steps(Counts),
-    Refused(Refusal),
-}
-
-// The answer of a call that checks a plan: its counts, and the bit length of the largest size among its
-// values.
-#[derive(Drop)]
-pub enum Checked {
-    Accepted { counts: Counts, largest_bits: usize },
-    Refused(Refusal),
-}
-
-// Whether a test lets a call go on, or why not.
-#[derive(Drop)]
-pub enum Verdict {
-    Passed,
-    Failed(Refusal),
+// What check answers of a plan that it accepts: its counts, and the bit length of the largest size among
+// its values.
+#[derive(Clone, Copy)]
+pub struct Accepted {
+    pub counts: Counts,
+    pub largest_bits: usize,
 }

@@ -6,7 +6,7 @@ ghost use Rattle.rules.specs.Limits.{record_bytes};
 ghost use Rattle.step_reading.specs.Fields.{as_step};
 ghost use Rattle.step_values.specs.Verdicts.{StepChecked};
 
-use rules::{RECORD_BYTES, Refusal, Verdict};
+use rules::{RECORD_BYTES, Refusal};
 use step_reading::Step;
 use step_values::{CheckedStep, difference_step, sum_step};
 
@@ -21,7 +21,7 @@ pub fn check_step(step: Step, space: &mut [u8], n: usize) -> CheckedStep
     let well_formed = (step.operation <= 1) & (j < i) & (k < i);
     if !well_formed {
         return CheckedStep {
-            verdict: Verdict::Failed(Refusal::MalformedStep(i)),
+            verdict: Err(Refusal::MalformedStep(i)),
             doubling: false,
         };
     }

@@ -1,4 +1,5 @@
 -- What the call promises: when it refuses, and five bytes a word. What a word comes to is promised in step_words. Assumes nothing.
+use Rattle.std.specs.Prelude.{Result, Ok, Err}
 use mathlib.Core.Path.{◌≡◌, refl, sym, ap, ◌∙◌}
 use mathlib.Core.Logic.{◌↔◌, ◌≢◌, ◌⊎◌, inl, inr}
 use mathlib.Core.List.{List, [], ◌∷◌, ◌++◌}
@@ -9,9 +10,6 @@ use lib.ListN.{length, drop}
 use Rattle.rules.specs.Limits.{step_bytes, plan_steps}
 use Rattle.rules.specs.declared.Refusal.{Refusal}
 use Rattle.rules.specs.declared.Refusal.TheVariants.{PlanLength}
-use Rattle.rules.specs.declared.Verdict.{Verdict}
-use Rattle.rules.specs.declared.Verdict.TheVariants.{Passed, Failed}
-use Rattle.rules.specs.declared.Written.TheVariants.{Refused}
 use Rattle.rules.specs.Memory.{fitted}
 use Rattle.rules.specs.Outcome.{Outcome, refused, answered, refusal, written_outcome, length_value}
 use Rattle.rules.proofs.Memory as memory
@@ -25,7 +23,7 @@ pub five_bytes : (text : List ℕ) → length (text_steps text) ≡ step_bytes *
 five_bytes text = length_steps text
 
 -- more words than a plan has steps are refused with 7; any other text only where there is no room
-pub too_many_words : (text : List ℕ) (room : ℕ) → plan_steps < length (text_words text) → steps_answer text room ≡ Refused PlanLength
+pub too_many_words : (text : List ℕ) (room : ℕ) → plan_steps < length (text_words text) → steps_answer text room ≡ Err PlanLength
 too_many_words text room h = rw (count_only (too_many h))
 
 pub few_words : (text : List ℕ) (room : ℕ) → length (text_words text) ≤ plan_steps → steps_answer text room ≡ fitted (text_steps text) room
@@ -48,7 +46,7 @@ module _ (text : List ℕ) (room : ℕ) where
     six : {p : ℕ} → length (text_words text) ≤ plan_steps → room < needed text → p ≡ needed text → Given (refused 6 p)
     fits : {vs : List ℕ} → length (text_words text) ≤ plan_steps → needed text ≤ room → vs ≡ needed text ∷ [] → Given (answered vs)
 
-  abbrev verdict : Verdict
+  abbrev verdict : Result Unit Refusal
   verdict = count_test (length (text_words text))
 
   only : {o : Outcome} → Writes length_value verdict (text_steps text) room o → outcome ≡ o
@@ -59,10 +57,10 @@ module _ (text : List ℕ) (room : ℕ) where
   given_only (six a h e) = only (no_room (count_only (counted a)) (rw (length_steps text) h)) ∙ ap (refused 6) (length_steps text ∙ sym e)
   given_only (fits a h e) = only (all_fits (count_only (counted a)) (rw (length_steps text) h)) ∙ ap (λ (n : ℕ). answered (n ∷ [])) (length_steps text) ∙ ap answered (sym e)
 
-  stops : {r : Refusal} → CountTest (length (text_words text)) (Failed r) → Given (refusal r)
+  stops : {r : Refusal} → CountTest (length (text_words text)) (Err r) → Given (refusal r)
   stops (too_many h) = seven h
 
-  passes : verdict ≡ Passed → length (text_words text) ≤ plan_steps
+  passes : verdict ≡ Ok tt → length (text_words text) ≤ plan_steps
   passes t = elim (rw t at (count_test_lem (length (text_words text)))) [ counted h ↦ h ]
 
   -- every outcome is one of these

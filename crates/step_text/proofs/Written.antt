@@ -1,4 +1,6 @@
 -- The steps of a text's words in a buffer, one word after the other. Assumes nothing.
+use Rattle.rules.specs.declared.Refusal.{Refusal}
+use Rattle.std.specs.Prelude.{Result, Ok, Err}
 use mathlib.Core.Path.{◌≡◌, refl, sym, ap, ◌∙◌}
 use mathlib.Core.List.{List, [], ◌∷◌, ◌++◌, map, append_assoc, append-nil}
 use Prim.Native.Nat.{ℕ, ◌+◌, ◌-◌, ◌*◌, ◌<◌, ◌≤◌}
@@ -9,8 +11,6 @@ use lib.ListN.{length, take, drop, length-append, length-drop, length-map, take-
 use lib.Seq.{take_at, drop_at, drop-drop, length-take-le}
 use Rattle.rules.specs.Limits.{step_bytes, plan_steps}
 use Rattle.rules.specs.declared.Refusal.TheVariants.{PlanLength}
-use Rattle.rules.specs.declared.Verdict.{Verdict}
-use Rattle.rules.specs.declared.Verdict.TheVariants.{Passed, Failed}
 use Rattle.chains.specs.Steps.{Step, step_bytes_of, plan_bytes_of}
 use Rattle.chains.proofs.Bytes.{length_plan}
 use Rattle.text_words.specs.Words.{ended, text_words}
@@ -24,11 +24,11 @@ unfolding text_steps
 length_steps text = length_plan (map word_step (text_words text)) ∙ ap (λ (n : ℕ). step_bytes * n) (length-map (text_words text) word_step)
 
 -- each verdict on the number of words with what it is given for
-pub data CountTest (n : ℕ) : Verdict → Type 0 where
-  too_many : plan_steps < n → CountTest n (Failed PlanLength)
-  counted : n ≤ plan_steps → CountTest n Passed
+pub data CountTest (n : ℕ) : Result Unit Refusal → Type 0 where
+  too_many : plan_steps < n → CountTest n (Err PlanLength)
+  counted : n ≤ plan_steps → CountTest n (Ok tt)
 
-pub count_only : {n : ℕ} {v : Verdict} → CountTest n v → count_test n ≡ v
+pub count_only : {n : ℕ} {v : Result Unit Refusal} → CountTest n v → count_test n ≡ v
 unfolding count_test
 count_only {n} (too_many h) = simp (lt-ltb plan_steps n h)
 count_only {n} (counted h) = simp (le-ltb plan_steps n h)
@@ -38,7 +38,7 @@ count_test_lem n = go (dec_lt plan_steps n)
   where
     go : Dec (plan_steps < n) → CountTest n (count_test n)
     go (yes h) = let t = too_many h in rw (count_only t) t
-    go (no h) = let t : CountTest n Passed = counted (omega arith) in rw (count_only t) t
+    go (no h) = let t : CountTest n (Ok tt) = counted (omega arith) in rw (count_only t) t
 
 length_step : (s : Step) → length (step_bytes_of s) ≡ step_bytes
 unfolding step_bytes_of

@@ -1,11 +1,9 @@
 -- Plans as people write them: a word for each step.
-use Rattle.std.specs.Prelude.{ℕ, cond, List, map, ltb, length}
+use Rattle.rules.specs.declared.Refusal.{Refusal}
+use Rattle.std.specs.Prelude.{ℕ, cond, List, map, ltb, length, Result, Ok, Err}
 use Rattle.rules.specs.Limits.{plan_steps}
 use Rattle.rules.specs.Memory.{written, leaves}
 use Rattle.rules.specs.declared.Refusal.TheVariants.{PlanLength}
-use Rattle.rules.specs.declared.Verdict.{Verdict}
-use Rattle.rules.specs.declared.Verdict.TheVariants.{Passed, Failed}
-use Rattle.rules.specs.declared.Written.{Written}
 use Rattle.chains.specs.Steps.{plan_bytes_of}
 use Rattle.text_words.specs.Words.{text_words}
 use Rattle.step_words.specs.Word.{word_step}
@@ -15,11 +13,11 @@ unfoldable pub text_steps : List ℕ → List ℕ
 text_steps text = plan_bytes_of (map word_step (text_words text))
 
 -- a plan has no more steps than the limit
-unfoldable pub count_test : ℕ → Verdict
-count_test words = cond (ltb plan_steps words) (Failed PlanLength) Passed
+unfoldable pub count_test : ℕ → Result Unit Refusal
+count_test words = cond (ltb plan_steps words) (Err PlanLength) (Ok tt)
 
 -- into a lent buffer: refusal 7 where there are too many, nothing and refusal 6 where there is no room, or all of them
-abbrev pub steps_answer : List ℕ → ℕ → Written
+abbrev pub steps_answer : List ℕ → ℕ → Result ℕ Refusal
 steps_answer text room = written (count_test (length (text_words text))) (text_steps text) room
 
 -- the buffer afterwards

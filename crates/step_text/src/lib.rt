@@ -5,7 +5,7 @@ ghost use Rattle.std.specs.Prelude.{◌≡◌, length};
 ghost use Rattle.step_text.specs.Steps.{steps_answer, steps_buffer};
 
 use plan_writing::put;
-use rules::{PLAN_STEPS, Refusal, STEP_BYTES, Written};
+use rules::{PLAN_STEPS, Refusal, STEP_BYTES};
 use step_words::step_of;
 use text_words::{next_word, word_count};
 
@@ -13,16 +13,16 @@ use text_words::{next_word, word_count};
 const MOST_WORDS: usize = PLAN_STEPS;
 
 // Writes the steps of a text's words.
-pub fn read_steps(text: &[u8], out: &mut [u8]) -> Written
+pub fn read_steps(text: &[u8], out: &mut [u8]) -> Result<usize, Refusal>
     ensures answer { result ≡ steps_answer text.now (length out.old) }
     ensures buffer { out.new ≡ steps_buffer text.now out.old }
 {
     let words = word_count(text);
     if MOST_WORDS < words {
-        return Written::Refused(Refusal::PlanLength);
+        return Err(Refusal::PlanLength);
     }
     if out.len() < STEP_BYTES * words {
-        return Written::Refused(Refusal::RoomTooSmall(STEP_BYTES * words));
+        return Err(Refusal::RoomTooSmall(STEP_BYTES * words));
     }
     let mut from = 0;
     let mut n = 0;
@@ -34,5 +34,5 @@ pub fn read_steps(text: &[u8], out: &mut [u8]) -> Written
         put(out, n, step.operation, step.first, step.second);
         n += 1;
     }
-    Written::Length(STEP_BYTES * words)
+    Ok(STEP_BYTES * words)
 }

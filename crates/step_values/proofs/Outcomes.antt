@@ -1,4 +1,5 @@
 -- What checking a step comes to at each of its outcomes. Assumes nothing.
+use Rattle.std.specs.Prelude.{Ok, Err}
 use mathlib.Core.Path.{◌≡◌, refl, sym, ap, ◌∙◌}
 use mathlib.Core.Logic.{◌≢◌}
 use mathlib.Core.Bool.{Bool, true, false, cond}
@@ -14,7 +15,6 @@ use mir.Val.{bool_byte}
 use Rattle.rules.specs.Limits.{value_bytes, value_bound, record_bytes}
 use Rattle.rules.specs.declared.Refusal.{Refusal}
 use Rattle.rules.specs.declared.Refusal.TheVariants.{MalformedStep, ValueIsZero, ValueTooLarge}
-use Rattle.rules.specs.declared.Verdict.TheVariants.{Passed, Failed}
 use Rattle.integers.specs.Positional.{bytes_value, low_bytes}
 use Rattle.integers.specs.Signed.{sign_of, is_same}
 use Rattle.integers.proofs.Blocks.{placed}
@@ -67,7 +67,7 @@ not_zero z d e = d (ap nat_abs e)
 distance_lt : (m n b : ℕ) → m < b → n < b → distance_of m n < b
 distance_lt m n b hm hn = omega arith
 
-failed_not_passed : {r : Refusal} → Failed r ≡ Passed → ⊥
+failed_not_passed : {r : Refusal} → Err r ≡ Ok tt → ⊥
 failed_not_passed e = let z : ◌≡◌ {A = ℕ} 0 1 = cc in omega arith
 
 -- ---- the sign and the size in record j
@@ -85,7 +85,7 @@ read {lent} {here} {values} j r h fits = record_read here (record_bytes * j) fit
 -- ---- the outcomes
 
 module _ (s : Step) (n : ℕ) (here : List ℕ) where
-  pub malformed_checked : is_well_formed (n + 1) s ≡ false → (d : Bool) → StepChecked s n here here (Failed (MalformedStep (n + 1))) d
+  pub malformed_checked : is_well_formed (n + 1) s ≡ false → (d : Bool) → StepChecked s n here here (Err (MalformedStep (n + 1))) d
   unfolding step_verdict
   malformed_checked h d lent values long r = (rw (long, h), r, λ e. absurd (failed_not_passed e))
 
@@ -137,14 +137,14 @@ module _ (s : Step) (n : ℕ) (here : List ℕ) where
           let q = same_sign (x values s) (w values s) (one_sign values v) in
           rw (value_is values s) (v.sign ∙ sym q.0, rw (v.first_size, v.second_size) (sym q.1))
 
-      pub sum_too_large : ltb (first + second) value_bound ≡ false → (d : Bool) → StepChecked s n here here (Failed (ValueTooLarge (n + 1))) d
+      pub sum_too_large : ltb (first + second) value_bound ≡ false → (d : Bool) → StepChecked s n here here (Err (ValueTooLarge (n + 1))) d
       sum_too_large l d lent values long r =
           let q = sum_is values (both lent values long r) in
           (sym (rw long at (tested_only values s (value_too_large (formed_at values long) (rw (← q.1) (ltb-false _ _ l))))), r, λ f. absurd (failed_not_passed f))
 
       pub sum_stored : (next : List ℕ) → length next ≡ length here → ltb (first + second) value_bound ≡ true
           → next ≡ placed here (record_bytes * (n + 1)) record_bytes (sign_at here s.first ∷ low_bytes value_bytes (first + second))
-          → (d : Bool) → d ≡ eqb (size_at next s.first) (size_at next s.second) → StepChecked s n here next Passed d
+          → (d : Bool) → d ≡ eqb (size_at next s.first) (size_at next s.second) → StepChecked s n here next (Ok tt) d
       unfolding record_of
       sum_stored next kept l store d same lent values long r =
           let v = both lent values long r in
@@ -168,14 +168,14 @@ module _ (s : Step) (n : ℕ) (here : List ℕ) where
       apart_is : (values : List ℤ) → Values values → distance_of first second ≡ nat_abs (step_value values s)
       apart_is values v = rw (value_is values s, v.first_size, v.second_size) (sym (opposite_size (x values s) (w values s) (two_signs values v)))
 
-      pub apart_zero : eqb (distance_of first second) 0 ≡ true → (d : Bool) → StepChecked s n here here (Failed (ValueIsZero (n + 1))) d
+      pub apart_zero : eqb (distance_of first second) 0 ≡ true → (d : Bool) → StepChecked s n here here (Err (ValueIsZero (n + 1))) d
       apart_zero l d lent values long r =
           let q = apart_is values (both lent values long r) in
           (sym (rw long at (tested_only values s (value_is_zero (formed_at values long) (size_zero _ (sym q ∙ eqb-true _ _ l))))), r, λ f. absurd (failed_not_passed f))
 
       pub apart_stored : (next : List ℕ) → eqb (distance_of first second) 0 ≡ false
           → next ≡ placed here (record_bytes * (n + 1)) record_bytes (bit_xor (sign_at here s.first) (bool_byte (ltb first second)) ∷ low_bytes value_bytes (distance_of first second))
-          → StepChecked s n here next Passed false
+          → StepChecked s n here next (Ok tt) false
       unfolding record_of
       apart_stored next l store lent values long r =
           let v = both lent values long r in

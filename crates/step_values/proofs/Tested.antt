@@ -1,4 +1,6 @@
 -- What testing a step comes to, each verdict with what it is given for and no other. Assumes nothing.
+use Rattle.rules.specs.declared.Refusal.{Refusal}
+use Rattle.std.specs.Prelude.{Result, Ok, Err}
 use mathlib.Core.Path.{◌≡◌, refl, sym, ap, ◌∙◌}
 use mathlib.Core.Logic.{◌↔◌}
 use mathlib.Core.Bool.{Bool, true, false, ◌&&◌, false≢true, and-eq-true_iff}
@@ -12,19 +14,17 @@ use lib.IntN.{ℤ, pos, negsuc, nat_abs}
 use lib.ListN.{length}
 use Rattle.rules.specs.Limits.{value_bound}
 use Rattle.rules.specs.declared.Refusal.TheVariants.{MalformedStep, ValueIsZero, ValueTooLarge}
-use Rattle.rules.specs.declared.Verdict.{Verdict}
-use Rattle.rules.specs.declared.Verdict.TheVariants.{Passed, Failed}
 use Rattle.chains.specs.Steps.{Step, subtracting}
 use Rattle.chains.specs.Values.{step_value}
 use Rattle.chains.specs.Sound.{WellFormed, Representable}
 use Rattle.step_values.specs.Verdicts.{is_well_formed, step_verdict}
 
 -- what testing step i comes to, its value z: for 9 before 10 or 11
-pub data Tested (i : ℕ) (s : Step) (z : ℤ) : Verdict → Type 0 where
-  passed : WellFormed i s → Representable z → Tested i s z Passed
-  malformed : (WellFormed i s → ⊥) → Tested i s z (Failed (MalformedStep i))
-  value_is_zero : WellFormed i s → z ≡ pos 0 → Tested i s z (Failed (ValueIsZero i))
-  value_too_large : WellFormed i s → value_bound ≤ nat_abs z → Tested i s z (Failed (ValueTooLarge i))
+pub data Tested (i : ℕ) (s : Step) (z : ℤ) : Result Unit Refusal → Type 0 where
+  passed : WellFormed i s → Representable z → Tested i s z (Ok tt)
+  malformed : (WellFormed i s → ⊥) → Tested i s z (Err (MalformedStep i))
+  value_is_zero : WellFormed i s → z ≡ pos 0 → Tested i s z (Err (ValueIsZero i))
+  value_too_large : WellFormed i s → value_bound ≤ nat_abs z → Tested i s z (Err (ValueTooLarge i))
 
 pub well_formed_is : (i : ℕ) (s : Step) → is_well_formed i s ≡ true ↔ WellFormed i s
 unfolding is_well_formed
@@ -64,7 +64,7 @@ module _ (values : List ℤ) (s : Step) where
       go true e false f true g = rw (e, f, g) (passed ((well_formed_is i s).0 e) (record { nonzero = λ h. eqb-false _ _ f (ap nat_abs h); small = ltb-true _ _ g }))
       go true e false f false g = rw (e, f, g) (value_too_large ((well_formed_is i s).0 e) (ltb-false _ _ g))
 
-  pub tested_only : {v : Verdict} → Tested (length values) s (step_value values s) v → step_verdict values s ≡ v
+  pub tested_only : {v : Result Unit Refusal} → Tested (length values) s (step_value values s) v → step_verdict values s ≡ v
   unfolding step_verdict
   tested_only (passed n h) = rw ((well_formed_is i s).1 n, ne_eqb (nat_abs z) 0 (λ e. h.nonzero (size_zero z e)), lt-ltb (nat_abs z) value_bound h.small)
   tested_only (malformed h) = rw (not_well_formed i s h)

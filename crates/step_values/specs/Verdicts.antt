@@ -1,5 +1,6 @@
 -- The verdict on one step, tested for 9 before 10 or 11 (docs/RULES.md, "Refusals"), and what it leaves in the work space.
-use Rattle.std.specs.Prelude.{ℕ, ◌+◌, ◌*◌, ltb, eqb, leb, ℤ, nat_abs, length, get_or, Bool, ◌&&◌, cond, List, [], ◌∷◌, ◌++◌, ◌≡◌}
+use Rattle.rules.specs.declared.Refusal.{Refusal}
+use Rattle.std.specs.Prelude.{ℕ, ◌+◌, ◌*◌, ltb, eqb, leb, ℤ, nat_abs, length, get_or, Bool, ◌&&◌, cond, List, [], ◌∷◌, ◌++◌, ◌≡◌, Result, Ok, Err}
 use Rattle.chains.specs.Steps.{Step, subtracting}
 use Rattle.chains.specs.Values.{step_value}
 use Rattle.chains.specs.Sound.{WellFormed}
@@ -7,8 +8,6 @@ use Rattle.chains.specs.Counts.{is_doubling}
 use Rattle.rules.specs.Limits.{value_bound, record_bytes}
 use Rattle.rules.specs.Outcome.{and_then}
 use Rattle.rules.specs.declared.Refusal.TheVariants.{MalformedStep, ValueIsZero, ValueTooLarge}
-use Rattle.rules.specs.declared.Verdict.TheVariants.{Passed, Failed}
-use Rattle.rules.specs.declared.Verdict.{Verdict}
 use Rattle.std.specs.Int.Bits.{bit_xor}
 use Rattle.records.specs.Recording.{Recording}
 
@@ -17,31 +16,31 @@ unfoldable pub is_well_formed : ℕ → Step → Bool
 is_well_formed i s = leb s.operation subtracting && ltb s.first i && ltb s.second i
 
 -- 9
-abbrev pub form_verdict : ℕ → Step → Verdict
-form_verdict i s = cond (is_well_formed i s) Passed (Failed (MalformedStep i))
+abbrev pub form_verdict : ℕ → Step → Result Unit Refusal
+form_verdict i s = cond (is_well_formed i s) (Ok tt) (Err (MalformedStep i))
 
 -- 10 or 11, by whether the value is zero, and whether its size is below the bound
-abbrev pub value_verdict : ℕ → Bool → Bool → Verdict
-value_verdict i zero small = cond zero (Failed (ValueIsZero i)) (cond small Passed (Failed (ValueTooLarge i)))
+abbrev pub value_verdict : ℕ → Bool → Bool → Result Unit Refusal
+value_verdict i zero small = cond zero (Err (ValueIsZero i)) (cond small (Ok tt) (Err (ValueTooLarge i)))
 
 -- step i = the number of values, with the values of the positions below its own
-unfoldable pub step_verdict : List ℤ → Step → Verdict
+unfoldable pub step_verdict : List ℤ → Step → Result Unit Refusal
 step_verdict values s =
     let i = length values in
     let z = step_value values s in
     and_then (form_verdict i s) (value_verdict i (eqb (nat_abs z) 0) (ltb (nat_abs z) value_bound))
 
 -- a step that passes fills the next position, and any other none
-abbrev pub grown : Verdict → List ℤ → ℤ → List ℤ
-grown Passed values z = values ++ (z ∷ [])
-grown (Failed r) values z = values
+abbrev pub grown : Result Unit Refusal → List ℤ → ℤ → List ℤ
+grown (Ok tt) values z = values ++ (z ∷ [])
+grown (Err r) values z = values
 
 -- the verdict on the step after n others, the work space before and after it, and whether it is a doubling if it passes, whatever values are recorded
 -- by then
-abbrev pub StepChecked : Step → ℕ → List ℕ → List ℕ → Verdict → Bool → Type 0
+abbrev pub StepChecked : Step → ℕ → List ℕ → List ℕ → Result Unit Refusal → Bool → Type 0
 StepChecked s n here next r doubling =
     (lent : List ℕ) (values : List ℤ) → length values ≡ n + 1 → Recording lent here values
-    → (r ≡ step_verdict values s) × Recording lent next (grown r values (step_value values s)) × (r ≡ Passed → doubling ≡ is_doubling values s)
+    → (r ≡ step_verdict values s) × Recording lent next (grown r values (step_value values s)) × (r ≡ Ok tt → doubling ≡ is_doubling values s)
 
 -- the step after n others is well formed, the records that it names stand at a and b, and it fills record i
 pub record Names (s : Step) (n a b i : ℕ) : Type 0 where

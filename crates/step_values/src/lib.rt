@@ -8,7 +8,7 @@ ghost use Rattle.step_values.specs.Verdicts.{StepChecked, Names, signs_at};
 
 use chain_values::{is_small, is_zero};
 use records::{distance_between, same_size, store, sum};
-use rules::{RECORD_BYTES, Refusal, Verdict};
+use rules::{RECORD_BYTES, Refusal};
 
 // The verdict on a step, and whether it is a doubling if it passes.
 #[derive(Drop)]
@@ -27,7 +27,7 @@ pub fn sum_step(space: &mut [u8], a: usize, b: usize, i: usize) -> CheckedStep
     let words = sum(space, a + 1, b + 1);
     if !is_small(words) {
         return CheckedStep {
-            verdict: Verdict::Failed(Refusal::ValueTooLarge(i)),
+            verdict: Err(Refusal::ValueTooLarge(i)),
             doubling: false,
         };
     }
@@ -35,7 +35,7 @@ pub fn sum_step(space: &mut [u8], a: usize, b: usize, i: usize) -> CheckedStep
     store(space, RECORD_BYTES * i, sign, words);
     // After the store: then the compiler loads whole words again (docs/DECISIONS.md, 49).
     CheckedStep {
-        verdict: Verdict::Passed,
+        verdict: Ok(()),
         doubling: same_size(space, a + 1, b + 1),
     }
 }
@@ -50,14 +50,14 @@ pub fn difference_step(space: &mut [u8], a: usize, b: usize, i: usize) -> Checke
     let words = apart.words;
     if is_zero(words) {
         return CheckedStep {
-            verdict: Verdict::Failed(Refusal::ValueIsZero(i)),
+            verdict: Err(Refusal::ValueIsZero(i)),
             doubling: false,
         };
     }
     let sign = space[a] ^ apart.below as u8;
     store(space, RECORD_BYTES * i, sign, words);
     CheckedStep {
-        verdict: Verdict::Passed,
+        verdict: Ok(()),
         doubling: false,
     }
 }

@@ -1,4 +1,5 @@
 -- One move of a recoder: the lowest digit of v + c, and what is left, by the two low bits of v. Assumes nothing.
+use Rattle.std.specs.Prelude.{Ok, Err, Some, None}
 use mathlib.Core.Path.{◌≡◌, refl, sym, ap, ◌∙◌}
 use mathlib.Core.Logic.{◌≢◌}
 use mathlib.Core.Bool.{Bool, true, false, not, ◌&&◌}
@@ -11,7 +12,6 @@ use lib.ListN.{get_or, take}
 use mir.Val.{bool_byte}
 use Rattle.rules.specs.Limits.{number_bytes}
 use Rattle.rules.specs.declared.Refusal.{Refusal}
-use Rattle.rules.specs.declared.Verdict.TheVariants.{Failed}
 use Rattle.integers.specs.Positional.{bytes_value, words_value}
 use Rattle.integers.proofs.Bits.{bool_small}
 use Rattle.integers.proofs.Positional.{positional_drop}
@@ -21,8 +21,6 @@ use Rattle.signed_digits.specs.Naf.{residue, low_digit, rest}
 use Rattle.signed_digits.specs.Bytes.{digit_byte}
 use Rattle.signed_digits.proofs.Steps.{low_digit_2, rest_2, by_four}
 use Rattle.taking.specs.declared.Recoder.{Recoder}
-use Rattle.taking.specs.declared.Start.TheVariants.{Ready, Refused}
-use Rattle.taking.specs.declared.Take.TheVariants.{Digit, Done}
 use Rattle.taking.specs.Take.{stands_for, take_answer, take_leaves, IsStart, IsTake}
 
 -- ---- the byte of the lowest digit, by the remainder modulo 4
@@ -63,7 +61,7 @@ low_word : (words : List ℕ) → get_or words 0 0 % 4 ≡ words_value words % 4
 low_word words = omega (arith, positional_drop (2 ^ 64) words 0)
 
 -- ---- the definitions of a take, where something is left
-answer_some : (n : ℕ) → n ≢ 0 → take_answer n ≡ Digit (digit_byte (low_digit 2 n))
+answer_some : (n : ℕ) → n ≢ 0 → take_answer n ≡ Some (digit_byte (low_digit 2 n))
 answer_some zero h = absurd (h refl)
 answer_some (suc n) h = refl
 
@@ -87,7 +85,7 @@ module _ (r : Recoder) where
       go (suc v) b k = omega arith
 
   pub digit_answered : (digit : ℕ) → 0 < stands_for r → digit ≡ digit_byte (low_digit 2 (get_or r.words 0 0 % 4 + bool_byte r.carry))
-      → Digit digit ≡ take_answer (stands_for r)
+      → Some digit ≡ take_answer (stands_for r)
   unfolding stands_for
   digit_answered digit some byte =
       let v : ℕ = words_value r.words in
@@ -123,7 +121,7 @@ ended (suc v) b h = let z : ◌≡◌ {A = ℕ} 0 1 = cc (rw (ne_eqb (suc v) 0 (
 
 -- ---- the two returns of a take
 module _ (r : Recoder) (none : Bool) (is_none : none ≡ eqb (words_value r.words) 0) where
-  pub done_is : (none && not r.carry) ≡ true → IsTake r (record { next = r; answer = Done })
+  pub done_is : (none && not r.carry) ≡ true → IsTake r (record { next = r; answer = None })
   unfolding stands_for
   done_is h =
       let v : ℕ = words_value r.words in
@@ -133,7 +131,7 @@ module _ (r : Recoder) (none : Bool) (is_none : none ≡ eqb (words_value r.word
   pub move_is : (digit : ℕ) (half : List ℕ) → let word = get_or r.words 0 0 in let ones = word % 2 + word / 2 % 2 + bool_byte r.carry in
       (none && not r.carry) ≡ false → words_value half ≡ words_value r.words / 2
       → digit ≡ digit_byte (low_digit 2 (word % 4 + bool_byte r.carry))
-      → IsTake r (record { next = record { words = half; carry = leb 2 ones }; answer = Digit digit })
+      → IsTake r (record { next = record { words = half; carry = leb 2 ones }; answer = Some digit })
   move_is digit half left halves byte =
       let some : 0 < stands_for r = some_left r (going (sym (ap (λ (t : Bool). t && not r.carry) is_none) ∙ left)) in
       record {
@@ -146,13 +144,13 @@ module _ (r : Recoder) (none : Bool) (is_none : none ≡ eqb (words_value r.word
       going h z n = grind arith
 
 -- ---- the two returns of the start
-pub refused_is : (number words : List ℕ) {r : Refusal} → number_verdict number ≡ Failed r → words_value words ≡ 0
-    → IsStart number (record { recoder = record { words = words; carry = false }; answer = Refused r })
+pub refused_is : (number words : List ℕ) {r : Refusal} → number_verdict number ≡ Err r → words_value words ≡ 0
+    → IsStart number (record { recoder = record { words = words; carry = false }; answer = Err r })
 unfolding stands_for
 refused_is number words t z = record { answer = rw t; recoder = rw (t, z) }
 
 pub ready_is : (number words : List ℕ) → Admitted number → words_value words ≡ bytes_value (take number_bytes number)
-    → IsStart number (record { recoder = record { words = words; carry = false }; answer = Ready })
+    → IsStart number (record { recoder = record { words = words; carry = false }; answer = (Ok tt) })
 unfolding stands_for
 ready_is number words a e =
     let t = number_only number (admitted a) in

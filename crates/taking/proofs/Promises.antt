@@ -1,4 +1,6 @@
 -- What the rules promise of the start of taking, as theorems about the definitions that its statement cites. Assumes nothing.
+use Rattle.rules.specs.declared.Refusal.{Refusal}
+use Rattle.std.specs.Prelude.{Result, Ok, Err}
 use mathlib.Core.Path.{◌≡◌, refl}
 use mathlib.Core.Logic.{◌↔◌}
 use mathlib.Core.List.{List, []}
@@ -6,8 +8,6 @@ use Prim.Native.Nat.{ℕ, ◌<◌, ◌≤◌}
 use native.Mathlib.Omega.{arith}
 use lib.ListN.{length}
 use Rattle.rules.specs.Limits.{number_bytes}
-use Rattle.rules.specs.declared.Verdict.{Verdict}
-use Rattle.rules.specs.declared.Verdict.TheVariants.{Passed, Failed}
 use Rattle.rules.specs.Outcome.{Outcome, refused, answered}
 use Rattle.integers.specs.Positional.{bytes_value}
 use Rattle.numbers.specs.Admission.{Padded, number_verdict, Admitted}
@@ -34,7 +34,7 @@ module _ (number : List ℕ) where
   pub no_other : Given outcome
   no_other = go (number_test number) refl
     where
-      go : {v : Verdict} → NumberTest number v → number_verdict number ≡ v → Given outcome
+      go : {v : Result Unit Refusal} → NumberTest number v → number_verdict number ≡ v → Given outcome
       go (too_long h) e = rw e (one h)
       go (padded h p) e = rw e (thirteen h p)
       go (admitted a) e = rw e (ready a refl)
@@ -61,6 +61,6 @@ module _ (number : List ℕ) where
   pub refused_number : (n p : ℕ) → outcome ≡ refused n p → start_number number ≡ 0
   refused_number n p e = go (number_verdict number) refl
     where
-      go : (v : Verdict) → number_verdict number ≡ v → start_number number ≡ 0
-      go Passed t = let f = rw t at e in let z : ◌≡◌ {A = ℕ} 0 1 = cc in absurd (omega arith)
-      go (Failed r) t = rw t
+      go : (v : Result Unit Refusal) → number_verdict number ≡ v → start_number number ≡ 0
+      go (Ok tt) t = let f = rw t at e in let z : ◌≡◌ {A = ℕ} 0 1 = cc in absurd (omega arith)
+      go (Err r) t = rw t

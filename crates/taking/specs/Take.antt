@@ -1,17 +1,14 @@
 -- Taking digits singly (docs/RULES.md, "Calls").
-use Rattle.std.specs.Prelude.{◌≡◌, List, [], ◌∷◌, ℕ, zero, suc, ◌+◌, pos}
+use Rattle.rules.specs.declared.Refusal.{Refusal}
+use Rattle.std.specs.Prelude.{◌≡◌, List, [], ◌∷◌, ℕ, zero, suc, ◌+◌, pos, Result, Ok, Err, Option, Some, None}
 use mir.Val.{bool_byte}
-use Rattle.rules.specs.Outcome.{Outcome, answered, done, refusal, unless_failed}
+use Rattle.rules.specs.Outcome.{Outcome, answered, done, refusal, unless_failed, and_then}
 use Rattle.integers.specs.Positional.{bytes_value, words_value}
 use Rattle.numbers.specs.Admission.{number_verdict}
 use Rattle.signed_digits.specs.Naf.{low_digit, rest, canonical, canonical_width}
 use Rattle.signed_digits.specs.Bytes.{digit_byte, digit_bytes}
 use Rattle.taking.specs.declared.Recoder.{Recoder}
-use Rattle.taking.specs.declared.Start.{Start}
-use Rattle.taking.specs.declared.Start.TheVariants.{Ready, Refused}
 use Rattle.taking.specs.declared.Started.{Started}
-use Rattle.taking.specs.declared.Take.{Take}
-use Rattle.taking.specs.declared.Take.TheVariants.{Digit, Done}
 use Rattle.taking.specs.declared.Taken.{Taken}
 
 -- The number that a recoder stands for: the value of its words, plus one where it carries. Every recoder stands for one, also one put together by hand:
@@ -20,16 +17,16 @@ unfoldable pub stands_for : Recoder → ℕ
 stands_for r = words_value r.words + bool_byte r.carry
 
 -- the answer at the start, and the number that the recoder handed back stands for: zero after a refusal
-abbrev pub start_answer : List ℕ → Start
-start_answer number = unless_failed Refused (number_verdict number) Ready
+abbrev pub start_answer : List ℕ → Result Unit Refusal
+start_answer number = and_then (number_verdict number) (Ok tt)
 
 abbrev pub start_number : List ℕ → ℕ
 start_number number = unless_failed (λ _. 0) (number_verdict number) (bytes_value number)
 
 -- what a take answers where the recoder stands for n: the lowest digit, or done where nothing is left
-abbrev pub take_answer : ℕ → Take
-take_answer zero = Done
-take_answer (suc n) = Digit (digit_byte (low_digit canonical_width (suc n)))
+abbrev pub take_answer : ℕ → Option ℕ
+take_answer zero = None
+take_answer (suc n) = Some (digit_byte (low_digit canonical_width (suc n)))
 
 -- what the recoder handed back stands for
 abbrev pub take_leaves : ℕ → ℕ
@@ -48,13 +45,13 @@ pub record IsTake (r : Recoder) (t : Taken) : Type 0 where
   pub done : stands_for r ≡ 0 → t.next ≡ r
 
 -- the answers in the rules' numbers: ready has no values, a digit has its byte, and done is neither
-abbrev pub start_outcome : Start → Outcome
-start_outcome Ready = answered []
-start_outcome (Refused r) = refusal r
+abbrev pub start_outcome : Result Unit Refusal → Outcome
+start_outcome (Ok tt) = answered []
+start_outcome (Err r) = refusal r
 
-abbrev pub take_outcome : Take → Outcome
-take_outcome (Digit d) = answered (d ∷ [])
-take_outcome Done = done
+abbrev pub take_outcome : Option ℕ → Outcome
+take_outcome (Some d) = answered (d ∷ [])
+take_outcome None = done
 
 -- takes one after the other: each after the first is of the recoder that the one before handed back
 pub record Run (r : Recoder) (t : ℕ → Taken) : Type 0 where

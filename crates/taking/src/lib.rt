@@ -8,7 +8,7 @@ ghost use Rattle.taking.specs.Take.{IsStart, IsTake};
 
 use integers::words_of;
 use numbers::number_verdict;
-use rules::{NUMBER_WORDS, Refusal, Verdict};
+use rules::{NUMBER_WORDS, Refusal};
 use words::{halved, is_zero};
 
 // A recoder stands for the value of its words, least significant first, plus one if it carries.
@@ -49,7 +49,7 @@ impl Recoder {
     pub fn start(number: &[u8]) -> Started
         ensures { IsStart number.now result }
     {
-        if let Verdict::Failed(refusal) = number_verdict(number) {
+        if let Err(refusal) = number_verdict(number) {
             return Started {
                 recoder: Recoder {
                     words: [0; NUMBER_WORDS],

@@ -1,4 +1,6 @@
 -- A call that is handed a digit string and its width and writes bytes: each outcome with what it is given for, and no other. Assumes nothing.
+use Rattle.rules.specs.declared.Refusal.{Refusal}
+use Rattle.std.specs.Prelude.{Result}
 use mathlib.Core.Path.{◌≡◌, ◌∙◌}
 use mathlib.Core.Logic.{◌↔◌}
 use mathlib.Core.List.{List}
@@ -6,7 +8,6 @@ use Prim.Native.Nat.{ℕ, ◌<◌, ◌≤◌}
 use lib.ListN.{length}
 use Rattle.rules.specs.Limits.{string_digits}
 use Rattle.rules.specs.Outcome.{Outcome, refused, answered}
-use Rattle.rules.specs.declared.Verdict.{Verdict}
 use Rattle.rules.proofs.Memory.{writes}
 use Rattle.digit_strings.specs.Admission.{DigitString, LowestBad}
 use Rattle.digit_strings.proofs.Given as of_string
@@ -45,7 +46,7 @@ module _ (values : ℕ → List ℕ) (w : ℕ) (string bytes : List ℕ) (room :
       after a (of_string.six d h e) = six a d h e
       after a (of_string.answer d h e) = answer a d h e
 
-      go : {v : Verdict} → WidthTest w v → Given outcome
+      go : {v : Result Unit Refusal} → WidthTest w v → Given outcome
       go (not_allowed n) = rw (given_only (three n)) (three n)
       go (allowed a) = rw (by_string a) (after a (of_string.no_other values w string bytes room))
 

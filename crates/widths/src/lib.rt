@@ -4,15 +4,15 @@
 ghost use Rattle.std.specs.Prelude.{◌≡◌};
 ghost use Rattle.widths.specs.Width.{width_verdict};
 
-use rules::{LARGEST_WIDTH, LEAST_WIDTH, Refusal, Verdict};
+use rules::{LARGEST_WIDTH, LEAST_WIDTH, Refusal};
 
 // Refusal 3, for every width outside the limits.
-pub fn width_verdict(width: u32) -> Verdict
+pub fn width_verdict(width: u32) -> Result<(), Refusal>
     ensures { result ≡ width_verdict width }
 {
     let width = width as usize;
     if (width < LEAST_WIDTH) | (LARGEST_WIDTH < width) {
-        return Verdict::Failed(Refusal::MethodOrWidth);
+        return Err(Refusal::MethodOrWidth);
     }
-    Verdict::Passed
+    Ok(())
 }

@@ -1,4 +1,5 @@
 -- `check_admission::admit` meets its contract. Assumes nothing.
+use Rattle.std.specs.Prelude.{Ok}
 use mathlib.Core.Path.{◌≡◌, sym, ◌∙◌}
 use mathlib.Core.Bool.{true, false, not, ◌||◌}
 use Prim.Native.Nat.{◌*◌, ◌%◌, ◌≤◌}
@@ -6,7 +7,6 @@ use borrow.Author.Tests.{lt-ltb, le-ltb}
 use native.Mathlib.Omega.{arith}
 use lib.Dec.{ltb, eqb}
 use Rattle.rules.specs.Limits.{step_bytes, plan_steps}
-use Rattle.rules.specs.declared.Verdict.TheVariants.{Passed}
 use Rattle.numbers.specs.Admission.{positive_verdict}
 use Rattle.check_admission.specs.Admission.{room_for, is_wrong_length, admission}
 use Rattle.check_admission.proofs.Admission.{few_steps}
@@ -18,7 +18,7 @@ unfolding admission
 returns-in-Failed c = rw (sym c.positive_verdict.ensures ∙ c.in-Failed.is)
 
 -- past refusals 1, 13 and 2
-passed : (c : In_default) → positive_verdict c.args.number.now ≡ Passed
+passed : (c : In_default) → positive_verdict c.args.number.now ≡ Ok tt
 passed c = sym c.positive_verdict.ensures ∙ c.in_default.is
 
 pub returns-then-plan_length : goal.returns-then-plan_length

@@ -1,4 +1,5 @@
 -- `checking::check` meets its contract: n steps are checked and counted. Assumes nothing.
+use Rattle.std.specs.Prelude.{Ok, Err}
 use mathlib.Core.Path.{◌≡◌, refl, sym, ◌∙◌}
 use mathlib.Core.Bool.{cond}
 use mathlib.Core.List.{List}
@@ -9,8 +10,6 @@ use lib.ListN.{length}
 use mir.Val.{bool_byte}
 use Rattle.rules.specs.Limits.{step_bytes, plan_steps}
 use Rattle.rules.specs.declared.Refusal.TheVariants.{WrongEnd}
-use Rattle.rules.specs.declared.Checked.TheVariants.{Accepted}
-use Rattle.rules.specs.declared.Verdict.TheVariants.{Passed, Failed}
 use Rattle.chains.specs.Steps.{steps_of}
 use Rattle.chains.proofs.Largest.{bits_start}
 use Rattle.step_reading.specs.Fields.{as_step}
@@ -29,7 +28,7 @@ returns-in-Failed c =
 
 -- past refusals 1, 13, 2, 7 and 8
 passed : (c : In_default)
-    → let args = c.args in admission args.number.now (length args.plan.now) (length args.space.now) ≡ Passed
+    → let args = c.args in admission args.number.now (length args.plan.now) (length args.space.now) ≡ Ok tt
 passed c = sym c.admit.ensures ∙ c.in_default.is
 
 admitted : (c : In_default)
@@ -71,7 +70,7 @@ returns-in-Failed-verdict c =
     }
 
 -- a step that passes is behind
-behind : (c : After-check_step-checked) → c.check_step-checked.result.verdict ≡ Passed
+behind : (c : After-check_step-checked) → c.check_step-checked.result.verdict ≡ Ok tt
     → let plan = c.args.plan.now in
     (lent : List ℕ) → Underway plan lent c.loop-n.space c.loop-n.n → Underway plan lent c.check_step-checked.new.space (c.loop-n.n + 1)
 behind c e lent u =
@@ -79,7 +78,7 @@ behind c e lent u =
     underway_next args.number.now args.plan.now lent c.loop-n.space c.loop-n.n u (search rules) (as_step c.read_step-step.result) c.read_step-step.ensures c.check_step-checked.result.verdict c.check_step-checked.result.doubling c.check_step-checked.new.space c.check_step-checked.ensures e
 
 -- a step that passes is counted
-held : (c : After-check_step-checked) → c.check_step-checked.result.verdict ≡ Passed
+held : (c : After-check_step-checked) → c.check_step-checked.result.verdict ≡ Ok tt
     → let d = bool_byte c.check_step-checked.result.doubling in
     Holding (counts_to c.args.plan.now (c.loop-n.n + 1)) (c.loop-n.doublings + d) (c.loop-n.not_additions + bit_or d c.read_step-step.result.operation)
 held c e =
@@ -89,7 +88,7 @@ held c e =
     holding_more args.plan.now c.loop-n.n c.loop-n.doublings c.loop-n.not_additions c.loop-n.invariant.2 step c.check_step-checked.result.doubling (search rules) c.read_step-step.ensures known.0 known.1
 
 -- no more than a plan may have
-counted : (c : After-check_step-checked) → c.check_step-checked.result.verdict ≡ Passed
+counted : (c : After-check_step-checked) → c.check_step-checked.result.verdict ≡ Ok tt
     → let d = bool_byte c.check_step-checked.result.doubling in
     (c.loop-n.doublings + d ≤ plan_steps) × (c.loop-n.not_additions + bit_or d c.read_step-step.result.operation ≤ plan_steps)
 counted c e =
@@ -131,7 +130,7 @@ ends_at-requires c = record {
 -- the verdict after the last step
 ended : (c : After-ends_at)
     → let args = c.args in
-    Done args.number.now args.plan.now args.space.now c.loop-n.space (cond c.ends_at.result Passed (Failed (WrongEnd (length args.plan.now / step_bytes))))
+    Done args.number.now args.plan.now args.space.now c.loop-n.space (cond c.ends_at.result (Ok tt) (Err (WrongEnd (length args.plan.now / step_bytes))))
 ended c =
     let args = c.args in
     let e : c.loop-n.n ≡ length args.plan.now / step_bytes = omega arith in
@@ -159,7 +158,7 @@ returns-then-ends_at c =
     let admission = passed (goal.at.returns-then-ends_at c).In_default in
     let bits = underway_largest plan c.loop-n.n c.loop-n.largest_bits e c.loop-n.invariant.3 in
     record {
-      answer = (λ i. Accepted (all i) (bits i)) ∙ done_answer admission done;
+      answer = (λ i. ACCEPTED (all i) (bits i)) ∙ done_answer admission done;
       space = done_space admission done;
     }
 

@@ -1,4 +1,5 @@
 -- `cleaning_wide::clean_wide` meets its contract: at each return the tests that led there say which outcome holds. Assumes nothing.
+use Rattle.std.specs.Prelude.{Ok}
 use mathlib.Core.Path.{◌≡◌, sym, ap, ◌∙◌}
 use mathlib.Core.List.{List}
 use Prim.Native.Nat.{ℕ, ◌+◌}
@@ -6,7 +7,6 @@ use native.Mathlib.Omega.{arith}
 use lib.IntN.{nat_abs}
 use lib.Seq.{length-take-le}
 use Rattle.rules.specs.Limits.{string_digits, largest_width}
-use Rattle.rules.specs.declared.Verdict.TheVariants.{Passed}
 use Rattle.integers.specs.Positional.{bytes_value}
 use Rattle.integers.specs.Signed.{sign_of}
 use Rattle.digit_strings.specs.Admission.{string_verdict, string_value}
@@ -20,7 +20,7 @@ use Rattle.cleaning_wide.proofs.clean_wide.Goals.{After-read_of_width, In-Value,
 use Rattle.cleaning_wide.proofs.clean_wide.Goals as goal
 
 -- past refusal 3
-width_passed : (c : In_default) → width_verdict c.args.width ≡ Passed
+width_passed : (c : In_default) → width_verdict c.args.width ≡ Ok tt
 width_passed c = sym c.width_verdict.ensures ∙ c.in_default.is
 
 width : (c : In_default) → AllowedWidth c.args.width
@@ -34,7 +34,7 @@ abbrev digits_of : After-read_of_width → List ℕ
 digits_of c = c.args.digits.now
 
 read : (c : In-Value)
-    → (string_verdict (width_of (goal.at.In-Value c).After-read_of_width) (digits_of (goal.at.In-Value c).After-read_of_width) ≡ Passed) × (c.in-Value.sign ≡ sign_of (string_value (digits_of (goal.at.In-Value c).After-read_of_width))) × (bytes_value c.read_of_width.new.out ≡ nat_abs (string_value (digits_of (goal.at.In-Value c).After-read_of_width)))
+    → (string_verdict (width_of (goal.at.In-Value c).After-read_of_width) (digits_of (goal.at.In-Value c).After-read_of_width) ≡ Ok tt) × (c.in-Value.sign ≡ sign_of (string_value (digits_of (goal.at.In-Value c).After-read_of_width))) × (bytes_value c.read_of_width.new.out ≡ nat_abs (string_value (digits_of (goal.at.In-Value c).After-read_of_width)))
 read c =
     let v = read_value (width_of (goal.at.In-Value c).After-read_of_width) (width (goal.at.In-Value c).In_default) (digits_of (goal.at.In-Value c).After-read_of_width) (sym c.read_of_width.ensures.answer ∙ c.in-Value.is) in
     (v.0, v.1, ap bytes_value c.read_of_width.ensures.buffer ∙ v.2)

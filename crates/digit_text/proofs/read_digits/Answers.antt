@@ -1,11 +1,11 @@
 -- `digit_text::read_digits` meets its contract: the words passed are the high digits, which stand in their places. Assumes nothing.
+use Rattle.std.specs.Prelude.{Ok}
 use mathlib.Core.Path.{◌≡◌, refl, sym, ap, ◌∙◌}
 use mathlib.Core.List.{List}
 use Prim.Native.Nat.{ℕ, ◌≤◌, ◌-◌}
 use native.Mathlib.Omega.{arith}
 use lib.ListN.{length, set, take, drop}
 use lib.Seq.{take-length}
-use Rattle.rules.specs.declared.Verdict.TheVariants.{Passed}
 use Rattle.rules.proofs.Returns.{returns_refused, returns_written}
 use Rattle.text_words.proofs.Words.{next_is_first}
 use Rattle.digit_text.specs.Digits.{text_digits}
@@ -17,7 +17,7 @@ pub returns-then-out-n : goal.returns-then-out-n
 returns-then-out-n c =
     let args = c.args in
     let text = args.text.now in
-    let all = returns_refused (λ w. w) {tests = Passed} (text_digits text) args.out.now refl (c.word_count-n.ensures ∙ sym (as_many text)) (search rules) in
+    let all = returns_refused (λ w. w) {tests = (Ok tt)} (text_digits text) args.out.now refl (c.word_count-n.ensures ∙ sym (as_many text)) (search rules) in
     record { answer = all.0; buffer = all.1 }
 
 pub loop-left-init : goal.loop-left-init
@@ -53,5 +53,5 @@ returns c =
     let text = args.text.now in
     let all : c.word_count-n.result ≡ length (text_digits text) = c.word_count-n.ensures ∙ sym (as_many text) in
     let done : c.loop-left.left ≡ 0 = omega arith in
-    let all = returns_written (λ w. w) {tests = Passed} (text_digits text) args.out.now refl all (search rules) (rw all (rw done at c.loop-left.invariant.4)) in
+    let all = returns_written (λ w. w) {tests = (Ok tt)} (text_digits text) args.out.now refl all (search rules) (rw all (rw done at c.loop-left.invariant.4)) in
     record { answer = all.0; buffer = all.1 }

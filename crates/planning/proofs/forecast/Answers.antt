@@ -1,6 +1,6 @@
 -- `planning::forecast` meets its contract. Assumes nothing.
+use Rattle.std.specs.Prelude.{Ok}
 use mathlib.Core.Path.{sym, ◌∙◌, ap}
-use Rattle.rules.specs.declared.Counted.TheVariants.{Steps}
 use Rattle.requests.proofs.Requests.{granted_allowed}
 use Rattle.planning.proofs.forecast.Goals as goal
 
@@ -16,7 +16,7 @@ pub returns-in-Refused : goal.returns-in-Refused
 returns-in-Refused c = rw (sym c.requested.ensures ∙ c.in-Refused.is)
 
 pub returns-in-Binary : goal.returns-in-Binary
-returns-in-Binary c = rw (sym c.requested.ensures ∙ c.in-Method.is, c.in-Binary.is) (ap Steps c.counts.ensures)
+returns-in-Binary c = rw (sym c.requested.ensures ∙ c.in-Method.is, c.in-Binary.is) (ap Ok c.counts.ensures)
 
 pub returns-in_default : goal.returns-in_default
-returns-in_default c = rw (sym c.requested.ensures ∙ c.in-Method.is) (ap Steps c.counts-in_default.ensures)
+returns-in_default c = rw (sym c.requested.ensures ∙ c.in-Method.is) (ap Ok c.counts-in_default.ensures)

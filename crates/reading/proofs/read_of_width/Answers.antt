@@ -1,10 +1,10 @@
 -- `reading::read_of_width` meets its contract: at each return the tests that led there say which outcome holds. Assumes nothing.
+use Rattle.std.specs.Prelude.{Ok}
 use mathlib.Core.Path.{◌≡◌, sym, ◌∙◌}
 use lib.ListN.{get_or, take}
 use lib.Seq.{length-take-le}
 use mir.Syntax.{w8}
 use mir.Val.{Fits}
-use Rattle.rules.specs.declared.Verdict.TheVariants.{Passed}
 use Rattle.digit_strings.specs.Admission.{string_verdict, DigitString}
 use Rattle.digit_strings.proofs.Tests.{digit_string_is}
 use Rattle.reading.specs.ReadBack.{size_bytes}
@@ -14,7 +14,7 @@ use Rattle.reading.proofs.read_of_width.Goals.{After-significant-bytes, In_defau
 use Rattle.reading.proofs.read_of_width.Goals as goal
 
 -- past refusals 5 and 4
-passed : (c : In_default) → string_verdict c.args.width c.args.digits.now ≡ Passed
+passed : (c : In_default) → string_verdict c.args.width c.args.digits.now ≡ Ok tt
 passed c = sym c.string_verdict.ensures ∙ c.in_default.is
 
 string : (c : In_default) → DigitString c.args.width c.args.digits.now

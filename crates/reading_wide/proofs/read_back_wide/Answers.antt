@@ -1,6 +1,6 @@
 -- `reading_wide::read_back_wide` meets its contract: past refusal 3 it is read back of that width. Assumes nothing.
+use Rattle.std.specs.Prelude.{Ok}
 use mathlib.Core.Path.{◌≡◌, refl, sym, ◌∙◌}
-use Rattle.rules.specs.declared.Verdict.TheVariants.{Passed}
 use Rattle.widths.specs.Width.{width_verdict}
 use Rattle.widths.proofs.Tests.{allowed_is}
 use borrow.Author.Rules.{rules}
@@ -8,7 +8,7 @@ use Rattle.reading_wide.proofs.read_back_wide.Goals.{In_default}
 use Rattle.reading_wide.proofs.read_back_wide.Goals as goal
 
 -- past refusal 3
-passed : (c : In_default) → width_verdict c.args.width ≡ Passed
+passed : (c : In_default) → width_verdict c.args.width ≡ Ok tt
 passed c = sym c.width_verdict.ensures ∙ c.in_default.is
 
 pub returns-in-Failed : goal.returns-in-Failed

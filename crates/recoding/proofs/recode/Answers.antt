@@ -1,9 +1,9 @@
 -- `recoding::recode` meets its contract. Assumes nothing.
+use Rattle.std.specs.Prelude.{Ok}
 use mathlib.Core.Path.{◌≡◌, sym, ◌∙◌}
 use mathlib.Core.List.{◌++◌}
 use lib.IntN.{pos}
 use lib.ListN.{length, drop}
-use Rattle.rules.specs.declared.Verdict.TheVariants.{Passed}
 use Rattle.rules.proofs.Returns.{returns_refused, returns_written}
 use Rattle.integers.specs.Positional.{bytes_value}
 use Rattle.integers.specs.Tabulate.{tabulate}
@@ -18,7 +18,7 @@ use Rattle.recoding.proofs.recode.Goals.{After-count-length, In_default}
 use Rattle.recoding.proofs.recode.Goals as goal
 
 -- past refusals 1 and 13
-passed : (c : In_default) → number_verdict c.args.number.now ≡ Passed
+passed : (c : In_default) → number_verdict c.args.number.now ≡ Ok tt
 passed c = sym c.number_verdict.ensures ∙ c.in_default.is
 
 -- a byte a digit

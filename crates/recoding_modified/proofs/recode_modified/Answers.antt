@@ -1,9 +1,9 @@
 -- `recoding_modified::recode_modified` meets its contract. Assumes nothing.
+use Rattle.std.specs.Prelude.{Ok}
 use mathlib.Core.Path.{◌≡◌, sym, ◌∙◌}
 use mathlib.Core.List.{◌++◌}
 use Prim.Native.Nat.{◌*◌}
 use lib.ListN.{drop}
-use Rattle.rules.specs.declared.Verdict.TheVariants.{Passed}
 use Rattle.rules.proofs.Returns.{returns_refused, returns_written}
 use Rattle.integers.specs.Positional.{bytes_value, words_value}
 use Rattle.numbers.specs.Admission.{number_verdict}
@@ -15,7 +15,7 @@ use Rattle.recoding_modified.proofs.recode_modified.Goals.{After-tripled-triple,
 use Rattle.recoding_modified.proofs.recode_modified.Goals as goal
 
 -- past refusals 1 and 13
-passed : (c : In_default) → number_verdict c.args.number.now ≡ Passed
+passed : (c : In_default) → number_verdict c.args.number.now ≡ Ok tt
 passed c = sym c.number_verdict.ensures ∙ c.in_default.is
 
 -- the words hold the number, and three times the number

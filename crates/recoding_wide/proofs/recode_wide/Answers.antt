@@ -1,11 +1,11 @@
 -- `recoding_wide::recode_wide` meets its contract: at each return the tests that led there say which outcome holds. Assumes nothing.
+use Rattle.std.specs.Prelude.{Ok}
 use mathlib.Core.Path.{◌≡◌, sym, ◌∙◌}
 use Prim.Native.Nat.{◌+◌, ◌*◌}
 use native.Mathlib.Omega.{arith}
 use lib.IntN.{pos}
 use lib.Seq.{length-take-le}
 use Rattle.rules.specs.Limits.{number_bytes}
-use Rattle.rules.specs.declared.Verdict.TheVariants.{Passed}
 use Rattle.integers.specs.Positional.{bytes_value}
 use Rattle.numbers.specs.Admission.{number_verdict}
 use Rattle.numbers.proofs.Tests.{admitted_is}
@@ -18,11 +18,11 @@ use Rattle.recoding_wide.proofs.recode_wide.Goals.{In_default, In_default-width_
 use Rattle.recoding_wide.proofs.recode_wide.Goals as goal
 
 -- past refusals 1 and 13
-number_passed : (c : In_default) → number_verdict c.args.number.now ≡ Passed
+number_passed : (c : In_default) → number_verdict c.args.number.now ≡ Ok tt
 number_passed c = sym c.number_verdict.ensures ∙ c.in_default.is
 
 -- and 3
-width_passed : (c : In_default-width_verdict) → width_verdict c.args.width ≡ Passed
+width_passed : (c : In_default-width_verdict) → width_verdict c.args.width ≡ Ok tt
 width_passed c = sym c.width_verdict.ensures ∙ c.in_default-width_verdict.is
 
 pub returns-in-Failed : goal.returns-in-Failed

@@ -1,10 +1,10 @@
 -- `recoding_words::recode_words` meets its contract. Assumes nothing.
+use Rattle.std.specs.Prelude.{Ok}
 use mathlib.Core.Path.{◌≡◌, sym, ◌∙◌}
 use mathlib.Core.List.{◌++◌}
 use Prim.Native.Nat.{◌*◌}
 use lib.IntN.{pos}
 use lib.ListN.{drop}
-use Rattle.rules.specs.declared.Verdict.TheVariants.{Passed}
 use Rattle.rules.proofs.Returns.{returns_refused, returns_written}
 use Rattle.integers.specs.Positional.{bytes_value, words_value}
 use Rattle.integers.specs.Tabulate.{tabulate}
@@ -19,7 +19,7 @@ use Rattle.recoding_words.proofs.recode_words.Goals.{After-tripled-triple, After
 use Rattle.recoding_words.proofs.recode_words.Goals as goal
 
 -- past refusals 1 and 13
-passed : (c : In_default) → number_verdict c.args.number.now ≡ Passed
+passed : (c : In_default) → number_verdict c.args.number.now ≡ Ok tt
 passed c = sym c.number_verdict.ensures ∙ c.in_default.is
 
 -- the words hold the number, and three times the number

@@ -1,10 +1,10 @@
 -- `requests::method_of` meets its contract. Assumes nothing.
+use Rattle.std.specs.Prelude.{Err}
 use mathlib.Core.Path.{◌≡◌, refl, sym}
 use mathlib.Core.Logic.{◌≢◌}
 use Prim.Native.Nat.{ℕ, zero, suc}
 use native.Mathlib.Omega.{arith}
 use Rattle.rules.specs.declared.Refusal.TheVariants.{MethodOrWidth}
-use Rattle.methods.specs.declared.Chosen.{Chosen}
 use Rattle.methods.specs.Method.{numbered, method_of}
 use Rattle.requests.proofs.method_of.Goals as goal
 
@@ -33,7 +33,7 @@ unfolding numbered method_of
 returns-in-6 c = rw c.in-6.is c.within-in-6.ensures
 
 -- no method has any other number
-no_method : (method width : ℕ) → method ≢ 1 → method ≢ 2 → method ≢ 3 → method ≢ 4 → method ≢ 5 → method ≢ 6 → method_of method width ≡ Chosen.Refused MethodOrWidth
+no_method : (method width : ℕ) → method ≢ 1 → method ≢ 2 → method ≢ 3 → method ≢ 4 → method ≢ 5 → method ≢ 6 → method_of method width ≡ Err MethodOrWidth
 unfolding numbered method_of
 no_method zero width one two three four five six = refl
 no_method (suc zero) width one two three four five six = absurd (one refl)

@@ -1,14 +1,14 @@
 -- `widths::width_verdict` meets its contract: its test is that of the definition. Assumes nothing.
+use Rattle.std.specs.Prelude.{Ok, Err}
 use mathlib.Core.Path.{◌≡◌, sym, ap}
 use mathlib.Core.Bool.{Bool, cond}
 use Rattle.rules.specs.declared.Refusal.TheVariants.{MethodOrWidth}
-use Rattle.rules.specs.declared.Verdict.TheVariants.{Passed, Failed}
 use Rattle.widths.specs.Width.{width_verdict}
 use Rattle.widths.proofs.width_verdict.Goals as goal
 
 -- what the test comes to decides
-decides : {test to : Bool} → test ≡ to → cond to (Failed MethodOrWidth) Passed ≡ cond test (Failed MethodOrWidth) Passed
-decides e = sym (ap (λ (t : Bool). cond t (Failed MethodOrWidth) Passed) e)
+decides : {test to : Bool} → test ≡ to → cond to (Err MethodOrWidth) (Ok tt) ≡ cond test (Err MethodOrWidth) (Ok tt)
+decides e = sym (ap (λ (t : Bool). cond t (Err MethodOrWidth) (Ok tt)) e)
 
 pub returns-then-width : goal.returns-then-width
 unfolding width_verdict

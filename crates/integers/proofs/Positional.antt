@@ -5,8 +5,8 @@ use Prim.Native.Nat.{ℕ, zero, suc, ◌+◌, ◌-◌, ◌*◌, ◌/◌, ◌%◌
 use native.Mathlib.Nat.{pow-zero, pow-suc, pow-succ', mul-add, mul_assoc, mul_comm, mul-zero, mul-pos, zero-add, add-zero, lt_of_le_of_lt, add-mul-div_left, div-eq_of_lt, div-one, add-mul-mod_self_left, mod-eq_of_lt}
 use native.Mathlib.Omega.{arith}
 use lib.Arith.{digits_lt}
-use lib.ListN.{length, get_or, take, drop, length-take, replicate, length-replicate, get_or-replicate}
-use lib.Seq.{take-append_seam, drop-append_seam, drop-length, take-nil}
+use lib.ListN.{length, get_or, take, drop, length-take, length-drop, replicate, length-replicate, get_or-replicate}
+use lib.Seq.{get_or-drop, take-append_seam, drop-append_seam, drop-length, take-nil}
 use Rattle.integers.specs.Positional.{positional, bytes_value, Unpadded, Significant}
 
 -- every element is below the base
@@ -90,6 +90,11 @@ positional_zero : (base : ℕ) (l : List ℕ) → ((i : ℕ) → i < length l �
 unfolding positional
 positional_zero base [] h = refl
 positional_zero base (x ∷ l) h = rw (h 0 (omega arith), positional_zero base l (λ i p. h (suc i) (omega arith)), mul-zero) refl
+
+-- the bytes from n on are zero
+pub zero_above : (l : List ℕ) (n : ℕ) → ((k : ℕ) → n ≤ k → k < length l → get_or l k 0 ≡ 0) → bytes_value (drop n l) ≡ 0
+zero_above l n zeros =
+    positional_zero 256 (drop n l) (λ i h. get_or-drop n l i 0 ∙ zeros (n + i) (omega arith) (omega (arith, length-drop n l)))
 
 pub positional_nonzero : (base : ℕ) (l : List ℕ) (i : ℕ) → 0 < base → (get_or l i 0 ≡ 0 → ⊥) → positional base l ≡ 0 → ⊥
 unfolding positional

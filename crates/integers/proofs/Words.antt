@@ -2,16 +2,17 @@
 use mathlib.Core.Path.{◌≡◌, refl, sym, ap, ◌∙◌}
 use mathlib.Core.List.{List, [], ◌∷◌, ◌++◌}
 use Prim.Native.Nat.{ℕ, zero, suc, ◌+◌, ◌*◌, ◌-◌, ◌/◌, ◌%◌, ◌^◌, ◌<◌, ◌≤◌}
-use native.Mathlib.Nat.{zero-add, suc-add, mul_assoc}
+use native.Mathlib.Nat.{zero-add, mul-zero, suc-add, mul_assoc}
 use native.Mathlib.Omega.{arith}
-use lib.ListN.{length, get_or, take, drop, length-take, length-drop}
+use lib.ListN.{length, get_or, take, drop, length-take, length-drop, length-append, replicate, length-replicate, get_or-replicate}
 use lib.Pow.{pow-add}
-use lib.Seq.{get_or-drop, get_or-take, drop-length, drop-drop, length-take-le, take-take, take_all, take-nil, drop-nil}
+use lib.Seq.{drop-drop, take-take, take_all, take-nil, drop-nil}
+use Rattle.std.specs.Int.{w64, from_le_bytes}
 use Rattle.integers.specs.Bits.{bit}
 use Rattle.integers.specs.Positional.{positional, bytes_value, words_value, low_bytes}
 use Rattle.integers.specs.Tabulate.{tabulate}
 use Rattle.integers.proofs.Powers.{power_of_power}
-use Rattle.integers.proofs.Positional.{Below, below_take, below_drop, positional_drop, positional_lt, positional_split, positional_div}
+use Rattle.integers.proofs.Positional.{Below, below_take, below_drop, positional_drop, positional_take, positional_lt, positional_split, positional_append, positional_div, zero_above}
 use Rattle.integers.proofs.Bits.{bit_of_element}
 use Rattle.integers.proofs.LowBytes.{low_add, low_above}
 use Rattle.integers.proofs.Tabulate.{get_d_tabulate, below_tabulate, positional_tabulate}
@@ -20,28 +21,19 @@ use Rattle.integers.proofs.Tabulate.{get_d_tabulate, below_tabulate, positional_
 abbrev pub part : ℕ → ℕ → List ℕ → List ℕ
 part from count l = take count (drop from l)
 
-module _ (l : List ℕ) (from count : ℕ) (few : count ≤ 8) (fits : from + count ≤ length l) where
-  word_length : length (part from count l) ≡ count
-  word_length = length-take-le count (drop from l) (rw length-drop (omega arith))
+-- the value of eight bytes, as std says it
+pub eight_bytes : (l : List ℕ) → length l ≡ 8 → from_le_bytes w64 l ≡ bytes_value l
+unfolding positional
+eight_bytes l h =
+    let none : bytes_value (take 0 l) ≡ 0 = refl in
+    omega (arith, ap bytes_value (take_all 8 l (omega arith)), positional_take 256 0 l, positional_take 256 1 l, positional_take 256 2 l, positional_take 256 3 l, positional_take 256 4 l, positional_take 256 5 l, positional_take 256 6 l, positional_take 256 7 l)
 
-  -- one byte more below what was read
-  pub word_step : (i : ℕ) → 0 < i → i ≤ count
-      → bytes_value (drop i (part from count l)) * 256 + get_or l (from + (i - 1)) 0 ≡ bytes_value (drop (i - 1) (part from count l))
-  word_step i h k =
-      let e : i ≡ suc (i - 1) = omega arith in
-      let g : get_or (part from count l) (i - 1) 0 ≡ get_or l (from + (i - 1)) 0 =
-      get_or-take count (drop from l) (i - 1) 0 (omega arith) ∙ get_or-drop from l (i - 1) 0 in
-      omega (arith, positional_drop 256 (part from count l) (i - 1), g, ap (λ (n : ℕ). bytes_value (drop n (part from count l))) e)
-
-  -- what was read leaves room for another byte
-  pub word_room : (i : ℕ) → 0 < i → Below 256 l → bytes_value (drop i (part from count l)) < 256 ^ 7
-  word_room i h b =
-      positional_lt 256 7 (drop i (part from count l)) (omega (arith, length-drop i (part from count l), word_length))
-      (below_drop 256 i (part from count l) (omega arith) (below_take 256 count (drop from l) (omega arith) (below_drop 256 from l (omega arith) b)))
-
-  pub word_none : bytes_value (drop count (part from count l)) ≡ 0
-  unfolding positional
-  word_none = rw (ap (λ (n : ℕ). drop n (part from count l)) (sym word_length), drop-length (part from count l))
+-- the same of fewer, with zeros above them
+pub filled_bytes : (l : List ℕ) → length l ≤ 8 → from_le_bytes w64 (l ++ drop (length l) (replicate 8 0)) ≡ bytes_value l
+filled_bytes l h =
+    let rest : List ℕ = drop (length l) (replicate 8 0) in
+    let none : bytes_value rest ≡ 0 = zero_above (replicate 8 0) (length l) (λ k _ below. get_or-replicate 8 k 0 0 (omega (arith, length-replicate {A = ℕ} 8 0))) in
+    eight_bytes (l ++ rest) (omega (arith, length-append l rest, length-drop {A = ℕ} (length l) (replicate 8 0), length-replicate {A = ℕ} 8 0)) ∙ rw (positional_append 256 l rest, none) (omega (arith, mul-zero (256 ^ length l)))
 
 -- ---- all words of a number
 

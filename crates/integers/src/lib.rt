@@ -13,10 +13,9 @@ use rules::NUMBER_WORDS;
 pub fn byte_at(number: &[u8], place: usize) -> u64
     ensures { (result ≡ get_or number.now place 0) × (result < 256) }
 {
-    if place < number.len() {
-        number[place] as u64
-    } else {
-        0
+    match number.get(place) {
+        Some(byte) => u64::from(*byte),
+        None => 0,
     }
 }
 
@@ -24,14 +23,10 @@ pub fn byte_at(number: &[u8], place: usize) -> u64
 pub fn significant(number: &[u8]) -> usize
     ensures { Significant number.now result }
 {
-    let mut n = number.len();
-    while 0 < n {
-        if number[n - 1] != 0 {
-            return n;
-        }
-        n -= 1;
+    match number.iter().rposition(|byte| *byte != 0) {
+        Some(top) => top + 1,
+        None => 0,
     }
-    n
 }
 
 // The bit at a place.
@@ -69,7 +64,7 @@ pub fn bit_length(number: &[u8]) -> usize
     if n == 0 {
         return 0;
     }
-    8 * (n - 1) + (64 - u64::leading_zeros(byte_at(number, n - 1)) as usize)
+    8 * (n - 1) + (64 - byte_at(number, n - 1).leading_zeros() as usize)
 }
 
 // How many bits of a number are 1: those of its whole words, and those of the bytes above them.
@@ -79,27 +74,20 @@ pub fn ones(number: &[u8]) -> usize
 {
     let words = number.len() / 8;
     let mut total = 0;
-    let mut k = 0;
-    while k < words {
-        total += u64::count_ones(whole_word_at(number, 8 * k)) as usize;
-        k += 1;
+    for k in 0..words {
+        total += whole_word_at(number, 8 * k).count_ones() as usize;
     }
-    total + u64::count_ones(word_of(number, 8 * words, number.len() % 8)) as usize
+    total + word_of(&number[8 * words..]).count_ones() as usize
 }
 
-// The value of `count` bytes from `from` on.
-fn word_of(bytes: &[u8], from: usize, count: usize) -> u64
-    requires count_bound { count ≤ 8 }
-    requires count_in_bounds { from + count ≤ length bytes.now }
-    ensures { result ≡ bytes_value (take count (drop from bytes.now)) }
+// The value of at most eight bytes.
+fn word_of(bytes: &[u8]) -> u64
+    requires { length bytes.now ≤ 8 }
+    ensures { result ≡ bytes_value bytes.now }
 {
-    let mut word: u64 = 0;
-    let mut i = count;
-    while 0 < i {
-        word = word * 256 + bytes[from + (i - 1)] as u64;
-        i -= 1;
-    }
-    word
+    let mut word = [0; 8];
+    word[..bytes.len()].copy_from_slice(bytes);
+    u64::from_le_bytes(word)
 }
 
 // The value of the eight bytes from `from` on.
@@ -107,21 +95,18 @@ pub fn whole_word_at(bytes: &[u8], from: usize) -> u64
     requires { from + 8 ≤ length bytes.now }
     ensures { result ≡ bytes_value (take 8 (drop from bytes.now)) }
 {
-    word_of(bytes, from, 8)
+    word_of(&bytes[from..from + 8])
 }
 
 // The value of the eight bytes from `from` on, or of those that there are. Eight are one load.
 fn word_at(bytes: &[u8], from: usize) -> u64
     ensures { result ≡ bytes_value (take 8 (drop from bytes.now)) }
 {
-    if bytes.len() <= from {
-        return 0;
+    match bytes.get(from..) {
+        Some(rest) if 8 <= rest.len() => whole_word_at(rest, 0),
+        Some(rest) => word_of(rest),
+        None => 0,
     }
-    let count = bytes.len() - from;
-    if 8 <= count {
-        return whole_word_at(bytes, from);
-    }
-    word_of(bytes, from, count)
 }
 
 // The words of a number. Bytes above the limit are left out.
@@ -129,10 +114,8 @@ pub fn words_of(number: &[u8]) -> [u64; NUMBER_WORDS]
     ensures { words_value result ≡ bytes_value (take number_bytes number.now) }
 {
     let mut words = [0u64; NUMBER_WORDS];
-    let mut k = 0;
-    while k < NUMBER_WORDS {
-        words[k] = word_at(number, 8 * k);
-        k += 1;
+    for (k, word) in words.iter_mut().enumerate() {
+        *word = word_at(number, 8 * k);
     }
     words
 }

@@ -1,28 +1,20 @@
--- `integers::significant` meets its contract: the bytes from n on are zero. Assumes nothing.
-use mathlib.Core.Path.{◌≡◌, ap}
-use Prim.Native.Nat.{ℕ, suc, ◌-◌}
-use native.Mathlib.Omega.{arith}
-use lib.ListN.{drop}
-use lib.Seq.{drop-length}
-use Rattle.integers.specs.Positional.{positional, bytes_value}
-use Rattle.integers.proofs.Positional.{positional_drop}
-use borrow.Author.Rules.{rules}
+-- `integers::significant` meets its contract. Assumes nothing.
+use Rattle.std.proofs.Common.{◌≡◌, ◌≢◌, ℕ, ◌+◌, ◌<◌, ◌≤◌, length, get_or, arith}
+use native.Mathlib.Numerals.{unary_clauses}
+use Rattle.std.proofs.lemmas.Grind.{common_steps}
+use Rattle.integers.proofs.Positional.{zero_above}
 use Rattle.integers.proofs.significant.Goals as goal
 
-pub loop-n-init : goal.loop-n-init
-unfolding positional
-loop-n-init c = (search rules, rw (drop-length c.args.number.now))
-
-pub returns-then-number-n-ne0 : goal.returns-then-number-n-ne0
-returns-then-number-n-ne0 c =
-    record { within = c.loop-n.invariant.0; whole = c.loop-n.invariant.1; top = λ h. c.if-number-n-ne0.true }
-
-pub loop-n-preserved : goal.loop-n-preserved
-loop-n-preserved c =
+pub returns-in-Some : goal.returns-in-Some
+returns-in-Some c =
     let number = c.args.number.now in
-    let e : c.loop-n.n ≡ suc (c.loop-n.n - 1) = omega arith in
-    (omega arith, omega (arith, positional_drop 256 number (c.loop-n.n - 1), ap (λ (n : ℕ). bytes_value (drop n number)) e))
+    let within : c.in-Some.top < length number = grind (arith, common_steps) in
+    let zeros : (k : ℕ) → c.in-Some.top + 1 ≤ k → k < length number → get_or number k 0 ≡ 0 = λ k above below. grind (arith, common_steps) in
+    let top : get_or number c.in-Some.top 0 ≢ 0 = λ z. grind (arith, common_steps) in
+    record { within = omega arith; whole = zero_above number (c.in-Some.top + 1) zeros; top = λ h. simp unary_clauses top }
 
-pub returns : goal.returns
-returns c =
-    record { within = c.loop-n.invariant.0; whole = c.loop-n.invariant.1; top = λ h. absurd (omega arith) }
+pub returns-in-None : goal.returns-in-None
+returns-in-None c =
+    let number = c.args.number.now in
+    let zeros : (k : ℕ) → 0 ≤ k → k < length number → get_or number k 0 ≡ 0 = λ k above below. grind (arith, common_steps) in
+    record { within = omega arith; whole = zero_above number 0 zeros; top = λ h. absurd (omega arith) }

@@ -1,15 +1,10 @@
 -- `integers::words_of` meets its contract: after k turns the first k words stand. Assumes nothing.
-use mathlib.Core.Path.{◌≡◌, ◌∙◌, ap}
-use mathlib.Core.List.{List, ◌++◌, append-nil}
-use Prim.Native.Nat.{ℕ, ◌+◌}
-use native.Mathlib.Omega.{arith}
-use lib.ListN.{drop, set, replicate}
+use Rattle.std.proofs.Common.{◌≡◌, ℕ, List, replicate, ap, ◌∙◌, append-nil, arith, rules}
 use Rattle.rules.specs.Limits.{number_words}
 use Rattle.integers.specs.Positional.{words_value}
 use Rattle.integers.specs.Tabulate.{tabulate}
 use Rattle.integers.proofs.Tabulate.{tabulate_more}
 use Rattle.integers.proofs.Words.{word_at, words_value_lem}
-use borrow.Author.Rules.{rules}
 use Rattle.integers.proofs.words_of.Goals as goal
 
 pub loop-k-init : goal.loop-k-init
@@ -20,13 +15,11 @@ pub loop-k-preserved : goal.loop-k-preserved
 loop-k-preserved c =
     let number = c.args.number.now in
     let zeros : List ℕ = replicate number_words 0 in
-    let e : set c.loop-k.words c.loop-k.k c.word_at.result ≡ tabulate (word_at number) (c.loop-k.k + 1) ++ drop (c.loop-k.k + 1) zeros =
-    rw (c.word_at.ensures, c.loop-k.invariant.2) (tabulate_more (word_at number) zeros c.loop-k.k (search rules)) in
-    (search rules, search rules, e)
+    (search rules, rw (c.word_at.ensures, c.loop-k.invariant.1) (tabulate_more (word_at number) zeros c.loop-k.k (search rules)))
 
 pub returns : goal.returns
 returns c =
     let number = c.args.number.now in
     let e : c.loop-k.k ≡ number_words = omega arith in
-    let f : c.loop-k.words ≡ tabulate (word_at number) number_words = (rw e at c.loop-k.invariant.2) ∙ append-nil (tabulate (word_at number) number_words) in
+    let f : c.loop-k.word-items ≡ tabulate (word_at number) number_words = (rw e at c.loop-k.invariant.1) ∙ append-nil (tabulate (word_at number) number_words) in
     ap words_value f ∙ words_value_lem number number_words

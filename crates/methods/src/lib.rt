@@ -3,8 +3,6 @@
 // them.
 #![tactic(auto)]
 
-use rules::Refusal;
-
 // Windows have from 1 to this many bits.
 pub const FIXED_WINDOW_BITS: usize = 6;
 
@@ -19,11 +17,4 @@ pub enum Method {
     Naf,
     WideNaf(usize),
     ModifiedNaf,
-}
-
-// The method that is asked for, or why there is none.
-#[derive(Drop)]
-pub enum Chosen {
-    Method(Method),
-    Refused(Refusal),
 }

@@ -1,5 +1,6 @@
 -- Three times a number, a byte at a time. Assumes nothing.
 use mathlib.Core.Path.{◌≡◌, refl, sym, ◌∙◌}
+use mathlib.Core.List.{List, ◌++◌}
 use Prim.Native.Nat.{ℕ, zero, suc, ◌+◌, ◌*◌, ◌/◌, ◌%◌, ◌^◌, ◌<◌, ◌≤◌}
 use native.Mathlib.Nat.{pow-suc, mul_left_comm, mul_comm, mod-lt, div-add-mod, add-mul-div_left, add-mul-mod_self_left, div-div-eq-div-mul, div-lt_iff_lt-mul}
 use native.Mathlib.Numerals.{add-one}
@@ -9,6 +10,8 @@ use lib.IntN.{pos}
 use lib.ListN.{length}
 use lib.Pow.{shr-shr}
 use Rattle.integers.specs.Bits.{bit, bit_length}
+use Rattle.integers.specs.Positional.{bytes_value}
+use Rattle.integers.proofs.Positional.{positional_append}
 use Rattle.integers.proofs.Bits.{power_of_bytes, power_positive, low_bits, bit_length_iff}
 use Rattle.signed_digits.specs.Naf.{canonical}
 use Rattle.signed_digits.proofs.Length.{length_at_most}
@@ -36,6 +39,11 @@ carry_small e k =
 pub carry_none : (e : ℕ) → triple_carry e 0 ≡ 0
 unfolding triple_carry
 carry_none e = omega arith
+
+-- the bytes above change nothing
+pub carry_below : (low high : List ℕ) → triple_carry (bytes_value (low ++ high)) (length low) ≡ triple_carry (bytes_value low) (length low)
+unfolding triple_carry
+carry_below low high = rw (positional_append 256 low high, add-mul-mod_self_left)
 
 -- one byte more
 pub carry_step : (e k : ℕ) → triple_carry e (k + 1) ≡ (3 * (e / 256 ^ k % 256) + triple_carry e k) / 256

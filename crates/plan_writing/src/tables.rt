@@ -13,16 +13,9 @@ use rules::Counts;
 pub fn table_counts(n: usize) -> Counts
     ensures { result ≡ table_counts n }
 {
-    if n == 0 {
-        return Counts {
-            doublings: 0,
-            additions: 0,
-            subtractions: 0,
-        };
-    }
     Counts {
-        doublings: 1,
-        additions: n - 1,
+        doublings: usize::from(n != 0),
+        additions: n.saturating_sub(1),
         subtractions: 0,
     }
 }
@@ -41,10 +34,8 @@ pub fn write_table(out: &mut [u8], n: usize, later: usize) -> Cursor
     ensures { Writing out.old out.new result (record { steps = table_by (second_of later) n; latest = n }) }
 {
     let mut c = Cursor::first();
-    let mut i = 0;
-    while i < n {
+    for i in 0..n {
         c = c.add_at(out, second(i, later));
-        i += 1;
     }
     c
 }

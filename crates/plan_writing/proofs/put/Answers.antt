@@ -24,4 +24,4 @@ pub returns : goal.returns
 unfolding step_bytes_of
 returns c =
     let args = c.args in
-    five_stores args.out.now (step_bytes * args.n) args.operation (args.j % 256) (args.j / 256 % 256) (args.k % 256) (args.k / 256 % 256) (search rules)
+    rw (c.to_le_bytes.ensures, c.to_le_bytes-2.ensures) (five_stores args.out.now (step_bytes * args.n) args.operation (args.j % 256) (args.j / 256 % 256) (args.k % 256) (args.k / 256 % 256) (search rules))

@@ -1,6 +1,6 @@
 -- `plan_writing::tables::write_table` meets its contract: i steps are written. Assumes nothing.
 use mathlib.Core.Path.{◌≡◌}
-use Prim.Native.Nat.{◌-◌, ◌≤◌}
+use Prim.Native.Nat.{◌≤◌}
 use lib.ListN.{length}
 use Rattle.methods.specs.Tables.{second_of}
 use Rattle.methods.proofs.Tables.{tabled}
@@ -9,6 +9,3 @@ use Rattle.plan_writing.proofs.tables.write_table.Given as goal
 
 abbrev pub invariant-loop-i : goal.invariant-loop-i
 invariant-loop-i l = (l.i ≤ l.n) × (length l.out ≡ length l.initial.out) × (l.c.steps ≡ l.i) × Writing l.initial.out l.out l.c (tabled (second_of l.later) l.i l.i)
-
-abbrev pub decreases-loop-i : goal.decreases-loop-i
-decreases-loop-i l = l.n - l.i

@@ -2,12 +2,11 @@
 use mathlib.Core.Path.{◌≡◌, refl, sym, ap, ◌∙◌}
 use mathlib.Core.Bool.{Bool, true, false, cond}
 use mathlib.Core.List.{List, [], ◌∷◌, ◌++◌, flatten, append_assoc, append-nil}
-use Prim.Native.Nat.{ℕ, zero, suc, ◌+◌, ◌-◌, ◌*◌, ◌/◌, ◌<◌, ◌≤◌}
+use Prim.Native.Nat.{ℕ, zero, suc, ◌+◌, ◌*◌, ◌/◌, ◌<◌, ◌≤◌}
 use native.Mathlib.Omega.{arith}
-use native.Mathlib.Decide.{dec_lt}
-use lib.ListN.{length, get_or, take, drop, length-append}
+use lib.ListN.{length, get_or, length-append}
 use Rattle.text_words.specs.Words.{is_blank, ended, words_after, text_words}
-use Rattle.text_words.proofs.Passing.{begun, first_word, none_left}
+use Rattle.text_words.proofs.Passing.{begun}
 
 -- ---- a word has a byte, and no blank
 
@@ -99,21 +98,6 @@ kept word (c ∷ text) = go (is_blank c) (kept [] text) (kept (word ++ (c ∷ []
 
 pub all_kept : (text : List ℕ) → flatten (text_words text) ≡ letters text
 all_kept = kept []
-
--- ---- what `next_word` gives while a word is left is that word
-
-module _ (text : List ℕ) (at start end : ℕ) (ordered : start ≤ end) (within : end ≤ length text) (empty : start ≡ end → end ≡ length text) where
-  pub next_is_first : text_words (drop at text) ≡ ended (take (end - start) (drop start text)) ++ text_words (drop end text) → 0 < length (text_words (drop at text))
-      → text_words (drop at text) ≡ take (end - start) (drop start text) ∷ text_words (drop end text)
-  next_is_first e some = go (dec_lt start end)
-    where
-      go : Dec (start < end) → text_words (drop at text) ≡ take (end - start) (drop start text) ∷ text_words (drop end text)
-      go (yes l) = e ∙ sym (first_word text start end (text_words (drop end text)) l within)
-      go (no l) =
-          let no_byte : end - start ≡ 0 = omega arith in
-          let last : end ≡ length text = empty (omega arith) in
-          let nothing : text_words (drop at text) ≡ [] = (rw no_byte at e) ∙ none_left text end (omega arith) in
-          absurd (omega (arith, ap length nothing))
 
 -- ---- each word but the last has a blank behind it
 

@@ -1,4 +1,4 @@
--- The test that two words are the same tells whether they are equal; the digit of a word by such tests. Assumes nothing.
+-- The test that two words are the same tells whether they are equal; what is no digit by such tests. Assumes nothing.
 use mathlib.Core.Path.{◌≡◌, refl, sym, ap, ◌∙◌}
 use mathlib.Core.Logic.{◌≢◌}
 use mathlib.Core.Bool.{Bool, true, false, cond, true≢false}
@@ -44,42 +44,17 @@ differ a b i h = go (same a b) refl
     go true e = absurd (h (ap (λ (l : List ℕ). get_or l i 0) (same_is a b e)))
     go false e = e
 
-one_byte : (word : List ℕ) → length word ≡ 1 → word ≡ get_or word 0 0 ∷ []
-one_byte [] l = absurd (omega arith)
-one_byte (c ∷ []) l = refl
-one_byte (c ∷ d ∷ word) l = absurd (omega arith)
-
-two_bytes : (word : List ℕ) → length word ≡ 2 → word ≡ get_or word 0 0 ∷ get_or word 1 0 ∷ []
-two_bytes [] l = absurd (omega arith)
-two_bytes (c ∷ []) l = absurd (omega arith)
-two_bytes (c ∷ d ∷ []) l = refl
-two_bytes (c ∷ d ∷ e ∷ word) l = absurd (omega arith)
-
--- ---- the digit of a word, by its length and its bytes
+-- ---- words that are no digit's, by their length and their bytes
 
 module _ (word : List ℕ) where
   pub other_length : (length word ≡ 1 → ⊥) → (length word ≡ 2 → ⊥) → 2 ≡ word_digit word
   unfolding word_digit
   other_length h k = simp (longer word zero_word h, longer word one_word h, longer word minus_one_word k)
 
-  module _ (l : length word ≡ 1) where
-    pub zero_digit : get_or word 0 0 ≡ 48 → 0 ≡ word_digit word
-    unfolding same word_digit
-    zero_digit h = let e : word ≡ zero_word = cc (one_byte word l) in rw e
+  pub other_byte : length word ≡ 1 → (get_or word 0 0 ≡ 48 → ⊥) → (get_or word 0 0 ≡ 49 → ⊥) → 2 ≡ word_digit word
+  unfolding word_digit
+  other_byte l h k = simp (differ word zero_word 0 h, differ word one_word 0 k, longer word minus_one_word (λ e. omega arith))
 
-    pub one_digit : get_or word 0 0 ≡ 49 → 1 ≡ word_digit word
-    unfolding same word_digit
-    one_digit h = let e : word ≡ one_word = cc (one_byte word l) in rw e
-
-    pub other_byte : (get_or word 0 0 ≡ 48 → ⊥) → (get_or word 0 0 ≡ 49 → ⊥) → 2 ≡ word_digit word
-    unfolding word_digit
-    other_byte h k = simp (differ word zero_word 0 h, differ word one_word 0 k, longer word minus_one_word (λ e. omega arith))
-
-  module _ (l : length word ≡ 2) where
-    pub minus_one_digit : get_or word 0 0 ≡ 45 → get_or word 1 0 ≡ 49 → 255 ≡ word_digit word
-    unfolding same word_digit
-    minus_one_digit h k = let e : word ≡ minus_one_word = cc (two_bytes word l) in rw e
-
-    pub other_at : (i : ℕ) → (get_or word i 0 ≡ get_or minus_one_word i 0 → ⊥) → 2 ≡ word_digit word
-    unfolding word_digit
-    other_at i h = simp (longer word zero_word (λ e. omega arith), longer word one_word (λ e. omega arith), differ word minus_one_word i h)
+  pub other_at : length word ≡ 2 → (i : ℕ) → (get_or word i 0 ≡ get_or minus_one_word i 0 → ⊥) → 2 ≡ word_digit word
+  unfolding word_digit
+  other_at l i h = simp (longer word zero_word (λ e. omega arith), longer word one_word (λ e. omega arith), differ word minus_one_word i h)

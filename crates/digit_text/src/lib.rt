@@ -5,36 +5,23 @@ ghost use Rattle.std.specs.Prelude.{◌≡◌, length};
 ghost use Rattle.digit_text.specs.Digits.{word_digit, digits_answer, digits_buffer};
 
 use rules::Refusal;
-use text_words::{next_word, word_count};
+use text_words::{TextWords, word_count};
 
 // The byte of a word that is no digit. It is none either, so the calls that take digits refuse it at
 // its place.
 const NO_DIGIT: u8 = 2;
 
 // The byte of the digit that a word is.
-#[tactic(auto, using(crate::proofs::Comparing::zero_digit, crate::proofs::Comparing::one_digit, crate::proofs::Comparing::other_byte, crate::proofs::Comparing::other_length, crate::proofs::Comparing::other_at, crate::proofs::Comparing::minus_one_digit))]
+#[tactic(auto, using(crate::proofs::Comparing::other_length, crate::proofs::Comparing::other_byte, crate::proofs::Comparing::other_at), unfolding(crate::specs::Digits::word_digit, crate::specs::Digits::same))]
 fn digit_of(word: &[u8]) -> u8
     ensures { result ≡ word_digit word.now }
 {
-    if word.len() == 1 {
-        if word[0] == b'0' {
-            return 0;
-        }
-        if word[0] == b'1' {
-            return 1;
-        }
-        return NO_DIGIT;
+    match word {
+        b"0" => 0,
+        b"1" => 1,
+        b"-1" => 255,
+        _ => NO_DIGIT,
     }
-    if word.len() != 2 {
-        return NO_DIGIT;
-    }
-    if word[0] != b'-' {
-        return NO_DIGIT;
-    }
-    if word[1] != b'1' {
-        return NO_DIGIT;
-    }
-    255
 }
 
 // Writes the digits of a text, least significant first: the first word's digit goes to the last place.
@@ -46,15 +33,8 @@ pub fn read_digits(text: &[u8], out: &mut [u8]) -> Result<usize, Refusal>
     if out.len() < n {
         return Err(Refusal::RoomTooSmall(n));
     }
-    let mut left = n;
-    let mut at = 0;
-    while 0 < left {
-        let word = next_word(text, at);
-        let start = word.start;
-        let end = word.end;
-        left -= 1;
-        out[left] = digit_of(&text[start..end]);
-        at = end;
+    for (place, word) in (0..n).rev().zip(TextWords { text }) {
+        out[place] = digit_of(word);
     }
     Ok(n)
 }

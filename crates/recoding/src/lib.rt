@@ -9,6 +9,7 @@ use recoding_digits::{count, write};
 use rules::Refusal;
 
 // Writes the canonical string of a number, lowest digit first, one byte a digit.
+#[tactic(auto, using(numbers::proofs::Tests::admitted_is, rules::proofs::Fitted::too_small, rules::proofs::Fitted::fits, crate::proofs::Outcomes::length_recoding, crate::proofs::Outcomes::recoding_written))]
 pub fn recode(number: &[u8], out: &mut [u8]) -> Result<usize, Refusal>
     ensures answer { result ≡ recode_answer number.now (length out.old) }
     ensures buffer { out.new ≡ recode_buffer number.now out.old }

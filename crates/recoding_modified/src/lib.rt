@@ -12,6 +12,7 @@ use rules::Refusal;
 use triples::tripled;
 
 // Writes the modified form of a number, lowest digit first, one byte a digit.
+#[tactic(auto, using(numbers::proofs::Tests::admitted_is, numbers::proofs::Tests::admitted_value, rules::proofs::Fitted::too_small, rules::proofs::Fitted::fits, crate::proofs::Outcomes::length_recoding), unfolding(crate::specs::RecodeModified::modified_recoding))]
 pub fn recode_modified(number: &[u8], out: &mut [u8]) -> Result<usize, Refusal>
     ensures answer { result ≡ recode_modified_answer number.now (length out.old) }
     ensures buffer { out.new ≡ recode_modified_buffer number.now out.old }

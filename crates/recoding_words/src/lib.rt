@@ -11,6 +11,7 @@ use rules::Refusal;
 use triples::{count, tripled};
 
 // Writes the canonical string of a number, lowest digit first, one byte a digit.
+#[tactic(auto, using(numbers::proofs::Tests::admitted_is, numbers::proofs::Tests::admitted_value, rules::proofs::Fitted::too_small, rules::proofs::Fitted::fits, recoding::proofs::Outcomes::length_recoding, recoding::proofs::Outcomes::recoding_written))]
 pub fn recode_words(number: &[u8], out: &mut [u8]) -> Result<usize, Refusal>
     ensures answer { result ≡ recode_answer number.now (length out.old) }
     ensures buffer { out.new ≡ recode_buffer number.now out.old }

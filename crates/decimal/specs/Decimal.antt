@@ -1,8 +1,7 @@
 -- Numbers in decimal, as people write them: most significant digit first, in ASCII.
-use Rattle.std.specs.Prelude.{ℕ, suc, ◌+◌, ◌-◌, ◌*◌, ◌/◌, ◌%◌, ◌^◌, Bool, false, cond, List, [], ◌∷◌, ◌++◌, ltb, leb, eqb, length, drop}
+use Rattle.std.specs.Prelude.{ℕ, suc, ◌+◌, ◌-◌, ◌*◌, ◌/◌, ◌%◌, ◌^◌, Bool, false, cond, List, [], ◌∷◌, ◌++◌, ltb, leb, eqb, length, drop, Result, Ok, Err}
 use Rattle.integers.specs.Positional.{bytes_of, low_bytes}
-use Rattle.decimal.specs.declared.Parsed.{Parsed}
-use Rattle.decimal.specs.declared.Parsed.TheVariants.{Bytes, NotDecimal}
+use Rattle.decimal.specs.declared.NotDecimal.{NotDecimal}
 
 -- 0 to 9
 unfoldable pub is_digit : ℕ → Bool
@@ -22,17 +21,21 @@ decimal_value (c ∷ text) = (c - 48) * 10 ^ length text + decimal_value text
 abbrev pub byte_count : List ℕ → ℕ
 byte_count text = length text / 2 + length text % 2
 
+-- no number: so many digits come before the first byte that is none
+abbrev pub no_number : ℕ → Result ℕ NotDecimal
+no_number digits = Err (record { digits = digits })
+
 -- a text is a number where it has a digit, all are digits, and there is room for as many bytes as are enough. The answer is how many bytes it has without high zero bytes
-unfoldable pub parsed : List ℕ → ℕ → Parsed
+unfoldable pub parsed : List ℕ → ℕ → Result ℕ NotDecimal
 parsed text room =
-    cond (ltb (leading text) (length text)) (NotDecimal (leading text))
-    (cond (eqb (length text) 0) (NotDecimal 0)
-    (cond (ltb room (byte_count text)) (NotDecimal (length text)) (Bytes (length (bytes_of (decimal_value text))))))
+    cond (ltb (leading text) (length text)) (no_number (leading text))
+    (cond (eqb (length text) 0) (no_number 0)
+    (cond (ltb room (byte_count text)) (no_number (length text)) (Ok (length (bytes_of (decimal_value text))))))
 
 -- the buffer afterwards: the number in as many bytes as are enough, and those above stay; where there is no number, as it was
-abbrev pub leaves : Parsed → List ℕ → List ℕ → List ℕ
-leaves (Bytes n) text bytes = low_bytes (byte_count text) (decimal_value text) ++ drop (byte_count text) bytes
-leaves (NotDecimal place) text bytes = bytes
+abbrev pub leaves : Result ℕ NotDecimal → List ℕ → List ℕ → List ℕ
+leaves (Ok n) text bytes = low_bytes (byte_count text) (decimal_value text) ++ drop (byte_count text) bytes
+leaves (Err e) text bytes = bytes
 
 abbrev pub parsed_buffer : List ℕ → List ℕ → List ℕ
 parsed_buffer text bytes = leaves (parsed text (length bytes)) text bytes

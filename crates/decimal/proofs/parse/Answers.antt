@@ -1,58 +1,43 @@
 -- `decimal::parse` meets its contract: each answer goes by the tests that led to it. Assumes nothing.
-use mathlib.Core.Path.{◌≡◌, ap}
-use mathlib.Core.Bool.{true, false}
+use mathlib.Core.Path.{◌≡◌, refl, sym, ap, ◌∙◌}
+use mathlib.Core.Logic.{inl, inr}
+use mathlib.Core.List.{List, ◌++◌}
+use Prim.Native.Nat.{ℕ}
 use native.Mathlib.Omega.{arith}
-use lib.Dec.{ltb}
-use lib.ListN.{length, drop}
-use borrow.Author.Tests.{eq-eqb, ne_eqb, lt-ltb, le-ltb}
-use Rattle.decimal.specs.Decimal.{leading, decimal_value, byte_count, parsed}
-use Rattle.decimal.specs.declared.Parsed.TheVariants.{Bytes, NotDecimal}
-use Rattle.decimal.proofs.Digits.{leading_within, value_fits}
-use Rattle.decimal.proofs.Value.{significant_length}
-use borrow.Author.Rules.{rules}
+use borrow.Author.Tests.{eqb-true, eqb-false}
+use lib.ListN.{length, take, drop}
+use lib.Seq.{length-take-le}
+use Rattle.integers.specs.Positional.{low_bytes}
+use Rattle.decimal.specs.Decimal.{decimal_value, byte_count}
+use Rattle.decimal.proofs.Digits.{stops_nowhere, value_fits}
+use Rattle.decimal.proofs.Value.{stopped, unfit, number, significant_length}
 use Rattle.decimal.proofs.parse.Goals as goal
 
-pub returns-then-digits-text : goal.returns-then-digits-text
-unfolding parsed
-returns-then-digits-text c =
-    let count = c.leading_digits-digits.ensures in
-    let text = c.args.text.now in
-    let other : ltb (leading text) (length text) ≡ true = lt-ltb _ _ (rw count at c.if-digits-text.true) in
-    record { answer = simp other (ap NotDecimal count); buffer = simp other }
+pub returns-in-Some : goal.returns-in-Some
+returns-in-Some c =
+    let e = stopped c.args.text.now (length c.args.bytes.now) (sym c.first_other.ensures ∙ c.in-Some.is) in
+    record { answer = e; buffer = rw (← e) refl }
 
-pub returns-then-text-eq0 : goal.returns-then-text-eq0
-unfolding parsed
-returns-then-text-eq0 c =
+pub returns-then-is_empty : goal.returns-then-is_empty
+returns-then-is_empty c =
     let text = c.args.text.now in
-    let digits : ltb (leading text) (length text) ≡ false = le-ltb _ _ (rw c.leading_digits-digits.ensures at c.if-digits-text.false) in
-    let none = eq-eqb _ _ c.if-text-eq0.true in
-    record { answer = simp (digits, none); buffer = simp (digits, none) }
-
-pub returns-then-bytes-n : goal.returns-then-bytes-n
-unfolding parsed
-returns-then-bytes-n c =
-    let text = c.args.text.now in
-    let digits : ltb (leading text) (length text) ≡ false = le-ltb _ _ (rw c.leading_digits-digits.ensures at c.if-digits-text.false) in
-    let some = ne_eqb _ _ c.if-text-eq0.false in
-    let short = lt-ltb _ _ c.if-bytes-n.true in
-    record { answer = simp (digits, some, short); buffer = simp (digits, some, short) }
+    let room = length c.args.bytes.now in
+    let none = sym c.first_other.ensures ∙ c.in_default.is in
+    let e =
+    unfit text room none (elim c.then-is_empty.either [ inl z ↦ inl (eqb-true (length text) 0 (sym c.is_empty.ensures ∙ z)) | inr short ↦ inr short.1 ]) in
+    record { answer = e; buffer = rw (← e) refl }
 
 pub write-requires : goal.write-requires
-write-requires c = record {
-  text_value = omega (arith, leading_within c.args.text.now, c.leading_digits-digits.ensures);
-  n_in_bounds = search rules;
-}
+write-requires c = record { text_value = stops_nowhere c.args.text.now (sym c.first_other.ensures ∙ c.in_default.is) }
 
 pub returns : goal.returns
-unfolding parsed
 returns c =
-    let args = c.args in
-    let text = args.text.now in
-    let count = c.leading_digits-digits.ensures in
-    let all : leading text ≡ length text = omega (arith, leading_within text, count) in
-    let digits : ltb (leading text) (length text) ≡ false = le-ltb (leading text) (length text) (omega arith) in
-    let some = ne_eqb _ _ c.if-text-eq0.false in
-    let room = le-ltb _ _ c.if-bytes-n.false in
-    let written = c.write.ensures in
-    let high = significant_length (decimal_value text) (byte_count text) c.significant-length.result (drop (byte_count text) args.bytes.now) (value_fits text all) (rw written at c.significant-length.ensures) in
-    record { answer = simp (digits, some, room) (ap Bytes high); buffer = simp (digits, some, room) written }
+    let text = c.args.text.now in
+    let bytes = c.args.bytes.now in
+    let none = sym c.first_other.ensures ∙ c.in_default.is in
+    let n : ℕ = byte_count text in
+    let long : length (take n bytes) ≡ n = length-take-le n bytes (omega arith) in
+    let written : c.write.new.bytes ≡ low_bytes n (decimal_value text) = c.write.ensures ∙ ap (λ (m : ℕ). low_bytes m (decimal_value text)) long in
+    let size = significant_length (decimal_value text) n c.significant.result (drop n bytes) (value_fits text (stops_nowhere text none)) (rw written at c.significant.ensures) in
+    let e = number text (length bytes) none (eqb-false (length text) 0 (sym c.if-is_empty.ensures)) (omega arith) size in
+    record { answer = e; buffer = rw (← e) (ap (λ (l : List ℕ). l ++ drop n bytes) written) }

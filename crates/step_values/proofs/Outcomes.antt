@@ -1,5 +1,5 @@
 -- What checking a step comes to at each of its outcomes. Assumes nothing.
-use Rattle.std.specs.Prelude.{Ok, Err}
+use Rattle.std.specs.Prelude.{Result, Ok, Err}
 use mathlib.Core.Path.{◌≡◌, refl, sym, ap, ◌∙◌}
 use mathlib.Core.Logic.{◌≢◌}
 use mathlib.Core.Bool.{Bool, true, false, cond}
@@ -26,7 +26,8 @@ use Rattle.chains.specs.Records.{record_of}
 use Rattle.records.specs.Recording.{Recording, size_bytes, distance_of}
 use Rattle.records.proofs.Recording.{has_record, recording_more}
 use Rattle.records.proofs.Records.{record_read}
-use Rattle.step_values.specs.Verdicts.{is_well_formed, step_verdict, StepChecked, signs_at}
+use Rattle.step_values.specs.Verdicts.{is_well_formed, step_verdict, step_answer, grown, StepChecked, signs_at}
+use Rattle.rules.specs.Outcome.{and_then}
 use Rattle.step_values.proofs.Signed.{addend, addend_size, agreeing, same_sign, same_sizes, opposite_size, opposite_sign, opposite_differ}
 use Rattle.step_values.proofs.Tested.{value_is_zero, value_too_large, passed, size_zero, tested_only}
 
@@ -67,8 +68,10 @@ not_zero z d e = d (ap nat_abs e)
 distance_lt : (m n b : ℕ) → m < b → n < b → distance_of m n < b
 distance_lt m n b hm hn = omega arith
 
-failed_not_passed : {r : Refusal} → Err r ≡ Ok tt → ⊥
-failed_not_passed e = let z : ◌≡◌ {A = ℕ} 0 1 = cc in omega arith
+module _ (lent next : List ℕ) (values : List ℤ) (s : Step) {v : Result Unit Refusal} (e : step_verdict values s ≡ v) where
+  answered : {r : Result Bool Refusal} → r ≡ and_then v (Ok (is_doubling values s)) → Recording lent next (grown v values (step_value values s))
+      → (r ≡ step_answer values s) × Recording lent next (grown (step_verdict values s) values (step_value values s))
+  answered q w = rw e (q, w)
 
 -- ---- the sign and the size in record j
 
@@ -85,9 +88,9 @@ read {lent} {here} {values} j r h fits = record_read here (record_bytes * j) fit
 -- ---- the outcomes
 
 module _ (s : Step) (n : ℕ) (here : List ℕ) where
-  pub malformed_checked : is_well_formed (n + 1) s ≡ false → (d : Bool) → StepChecked s n here here (Err (MalformedStep (n + 1))) d
+  pub malformed_checked : is_well_formed (n + 1) s ≡ false → StepChecked s n here here (Err (MalformedStep (n + 1)))
   unfolding step_verdict
-  malformed_checked h d lent values long r = (rw (long, h), r, λ e. absurd (failed_not_passed e))
+  malformed_checked h lent values long r = answered lent here values s {v = Err (MalformedStep (n + 1))} (rw (long, h)) refl r
 
   module _ (formed : WellFormed (n + 1) s) (room : record_bytes * n + 2 * record_bytes ≤ length here) where
     abbrev first : ℕ
@@ -137,14 +140,14 @@ module _ (s : Step) (n : ℕ) (here : List ℕ) where
           let q = same_sign (x values s) (w values s) (one_sign values v) in
           rw (value_is values s) (v.sign ∙ sym q.0, rw (v.first_size, v.second_size) (sym q.1))
 
-      pub sum_too_large : ltb (first + second) value_bound ≡ false → (d : Bool) → StepChecked s n here here (Err (ValueTooLarge (n + 1))) d
-      sum_too_large l d lent values long r =
+      pub sum_too_large : ltb (first + second) value_bound ≡ false → StepChecked s n here here (Err (ValueTooLarge (n + 1)))
+      sum_too_large l lent values long r =
           let q = sum_is values (both lent values long r) in
-          (sym (rw long at (tested_only values s (value_too_large (formed_at values long) (rw (← q.1) (ltb-false _ _ l))))), r, λ f. absurd (failed_not_passed f))
+          answered lent here values s (rw long at (tested_only values s (value_too_large (formed_at values long) (rw (← q.1) (ltb-false _ _ l))))) refl r
 
       pub sum_stored : (next : List ℕ) → length next ≡ length here → ltb (first + second) value_bound ≡ true
           → next ≡ placed here (record_bytes * (n + 1)) record_bytes (sign_at here s.first ∷ low_bytes value_bytes (first + second))
-          → (d : Bool) → d ≡ eqb (size_at next s.first) (size_at next s.second) → StepChecked s n here next (Ok tt) d
+          → (d : Bool) → d ≡ eqb (size_at next s.first) (size_at next s.second) → StepChecked s n here next (Ok d)
       unfolding record_of
       sum_stored next kept l store d same lent values long r =
           let v = both lent values long r in
@@ -154,11 +157,9 @@ module _ (s : Step) (n : ℕ) (here : List ℕ) where
           let more : Recording lent next (values ++ (z ∷ [])) = recording_more lent here values r z (n + 1) next long fine (rw (← q.0, ← q.1) store) in
           let again : (j : ℕ) → j < n + 1 → size_at next j ≡ nat_abs (at values j) =
           λ j h. rw (get_or-append values (z ∷ []) (pos 0) j (rw long h)) at (read j more (rw length-append (omega arith)) (omega arith)).1 in
-          let sizes : is_doubling values s ≡ eqb (nat_abs (x values s)) (nat_abs (w values s)) = doubling_same values s ∙ same_sizes (x values s) (w values s) (one_sign values v) in (
-            sym (tested_only values s (passed (formed_at values long) fine)),
-            more,
-            λ f. same ∙ rw (again s.first formed.first, again s.second formed.second, ← addend_size s.operation (at values s.second)) (sym sizes),
-          )
+          let sizes : is_doubling values s ≡ eqb (nat_abs (x values s)) (nat_abs (w values s)) = doubling_same values s ∙ same_sizes (x values s) (w values s) (one_sign values v) in
+          answered lent next values s (tested_only values s (passed (formed_at values long) fine))
+          (ap Ok (same ∙ rw (again s.first formed.first, again s.second formed.second, ← addend_size s.operation (at values s.second)) (sym sizes))) more
 
     -- of opposite signs
     module _ (e : signs ≢ s.operation) where
@@ -168,14 +169,14 @@ module _ (s : Step) (n : ℕ) (here : List ℕ) where
       apart_is : (values : List ℤ) → Values values → distance_of first second ≡ nat_abs (step_value values s)
       apart_is values v = rw (value_is values s, v.first_size, v.second_size) (sym (opposite_size (x values s) (w values s) (two_signs values v)))
 
-      pub apart_zero : eqb (distance_of first second) 0 ≡ true → (d : Bool) → StepChecked s n here here (Err (ValueIsZero (n + 1))) d
-      apart_zero l d lent values long r =
+      pub apart_zero : eqb (distance_of first second) 0 ≡ true → StepChecked s n here here (Err (ValueIsZero (n + 1)))
+      apart_zero l lent values long r =
           let q = apart_is values (both lent values long r) in
-          (sym (rw long at (tested_only values s (value_is_zero (formed_at values long) (size_zero _ (sym q ∙ eqb-true _ _ l))))), r, λ f. absurd (failed_not_passed f))
+          answered lent here values s (rw long at (tested_only values s (value_is_zero (formed_at values long) (size_zero _ (sym q ∙ eqb-true _ _ l))))) refl r
 
       pub apart_stored : (next : List ℕ) → eqb (distance_of first second) 0 ≡ false
           → next ≡ placed here (record_bytes * (n + 1)) record_bytes (bit_xor (sign_at here s.first) (bool_byte (ltb first second)) ∷ low_bytes value_bytes (distance_of first second))
-          → StepChecked s n here next (Ok tt) false
+          → StepChecked s n here next (Ok false)
       unfolding record_of
       apart_stored next l store lent values long r =
           let v = both lent values long r in
@@ -187,8 +188,7 @@ module _ (s : Step) (n : ℕ) (here : List ℕ) where
           let fine : Representable z = record {
             nonzero = not_zero z some;
             small = rw (← q, v.first_size, v.second_size) (distance_lt _ _ value_bound v.first_representable.small v.second_small);
-          } in (
-            sym (tested_only values s (passed (formed_at values long) fine)),
-            recording_more lent here values r z (n + 1) next long fine (rw (← sign, ← q) store),
-            λ f. sym (doubling_same values s ∙ opposite_differ (x values s) (w values s) (two_signs values v)),
-          )
+          } in
+          answered lent next values s (tested_only values s (passed (formed_at values long) fine))
+          (ap Ok (sym (doubling_same values s ∙ opposite_differ (x values s) (w values s) (two_signs values v))))
+          (recording_more lent here values r z (n + 1) next long fine (rw (← sign, ← q) store))

@@ -26,15 +26,17 @@ pub data Tested (i : ℕ) (s : Step) (z : ℤ) : Result Unit Refusal → Type 0 
   value_is_zero : WellFormed i s → z ≡ pos 0 → Tested i s z (Err (ValueIsZero i))
   value_too_large : WellFormed i s → value_bound ≤ nat_abs z → Tested i s z (Err (ValueTooLarge i))
 
+-- what the code's test of a form says
+pub within : (operation first second i : ℕ) → leb operation subtracting && ltb first i && ltb second i ≡ true → (operation ≤ subtracting) × (first < i) × (second < i)
+within operation first second i e =
+    let known = (and-eq-true_iff (leb operation subtracting && ltb first i) (ltb second i)).0 e in
+    let low = (and-eq-true_iff (leb operation subtracting) (ltb first i)).0 known.0 in
+    (leb-true _ _ low.0, ltb-true _ _ low.1, ltb-true _ _ known.1)
+
 pub well_formed_is : (i : ℕ) (s : Step) → is_well_formed i s ≡ true ↔ WellFormed i s
 unfolding is_well_formed
-well_formed_is i s = (to, λ n. rw (le-leb s.operation subtracting n.operation, lt-ltb s.first i n.first, lt-ltb s.second i n.second))
-  where
-    to : is_well_formed i s ≡ true → WellFormed i s
-    to e =
-        let known = (and-eq-true_iff (leb s.operation subtracting && ltb s.first i) (ltb s.second i)).0 e in
-        let low = (and-eq-true_iff (leb s.operation subtracting) (ltb s.first i)).0 known.0 in
-        record { operation = leb-true _ _ low.0; first = ltb-true _ _ low.1; second = ltb-true _ _ known.1 }
+well_formed_is i s =
+    (λ e. let w = within s.operation s.first s.second i e in record { operation = w.0; first = w.1; second = w.2 }, λ n. rw (le-leb s.operation subtracting n.operation, lt-ltb s.first i n.first, lt-ltb s.second i n.second))
 
 not_well_formed : (i : ℕ) (s : Step) → (WellFormed i s → ⊥) → is_well_formed i s ≡ false
 not_well_formed i s h = go (is_well_formed i s) refl

@@ -35,12 +35,15 @@ abbrev pub grown : Result Unit Refusal → List ℤ → ℤ → List ℤ
 grown (Ok tt) values z = values ++ (z ∷ [])
 grown (Err r) values z = values
 
--- the verdict on the step after n others, the work space before and after it, and whether it is a doubling if it passes, whatever values are recorded
--- by then
-abbrev pub StepChecked : Step → ℕ → List ℕ → List ℕ → Result Unit Refusal → Bool → Type 0
-StepChecked s n here next r doubling =
+-- what a step is answered with: its refusal, or whether it is a doubling
+abbrev pub step_answer : List ℤ → Step → Result Bool Refusal
+step_answer values s = and_then (step_verdict values s) (Ok (is_doubling values s))
+
+-- the answer to the step after n others, and the work space before and after it, whatever values are recorded by then
+abbrev pub StepChecked : Step → ℕ → List ℕ → List ℕ → Result Bool Refusal → Type 0
+StepChecked s n here next r =
     (lent : List ℕ) (values : List ℤ) → length values ≡ n + 1 → Recording lent here values
-    → (r ≡ step_verdict values s) × Recording lent next (grown r values (step_value values s)) × (r ≡ Ok tt → doubling ≡ is_doubling values s)
+    → (r ≡ step_answer values s) × Recording lent next (grown (step_verdict values s) values (step_value values s))
 
 -- the step after n others is well formed, the records that it names stand at a and b, and it fills record i
 pub record Names (s : Step) (n a b i : ℕ) : Type 0 where

@@ -10,54 +10,34 @@ use chain_values::{is_small, is_zero};
 use records::{distance_between, same_size, store, sum};
 use rules::{RECORD_BYTES, Refusal};
 
-// The verdict on a step, and whether it is a doubling if it passes.
-#[derive(Drop)]
-pub struct CheckedStep {
-    pub verdict: Verdict,
-    pub doubling: bool,
-}
-
 // The step whose records stand at `a` and `b` and which fills record i, where what is added, the second
-// value or its opposite if the step subtracts, has the sign of the first value. It may be a doubling; its
-// value is not zero, since neither of the two is.
-pub fn sum_step(space: &mut [u8], a: usize, b: usize, i: usize) -> CheckedStep
+// value or its opposite if the step subtracts, has the sign of the first value. Answers whether it is a
+// doubling; its value is not zero, since neither of the two is.
+pub fn sum_step(space: &mut [u8], a: usize, b: usize, i: usize) -> Result<bool, Refusal>
     requires { (a + record_bytes ≤ length space.old) × (b + record_bytes ≤ length space.old) × (record_bytes * i + record_bytes ≤ length space.old) }
-    ensures { (s : Step) (n : ℕ) → Names s n a b i → signs_at space.old a b ≡ s.operation → StepChecked s n space.old space.new result.verdict result.doubling }
+    ensures { (s : Step) (n : ℕ) → Names s n a b i → signs_at space.old a b ≡ s.operation → StepChecked s n space.old space.new result }
 {
     let words = sum(space, a + 1, b + 1);
     if !is_small(words) {
-        return CheckedStep {
-            verdict: Err(Refusal::ValueTooLarge(i)),
-            doubling: false,
-        };
+        return Err(Refusal::ValueTooLarge(i));
     }
     let sign = space[a];
     store(space, RECORD_BYTES * i, sign, words);
     // After the store: then the compiler loads whole words again (docs/DECISIONS.md, 49).
-    CheckedStep {
-        verdict: Ok(()),
-        doubling: same_size(space, a + 1, b + 1),
-    }
+    Ok(same_size(space, a + 1, b + 1))
 }
 
 // The same where what is added has the other sign: no doubling, and its value is below the bound, since
 // both sizes are.
-pub fn difference_step(space: &mut [u8], a: usize, b: usize, i: usize) -> CheckedStep
+pub fn difference_step(space: &mut [u8], a: usize, b: usize, i: usize) -> Result<bool, Refusal>
     requires { (a + record_bytes ≤ length space.old) × (b + record_bytes ≤ length space.old) × (record_bytes * i + record_bytes ≤ length space.old) }
-    ensures { (s : Step) (n : ℕ) → Names s n a b i → signs_at space.old a b ≢ s.operation → StepChecked s n space.old space.new result.verdict result.doubling }
+    ensures { (s : Step) (n : ℕ) → Names s n a b i → signs_at space.old a b ≢ s.operation → StepChecked s n space.old space.new result }
 {
     let apart = distance_between(space, a + 1, b + 1);
-    let words = apart.words;
-    if is_zero(words) {
-        return CheckedStep {
-            verdict: Err(Refusal::ValueIsZero(i)),
-            doubling: false,
-        };
+    if is_zero(apart.words) {
+        return Err(Refusal::ValueIsZero(i));
     }
-    let sign = space[a] ^ apart.below as u8;
-    store(space, RECORD_BYTES * i, sign, words);
-    CheckedStep {
-        verdict: Ok(()),
-        doubling: false,
-    }
+    let sign = space[a] ^ u8::from(apart.below);
+    store(space, RECORD_BYTES * i, sign, apart.words);
+    Ok(false)
 }

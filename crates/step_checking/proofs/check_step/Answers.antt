@@ -1,8 +1,6 @@
 -- `step_checking::check_step` meets its contract. Assumes nothing.
 use mathlib.Core.Path.{refl}
-use mathlib.Core.Bool.{false}
 use Prim.Native.Nat.{◌+◌, ◌*◌}
-use native.Mathlib.Omega.{arith}
 use Rattle.rules.specs.Limits.{record_bytes}
 use Rattle.step_reading.specs.Fields.{as_step}
 use Rattle.step_values.specs.Verdicts.{is_well_formed, Names}
@@ -16,35 +14,17 @@ unfolding is_well_formed
 returns-then-not-well_formed c =
     let args = c.args in
     let s = as_step args.step in
-    malformed_checked s args.n args.space.now c.if-not-well_formed.true false
+    malformed_checked s args.n args.space.now c.if-not-well_formed.true
 
 -- past refusal 9
 named : (c : Else-not-well_formed) → let args = c.args in Names (as_step args.step) args.n (record_bytes * args.step.first) (record_bytes * args.step.second) (args.n + 1)
 unfolding is_well_formed
 named c = record { formed = (well_formed_is _ _).0 (c.if-not-well_formed.false); first = refl; second = refl; next = refl }
 
-pub overflow_mul-a : goal.overflow_mul-a
-overflow_mul-a c = let names = (named (goal.at.overflow_mul-a c).Else-not-well_formed).formed in omega (arith, names.first, names.second)
-
-pub overflow_mul-b : goal.overflow_mul-b
-overflow_mul-b c = let names = (named (goal.at.overflow_mul-b c).Else-not-well_formed).formed in omega (arith, names.first, names.second)
-
-pub bounds-space-a : goal.bounds-space-a
-bounds-space-a c = let names = (named (goal.at.bounds-space-a c).Else-not-well_formed).formed in omega (arith, names.first, names.second)
-
-pub bounds-space-b : goal.bounds-space-b
-bounds-space-b c = let names = (named (goal.at.bounds-space-b c).Else-not-well_formed).formed in omega (arith, names.first, names.second)
-
-pub sum_step-requires : goal.sum_step-requires
-sum_step-requires c = let names = (named (goal.at.sum_step-requires c).Else-not-well_formed).formed in omega (arith, names.first, names.second)
-
 pub returns-then-space-a : goal.returns-then-space-a
 returns-then-space-a c =
     c.sum_step.ensures _ _ (named (goal.at.returns-then-space-a c).Else-not-well_formed) c.if-space-a.true
 
-pub difference_step-requires : goal.difference_step-requires
-difference_step-requires c = let names = (named (goal.at.difference_step-requires c).Else-not-well_formed).formed in omega (arith, names.first, names.second)
-
-pub returns : goal.returns
-returns c =
-    c.difference_step.ensures _ _ (named (goal.at.returns c).Else-not-well_formed) c.if-space-a.false
+pub returns-else-space-a : goal.returns-else-space-a
+returns-else-space-a c =
+    c.difference_step.ensures _ _ (named (goal.at.returns-else-space-a c).Else-not-well_formed) c.if-space-a.false

@@ -41,20 +41,11 @@ fn is_number(v: Value, number: &[u8]) -> bool
     requires { Positive number.now }
     ensures { result ≡ is_same (integer_of v) (pos (bytes_value number.now)) }
 {
-    let words = v.words;
-    let negative = v.negative;
+    let Value { words, negative } = v;
     if negative {
         return false;
     }
-    let own = words_of(number);
-    let mut k = 0;
-    while k < NUMBER_WORDS {
-        if words[k] != own[k] {
-            return false;
-        }
-        k += 1;
-    }
-    words[NUMBER_WORDS] == 0
+    words.starts_with(&words_of(number)) && words[NUMBER_WORDS] == 0
 }
 
 // Whether the value after this many steps is the number.

@@ -1,50 +1,39 @@
--- `work_space::is_number` meets its contract: the words below k are the same. Assumes nothing.
+-- `work_space::is_number` meets its contract. Assumes nothing.
 use mathlib.Core.Path.{◌≡◌, sym, ◌∙◌}
+use mathlib.Core.Bool.{false, ◌&&◌}
 use Prim.Native.Nat.{◌^◌}
-use borrow.Author.Count.{below_more}
-use borrow.Author.Tests.{ne_eqb}
-use native.Mathlib.Omega.{arith}
 use lib.ListN.{get_or}
+use lib.Dec.{eqb}
+use lib.IntN.{pos}
+use Rattle.rules.specs.Limits.{number_words}
+use Rattle.chain_values.specs.Value.{integer_of}
 use mir.Syntax.{w64}
 use mir.Val.{Fits}
-use Rattle.rules.specs.Limits.{number_words}
-use Rattle.integers.specs.Positional.{bytes_value, words_value}
+use Rattle.integers.specs.Positional.{bytes_value}
+use Rattle.integers.specs.Signed.{is_same}
 use Rattle.integers.proofs.Positional.{Below}
 use Rattle.numbers.proofs.Tests.{admitted_value}
-use Rattle.work_space.proofs.SameWords.{words_differ, top_decides, same_size, below_zero}
+use Rattle.work_space.proofs.SameWords.{below_zero, same_number}
 use borrow.Author.Rules.{rules}
-use Rattle.work_space.proofs.is_number.Goals.{After-words_of-own}
+use Rattle.work_space.proofs.is_number.Goals.{After-starts_with}
 use Rattle.work_space.proofs.is_number.Goals as goal
 
 pub returns-then-negative : goal.returns-then-negative
 returns-then-negative c =
     sym (below_zero c.args.v (bytes_value c.args.number.now) c.if-negative.true c.requires.nonzero)
 
-words_fit : (c : After-words_of-own) → Below (2 ^ 64) c.args.v.words
-words_fit c i = let f : Fits w64 (get_or c.args.v.words i 0) = search rules in f.fits
+-- at or above zero, its words decide
+decides : (c : After-starts_with) → c.args.v.negative ≡ false
+    → c.starts_with.result && eqb (get_or c.args.v.words number_words 0) 0 ≡ is_same (integer_of c.args.v) (pos (bytes_value c.args.number.now))
+decides c e =
+    let words = c.args.v.words in
+    let own = c.words_of.result in
+    let words_fit : Below (2 ^ 64) words = λ i. let f : Fits w64 (get_or words i 0) = search rules in f.fits in
+    let own_fit : Below (2 ^ 64) own = λ i. let f : Fits w64 (get_or own i 0) = search rules in f.fits in
+    same_number c.args.v _ own number_words words_fit own_fit (search rules) (search rules) (c.words_of.ensures ∙ admitted_value c.args.number.now c.requires.admitted) e c.starts_with.result c.starts_with.ensures.value
 
-own_fit : (c : After-words_of-own) → Below (2 ^ 64) c.words_of-own.result
-own_fit c i = let f : Fits w64 (get_or c.words_of-own.result i 0) = search rules in f.fits
+pub returns-then-starts_with : goal.returns-then-starts_with
+returns-then-starts_with c = rw c.if-starts_with.true at (decides (goal.at.returns-then-starts_with c).After-starts_with c.if-negative.false)
 
-own_value : (c : After-words_of-own) → words_value c.words_of-own.result ≡ bytes_value c.args.number.now
-own_value c =
-    c.words_of-own.ensures ∙ admitted_value c.args.number.now c.requires.admitted
-
-pub loop-k-init : goal.loop-k-init
-loop-k-init c = (search rules, λ i h. absurd (omega arith))
-
-pub returns-then-words-k : goal.returns-then-words-k
-returns-then-words-k c =
-    let v = c.args.v in
-    rw (same_size v (bytes_value c.args.number.now) c.if-negative.false, ← own_value (goal.at.returns-then-words-k c).After-words_of-own)
-    (sym (ne_eqb (words_value v.words) (words_value c.words_of-own.result) (words_differ v.words c.words_of-own.result number_words (words_fit (goal.at.returns-then-words-k c).After-words_of-own) (own_fit (goal.at.returns-then-words-k c).After-words_of-own) c.loop-k.k c.if-words-k.true)))
-
-pub loop-k-preserved : goal.loop-k-preserved
-loop-k-preserved c = (search rules, below_more _ _ c.loop-k.invariant.1 c.if-words-k.false)
-
-pub returns : goal.returns
-returns c =
-    let v = c.args.v in
-    let e : c.loop-k.k ≡ number_words = omega arith in
-    rw (same_size v (bytes_value c.args.number.now) c.if-negative.false, ← own_value (goal.at.returns c).After-words_of-own)
-    (top_decides v.words c.words_of-own.result number_words (words_fit (goal.at.returns c).After-words_of-own) (own_fit (goal.at.returns c).After-words_of-own) (search rules) (search rules) (rw e at c.loop-k.invariant.1))
+pub returns-else-starts_with : goal.returns-else-starts_with
+returns-else-starts_with c = c.if-starts_with.false ∙ rw c.if-starts_with.false at (decides (goal.at.returns-else-starts_with c).After-starts_with c.if-negative.false)

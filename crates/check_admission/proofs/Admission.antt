@@ -5,10 +5,10 @@ use mathlib.Core.Logic.{◌↔◌, ◌≢◌, ◌⊎◌, inl, inr}
 use mathlib.Core.Bool.{Bool, true, false, not, ◌||◌}
 use mathlib.Core.List.{List}
 use Prim.Native.Nat.{ℕ, ◌*◌, ◌%◌, ◌<◌, ◌≤◌}
-use borrow.Author.Tests.{ltb-false, lt-ltb, le-ltb, eq-eqb, ne_eqb}
+use borrow.Author.Tests.{lt-ltb, le-ltb, eq-eqb, ne_eqb}
 use native.Mathlib.Decide.{dec_lt, ℕ_discrete}
 use native.Mathlib.Omega.{arith}
-use lib.Dec.{ltb, eqb}
+use lib.Dec.{eqb}
 use Rattle.rules.specs.Limits.{step_bytes, plan_steps}
 use Rattle.rules.specs.declared.Refusal.{Refusal}
 use Rattle.rules.specs.declared.Refusal.TheVariants.{PlanLength, WorkSpaceTooShort}
@@ -26,13 +26,6 @@ pub record Checkable (number : List ℕ) (planLength room : ℕ) : Type 0 where
 either : (t : Bool) → t || true ≡ true
 either true = refl
 either false = refl
-
-neither : (t u : Bool) → t || u ≡ false → u ≡ false
-neither true u e = cc
-neither false u e = e
-
-pub few_steps : (planLength : ℕ) → is_wrong_length planLength ≡ false → planLength ≤ step_bytes * plan_steps
-few_steps l e = ltb-false (step_bytes * plan_steps) l (neither (not (eqb (l % step_bytes) 0)) (ltb (step_bytes * plan_steps) l) e)
 
 module _ (number : List ℕ) (planLength room : ℕ) where
   -- what the tests before the steps come to
@@ -66,3 +59,19 @@ module _ (number : List ℕ) (planLength room : ℕ) where
 
   pub checkable_is : admission number planLength room ≡ Ok tt ↔ Checkable number planLength room
   checkable_is = (λ e. elim (rw e at admits) [ checkable c ↦ c ], λ c. admits_only (checkable c))
+
+-- ---- what the code's tests say, one after the other
+
+pub length_refused : (number : List ℕ) (planLength room : ℕ) → positive_verdict number ≡ Ok tt → is_wrong_length planLength ≡ true → Err PlanLength ≡ admission number planLength room
+unfolding admission
+length_refused number planLength room passed wrong = rw (passed, wrong)
+
+pub space_refused : (number : List ℕ) (planLength room : ℕ) → positive_verdict number ≡ Ok tt → is_wrong_length planLength ≡ false → room < room_for planLength
+    → Err WorkSpaceTooShort ≡ admission number planLength room
+unfolding admission
+space_refused number planLength room passed right short = rw (passed, right, lt-ltb room (room_for planLength) short)
+
+pub all_passed : (number : List ℕ) (planLength room : ℕ) → positive_verdict number ≡ Ok tt → is_wrong_length planLength ≡ false → room_for planLength ≤ room
+    → Ok tt ≡ admission number planLength room
+unfolding admission
+all_passed number planLength room passed right enough = rw (passed, right, le-ltb room (room_for planLength) enough)

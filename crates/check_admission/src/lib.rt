@@ -11,11 +11,12 @@ use rules::{PLAN_STEPS, RECORD_BYTES, Refusal, STEP_BYTES};
 const PLAN_BYTES: usize = STEP_BYTES * PLAN_STEPS;
 
 // The tests before the steps: refusals 1, 13, 2, 7 and 8.
+#[tactic(auto, using(crate::proofs::Admission::length_refused, crate::proofs::Admission::space_refused, crate::proofs::Admission::all_passed), unfolding(crate::specs::Admission::admission))]
 pub fn admit(number: &[u8], plan_length: usize, room: usize) -> Result<(), Refusal>
     ensures { result ≡ admission number.now plan_length room }
 {
     positive_verdict(number)?;
-    if (plan_length % STEP_BYTES != 0) | (PLAN_BYTES < plan_length) {
+    if plan_length % STEP_BYTES != 0 || PLAN_BYTES < plan_length {
         return Err(Refusal::PlanLength);
     }
     if room < RECORD_BYTES * (plan_length / STEP_BYTES) + RECORD_BYTES {

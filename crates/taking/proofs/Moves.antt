@@ -1,27 +1,24 @@
 -- One move of a recoder: the lowest digit of v + c, and what is left, by the two low bits of v. Assumes nothing.
-use Rattle.std.specs.Prelude.{Ok, Err, Some, None}
+use Rattle.std.specs.Prelude.{Some}
 use mathlib.Core.Path.{◌≡◌, refl, sym, ap, ◌∙◌}
 use mathlib.Core.Logic.{◌≢◌}
-use mathlib.Core.Bool.{Bool, true, false, not, ◌&&◌}
+use mathlib.Core.Bool.{Bool, true, false}
 use mathlib.Core.List.{List, [], ◌∷◌}
 use Prim.Native.Nat.{ℕ, zero, suc, ◌+◌, ◌*◌, ◌/◌, ◌%◌, ◌^◌, ◌<◌, ◌≤◌}
-use borrow.Author.Tests.{ne_eqb}
 use native.Mathlib.Omega.{arith}
-use lib.Dec.{leb, eqb}
-use lib.ListN.{get_or, take}
+use lib.Dec.{leb}
+use lib.ListN.{length, get_or, take, replicate}
+use lib.Seq.{take_all}
 use mir.Val.{bool_byte}
-use Rattle.rules.specs.Limits.{number_bytes}
-use Rattle.rules.specs.declared.Refusal.{Refusal}
-use Rattle.integers.specs.Positional.{bytes_value, words_value}
+use Rattle.rules.specs.Limits.{number_words}
+use Rattle.integers.specs.Positional.{positional, words_value}
 use Rattle.integers.proofs.Bits.{bool_small}
 use Rattle.integers.proofs.Positional.{positional_drop}
-use Rattle.numbers.specs.Admission.{number_verdict, Admitted}
-use Rattle.numbers.proofs.Tests.{number_only, admitted, admitted_value}
 use Rattle.signed_digits.specs.Naf.{residue, low_digit, rest}
 use Rattle.signed_digits.specs.Bytes.{digit_byte}
 use Rattle.signed_digits.proofs.Steps.{low_digit_2, rest_2, by_four}
 use Rattle.taking.specs.declared.Recoder.{Recoder}
-use Rattle.taking.specs.Take.{stands_for, take_answer, take_leaves, IsStart, IsTake}
+use Rattle.taking.specs.Take.{stands_for, take_answer, take_leaves}
 
 -- ---- the byte of the lowest digit, by the remainder modulo 4
 pub byte_at : (n : ℕ) → get_or (0 ∷ 1 ∷ 0 ∷ 255 ∷ []) (n % 4) 0 ≡ digit_byte (low_digit 2 n)
@@ -59,6 +56,15 @@ carry_half (suc (suc (suc (suc m)))) h = absurd (omega arith)
 -- the low word has the two low bits
 low_word : (words : List ℕ) → get_or words 0 0 % 4 ≡ words_value words % 4
 low_word words = omega (arith, positional_drop (2 ^ 64) words 0)
+
+-- ---- the number of a recoder that does not carry, and of all its words halved
+pub zero_stands : stands_for (record { words = replicate number_words 0; carry = false }) ≡ 0
+unfolding stands_for positional
+zero_stands = refl
+
+pub whole_halved : (half words : List ℕ) → length half ≡ number_words → length words ≡ number_words
+    → words_value (take number_words half) ≡ words_value (take number_words words) / 2 → words_value half ≡ words_value words / 2
+whole_halved half words h w e = rw (take_all number_words half (omega arith), take_all number_words words (omega arith)) at e
 
 -- ---- the definitions of a take, where something is left
 answer_some : (n : ℕ) → n ≢ 0 → take_answer n ≡ Some (digit_byte (low_digit 2 n))
@@ -111,47 +117,3 @@ module _ (r : Recoder) where
     where
       sum : (v c word : ℕ) → word % 4 ≡ v % 4 → v % 4 % 2 + v % 4 / 2 + c ≡ word % 2 + word / 2 % 2 + c
       sum v c word w = omega arith
-
--- ---- whether a recoder is done
-
-ended : (v : ℕ) (b : Bool) → (eqb v 0 && not b) ≡ true → v + bool_byte b ≡ 0
-ended zero false h = refl
-ended zero true h = let z : ◌≡◌ {A = ℕ} 0 1 = cc in absurd (omega arith)
-ended (suc v) b h = let z : ◌≡◌ {A = ℕ} 0 1 = cc (rw (ne_eqb (suc v) 0 (λ y. omega arith)) at h) in absurd (omega arith)
-
--- ---- the two returns of a take
-module _ (r : Recoder) (none : Bool) (is_none : none ≡ eqb (words_value r.words) 0) where
-  pub done_is : (none && not r.carry) ≡ true → IsTake r (record { next = r; answer = None })
-  unfolding stands_for
-  done_is h =
-      let v : ℕ = words_value r.words in
-      let z : v + bool_byte r.carry ≡ 0 = ended v r.carry (sym (ap (λ (t : Bool). t && not r.carry) is_none) ∙ h) in
-      record { answer = rw z; next = rw z; done = λ h. refl }
-
-  pub move_is : (digit : ℕ) (half : List ℕ) → let word = get_or r.words 0 0 in let ones = word % 2 + word / 2 % 2 + bool_byte r.carry in
-      (none && not r.carry) ≡ false → words_value half ≡ words_value r.words / 2
-      → digit ≡ digit_byte (low_digit 2 (word % 4 + bool_byte r.carry))
-      → IsTake r (record { next = record { words = half; carry = leb 2 ones }; answer = Some digit })
-  move_is digit half left halves byte =
-      let some : 0 < stands_for r = some_left r (going (sym (ap (λ (t : Bool). t && not r.carry) is_none) ∙ left)) in
-      record {
-        answer = digit_answered r digit some byte;
-        next = digit_taken_off r half _ some halves refl;
-        done = λ z. absurd (omega arith);
-      }
-    where
-      going : (eqb (words_value r.words) 0 && not r.carry) ≡ false → words_value r.words ≡ 0 → r.carry ≡ false → ⊥
-      going h z n = grind arith
-
--- ---- the two returns of the start
-pub refused_is : (number words : List ℕ) {r : Refusal} → number_verdict number ≡ Err r → words_value words ≡ 0
-    → IsStart number (record { recoder = record { words = words; carry = false }; answer = Err r })
-unfolding stands_for
-refused_is number words t z = record { answer = rw t; recoder = rw (t, z) }
-
-pub ready_is : (number words : List ℕ) → Admitted number → words_value words ≡ bytes_value (take number_bytes number)
-    → IsStart number (record { recoder = record { words = words; carry = false }; answer = (Ok tt) })
-unfolding stands_for
-ready_is number words a e =
-    let t = number_only number (admitted a) in
-    record { answer = rw t; recoder = rw t (omega (arith, e, admitted_value number a)) }

@@ -1,8 +1,8 @@
 -- Takes one after the other give the canonical digits, lowest first, then done; shown from what a take promises alone. Assumes nothing.
+use Rattle.std.specs.Prelude.{Option}
 use mathlib.Core.Path.{◌≡◌, refl, sym, ap, ◌∙◌}
 use mathlib.Core.List.{List, [], ◌∷◌}
 use Prim.Native.Nat.{ℕ, zero, suc, ◌≤◌}
-use native.Mathlib.Numerals.{add-one}
 use native.Mathlib.Omega.{arith}
 use lib.IntN.{ℤ, pos}
 use lib.ListN.{length}
@@ -13,14 +13,9 @@ use Rattle.signed_digits.specs.Bytes.{digit_bytes}
 use Rattle.signed_digits.proofs.Steps.{naf_zero, naf_step}
 use Rattle.taking.specs.declared.Recoder.{Recoder}
 use Rattle.taking.specs.declared.Started.{Started}
-use Rattle.taking.specs.declared.Taken.{Taken}
 use Rattle.recoding.specs.Recode.{recoding_of, recoding}
-use Rattle.taking.specs.Take.{stands_for, start_number, start_outcome, take_answer, take_leaves, take_outcome, IsStart, Run, before, digit_outcome, digits_to_come}
+use Rattle.taking.specs.Take.{stands_for, start_number, start_outcome, take_answer, take_leaves, take_outcome, IsStart, Run, digit_outcome, digits_to_come}
 use Rattle.taking.proofs.Promises.{start_number_lem, refused_number}
-
--- the run from the second take on
-tail : (r : Recoder) (t : ℕ → Taken) → Run r t → Run (t 0).next (λ k. t (suc k))
-tail r t run = record { first = rw add-one at (run.later 0); later = λ k. rw add-one (rw add-one at (run.later (suc k))) }
 
 -- the first take gives the lowest digit of n
 pub digits_of_lem : (n : ℕ) → digit_outcome (digit_bytes (canonical (pos n))) 0 ≡ take_outcome (take_answer n)
@@ -32,21 +27,21 @@ pub digits_after : (n k : ℕ) → digit_outcome (digit_bytes (canonical (pos n)
 digits_after zero k = rw (naf_zero 2)
 digits_after (suc n) k = rw (naf_step 2 (suc n) (omega arith) (omega arith))
 
+-- takes one after the other, by the numbers that are left
+pub numbers_taken : (n : ℕ → ℕ) → ((k : ℕ) → n (suc k) ≡ take_leaves (n k)) → (k : ℕ)
+    → take_outcome (take_answer (n k)) ≡ digit_outcome (digit_bytes (canonical (pos (n 0)))) k
+numbers_taken n left zero = sym (digits_of_lem (n 0))
+numbers_taken n left (suc k) =
+    numbers_taken (λ i. n (suc i)) (λ i. left (suc i)) k
+    ∙ ap (λ (m : ℕ). digit_outcome (digit_bytes (canonical (pos m))) k) (left 0)
+    ∙ sym (digits_after (n 0) k)
+
 -- the takes of any recoder, also of one put together by hand
-pub takes : (r : Recoder) (t : ℕ → Taken) → Run r t → (k : ℕ) → take_outcome (t k).answer ≡ digit_outcome (digits_to_come r) k
+pub takes : (w : ℕ → Recoder) (a : ℕ → Option ℕ) → Run w a → (k : ℕ) → take_outcome (a k) ≡ digit_outcome (digits_to_come (w 0)) k
 unfolding digits_to_come
-takes r t run zero = ap take_outcome run.first.answer ∙ sym (digits_of_lem (stands_for r))
-takes r t run (suc k) =
-    takes (t 0).next (λ k. t (suc k)) (tail r t run) k
-    ∙ ap (λ (n : ℕ). digit_outcome (digit_bytes (canonical (pos n))) k) run.first.next
-    ∙ sym (digits_after (stands_for r) k)
+takes w a run k = ap take_outcome (run k).answer ∙ numbers_taken (λ i. stands_for (w i)) (λ i. (run i).next) k
 
 -- ---- after the last digit: done, and the recoder unchanged
-
-before_tail : (r : Recoder) (t : ℕ → Taken) (k : ℕ) → before (t 0).next (λ i. t (suc i)) k ≡ before r t (suc k)
-unfolding before
-before_tail r t zero = refl
-before_tail r t (suc k) = refl
 
 none_left : (n : ℕ) → length (digit_bytes (canonical (pos n))) ≤ 0 → n ≡ 0
 none_left zero h = refl
@@ -63,29 +58,30 @@ digits_end [] k h = refl
 digits_end (d ∷ ds) zero h = absurd (omega arith)
 digits_end (d ∷ ds) (suc k) h = digits_end ds k (omega arith)
 
-unchanged : (r : Recoder) (t : ℕ → Taken) → Run r t → (k : ℕ) → length (digits_to_come r) ≤ k → (t k).next ≡ before r t k
-unfolding before digits_to_come
-unchanged r t run zero h = run.first.done (none_left (stands_for r) h)
-unchanged r t run (suc k) h =
-    let less : length (digit_bytes (canonical (pos (stands_for (t 0).next)))) ≤ k = rw run.first.next (fewer_left (stands_for r) k h) in
-    unchanged (t 0).next (λ i. t (suc i)) (tail r t run) k less ∙ before_tail r t k
+unchanged : (w : ℕ → Recoder) (a : ℕ → Option ℕ) → Run w a → (k : ℕ) → length (digits_to_come (w 0)) ≤ k → w (suc k) ≡ w k
+unfolding digits_to_come
+unchanged w a run zero h = (run 0).done (none_left (stands_for (w 0)) h)
+unchanged w a run (suc k) h =
+    let less : length (digit_bytes (canonical (pos (stands_for (w 1))))) ≤ k = rw (run 0).next (fewer_left (stands_for (w 0)) k h) in
+    unchanged (λ i. w (suc i)) (λ i. a (suc i)) (λ i. run (suc i)) k less
 
-pub stays : (r : Recoder) (t : ℕ → Taken) → Run r t → (k : ℕ) → length (digits_to_come r) ≤ k → (take_outcome (t k).answer ≡ done) × ((t k).next ≡ before r t k)
-stays r t run k h = (takes r t run k ∙ digits_end (digits_to_come r) k h, unchanged r t run k h)
+pub stays : (w : ℕ → Recoder) (a : ℕ → Option ℕ) → Run w a → (k : ℕ) → length (digits_to_come (w 0)) ≤ k → (take_outcome (a k) ≡ done) × (w (suc k) ≡ w k)
+stays w a run k h = (takes w a run k ∙ digits_end (digits_to_come (w 0)) k h, unchanged w a run k h)
 
 -- ---- from the start of taking on
 
-module _ (number : List ℕ) (s : Started) (t : ℕ → Taken) (start : IsStart number s) (run : Run s.recoder t) where
+module _ (number : List ℕ) (s : Started) (w : ℕ → Recoder) (a : ℕ → Option ℕ) (start : IsStart number s) (first : w 0 ≡ s.recoder) (run : Run w a) where
   -- the takes by the number that the start hands back
-  takes_from : (n : ℕ) → start_number number ≡ n → (k : ℕ) → take_outcome (t k).answer ≡ digit_outcome (digit_bytes (canonical (pos n))) k
+  takes_from : (n : ℕ) → start_number number ≡ n → (k : ℕ) → take_outcome (a k) ≡ digit_outcome (digit_bytes (canonical (pos n))) k
   unfolding digits_to_come
-  takes_from n e k = takes s.recoder t run k ∙ ap (λ (n : ℕ). digit_outcome (digit_bytes (canonical (pos n))) k) (start.recoder ∙ e)
+  takes_from n e k =
+      takes w a run k ∙ ap (λ (n : ℕ). digit_outcome (digit_bytes (canonical (pos n))) k) (ap stands_for first ∙ start.recoder ∙ e)
 
   -- the canonical digits of the number, as recode writes them
-  pub takes_number : Admitted number → (k : ℕ) → take_outcome (t k).answer ≡ digit_outcome (recoding number) k
+  pub takes_number : Admitted number → (k : ℕ) → take_outcome (a k) ≡ digit_outcome (recoding number) k
   unfolding recoding_of
-  takes_number a k = takes_from _ (start_number_lem number a) k
+  takes_number admitted k = takes_from _ (start_number_lem number admitted) k
 
   -- those of zero after a refusal: done from the first take on
-  pub takes_refused : (n p : ℕ) → start_outcome s.answer ≡ refused n p → (k : ℕ) → take_outcome (t k).answer ≡ done
+  pub takes_refused : (n p : ℕ) → start_outcome s.answer ≡ refused n p → (k : ℕ) → take_outcome (a k) ≡ done
   takes_refused n p e k = takes_from 0 (refused_number number n p (ap start_outcome (sym start.answer) ∙ e)) k ∙ rw (naf_zero 2)

@@ -9,7 +9,6 @@ use Rattle.signed_digits.specs.Naf.{low_digit, rest, canonical, canonical_width}
 use Rattle.signed_digits.specs.Bytes.{digit_byte, digit_bytes}
 use Rattle.taking.specs.declared.Recoder.{Recoder}
 use Rattle.taking.specs.declared.Started.{Started}
-use Rattle.taking.specs.declared.Taken.{Taken}
 
 -- The number that a recoder stands for: the value of its words, plus one where it carries. Every recoder stands for one, also one put together by hand:
 -- its digits to come are those of the canonical string of that number.
@@ -28,7 +27,7 @@ abbrev pub take_answer : ℕ → Option ℕ
 take_answer zero = None
 take_answer (suc n) = Some (digit_byte (low_digit canonical_width (suc n)))
 
--- what the recoder handed back stands for
+-- what the recoder stands for after it
 abbrev pub take_leaves : ℕ → ℕ
 take_leaves zero = 0
 take_leaves (suc n) = rest canonical_width (suc n)
@@ -39,10 +38,11 @@ pub record IsStart (number : List ℕ) (r : Started) : Type 0 where
   pub answer : r.answer ≡ start_answer number
   pub recoder : stands_for r.recoder ≡ start_number number
 
-pub record IsTake (r : Recoder) (t : Taken) : Type 0 where
-  pub answer : t.answer ≡ take_answer (stands_for r)
-  pub next : stands_for t.next ≡ take_leaves (stands_for r)
-  pub done : stands_for r ≡ 0 → t.next ≡ r
+-- the recoder before a take and after it, and the answer
+pub record IsTake (before after : Recoder) (r : Option ℕ) : Type 0 where
+  pub answer : r ≡ take_answer (stands_for before)
+  pub next : stands_for after ≡ take_leaves (stands_for before)
+  pub done : stands_for before ≡ 0 → after ≡ before
 
 -- the answers in the rules' numbers: ready has no values, a digit has its byte, and done is neither
 abbrev pub start_outcome : Result Unit Refusal → Outcome
@@ -53,15 +53,9 @@ abbrev pub take_outcome : Option ℕ → Outcome
 take_outcome (Some d) = answered (d ∷ [])
 take_outcome None = done
 
--- takes one after the other: each after the first is of the recoder that the one before handed back
-pub record Run (r : Recoder) (t : ℕ → Taken) : Type 0 where
-  pub first : IsTake r (t 0)
-  pub later : (k : ℕ) → IsTake (t k).next (t (k + 1))
-
--- the recoder of the k-th take, counted from 0
-unfoldable pub before : Recoder → (ℕ → Taken) → ℕ → Recoder
-before r t zero = r
-before r t (suc k) = (t k).next
+-- takes one after the other: the k-th, counted from 0, finds the recoder w k, leaves w (k + 1) and answers a k
+abbrev pub Run : (ℕ → Recoder) → (ℕ → Option ℕ) → Type 0
+Run w a = (k : ℕ) → IsTake (w k) (w (suc k)) (a k)
 
 -- the outcome of the k-th take, by the bytes of a digit string: its digits, lowest first, then done
 abbrev pub digit_outcome : List ℕ → ℕ → Outcome

@@ -9,95 +9,63 @@ ghost use Rattle.taking.specs.Take.{IsStart, IsTake};
 use integers::words_of;
 use numbers::number_verdict;
 use rules::{NUMBER_WORDS, Refusal};
-use words::{halved, is_zero};
+use words::{halve, is_zero};
 
 // A recoder stands for the value of its words, least significant first, plus one if it carries.
-#[derive(Drop)]
+#[derive(Clone, Copy)]
 pub struct Recoder {
     pub words: [u64; NUMBER_WORDS],
     pub carry: bool,
 }
 
-// What the start of taking answers.
-#[derive(Drop)]
-pub enum Start {
-    Ready,
-    Refused(Refusal),
-}
-
-#[derive(Drop)]
+// What the start of taking answers. A pair, since a refused start leaves a recoder too: that of zero.
+#[derive(Clone, Copy)]
 pub struct Started {
     pub recoder: Recoder,
-    pub answer: Start,
-}
-
-// What a take answers: the byte of a digit, or that there is none left.
-#[derive(Drop)]
-pub enum Take {
-    Digit(u8),
-    Done,
-}
-
-#[derive(Drop)]
-pub struct Taken {
-    pub next: Recoder,
-    pub answer: Take,
+    pub answer: Result<(), Refusal>,
 }
 
 impl Recoder {
     // A recoder for a number; for zero if the number is refused.
+    #[tactic(auto, using(numbers::proofs::Tests::admitted_is, numbers::proofs::Tests::admitted_value, crate::proofs::Moves::zero_stands), unfolding(crate::specs::Take::stands_for))]
     pub fn start(number: &[u8]) -> Started
         ensures { IsStart number.now result }
     {
-        if let Err(refusal) = number_verdict(number) {
-            return Started {
-                recoder: Recoder {
-                    words: [0; NUMBER_WORDS],
-                    carry: false,
-                },
-                answer: Start::Refused(refusal),
-            };
-        }
-        Started {
-            recoder: Recoder {
-                words: words_of(number),
-                carry: false,
-            },
-            answer: Start::Ready,
-        }
+        let answer = number_verdict(number);
+        let words = if answer.is_ok() {
+            words_of(number)
+        } else {
+            [0; NUMBER_WORDS]
+        };
+        let recoder = Recoder {
+            words,
+            carry: false,
+        };
+        Started { recoder, answer }
     }
 
-    // The lowest digit, and the recoder moved on by one place; done if no digit is left.
-    #[tactic(auto, using(crate::proofs::Moves::none_left, crate::proofs::Moves::some_left, crate::proofs::Moves::digit_answered, crate::proofs::Moves::digit_taken_off))]
-    pub fn take(self) -> Taken
-        ensures { IsTake self result }
+    // Takes the lowest digit off, and answers its byte. If no digit is left there is none, and nothing changes.
+    #[tactic(auto, using(integers::proofs::Bits::bool_small, crate::proofs::Moves::none_left, crate::proofs::Moves::some_left, crate::proofs::Moves::digit_answered, crate::proofs::Moves::whole_halved, crate::proofs::Moves::digit_taken_off))]
+    pub fn take(&mut self) -> Option<u8>
+        ensures { IsTake self.old self.new result }
     {
-        let words = self.words;
-        let carry = self.carry;
-        if is_zero(&words) & !carry {
-            return Taken {
-                next: self,
-                answer: Take::Done,
-            };
+        if is_zero(&self.words) & !self.carry {
+            return None;
         }
-        let word = words[0];
-        let one = carry as u64;
+        let word = self.words[0];
+        let one = u64::from(self.carry);
         let ones = word % 2 + word / 2 % 2 + one;
         let residue = word % 4 + one;
-        Taken {
-            next: Recoder {
-                words: halved(words),
-                carry: 2 <= ones,
-            },
-            answer: Take::Digit(digit_byte(residue)),
-        }
+        halve(&mut self.words);
+        self.carry = 2 <= ones;
+        Some(digit_byte(residue))
     }
 }
 
 // The byte of the lowest digit of a number: 0, 1, 0, minus 1 by the remainder modulo 4.
+#[tactic(auto, using(crate::proofs::Moves::byte_at))]
 pub fn digit_byte(number: u64) -> u8
     ensures { result ≡ digit_byte (low_digit canonical_width number) }
 {
-    let bytes = [0, 1, 0, 255];
-    bytes[(number % 4) as usize]
+    [0, 1, 0, 255][(number % 4) as usize]
 }

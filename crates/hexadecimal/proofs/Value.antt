@@ -1,30 +1,22 @@
 -- What the answer tells: the bytes of a number have its value, and where there is none, why; and what a word is without its 0x. Assumes nothing.
-use mathlib.Core.Path.{◌≡◌, refl, sym, ap, ◌∙◌}
+use mathlib.Core.Path.{◌≡◌, refl, ◌∙◌}
 use mathlib.Core.Logic.{◌↔◌, ◌⊎◌, inl, inr}
 use mathlib.Core.List.{List, [], ◌∷◌, ◌++◌}
 use Prim.Native.Nat.{ℕ, zero, suc, ◌+◌, ◌-◌, ◌*◌, ◌/◌, ◌%◌, ◌^◌, ◌<◌, ◌≤◌}
 use native.Mathlib.Nat.{pow-suc, mul-add, mul_assoc, mul_comm, mul-zero, add-zero, add-suc}
 use native.Mathlib.Omega.{arith}
-use borrow.Author.Tests.{lt-ltb, le-ltb, le-leb, lt-leb, ltb-true, ltb-false, leb-true, eqb-true, eqb-false}
+use borrow.Author.Tests.{ne_eqb, lt-ltb, le-ltb, le-leb, lt-leb, ltb-true, ltb-false, leb-true, eqb-true, eqb-false}
 use lib.ListN.{length, get_or, set, take, drop, drop_of_length-le}
 use lib.Seq.{drop-cons, take-append_seam}
 use native.Mathlib.Numerals.{add-one}
-use mathlib.Core.Bool.{Bool, true, false, cond, ◌&&◌, ◌||◌}
+use mathlib.Core.Bool.{Bool, true, false, cond, ◌&&◌}
 use lib.Dec.{eqb, ltb, leb}
 use Rattle.integers.specs.Positional.{positional, bytes_value}
 use Rattle.integers.specs.Tabulate.{tabulate}
 use Rattle.integers.proofs.Tabulate.{length_tabulate, tabulate_same, tabulate_more, positional_tabulate}
 use Rattle.hexadecimal.specs.Hex.{digit_value, place_value, byte_at, hex_value, is_hex, byte_count, parsed, parsed_buffer, is_prefix, without_prefix}
-use Rattle.hexadecimal.specs.declared.Parsed.{Parsed}
-use Rattle.hexadecimal.specs.declared.Parsed.TheVariants.{Bytes, NotHex}
-
--- how many bytes a number has
-abbrev bytes_in : Parsed → ℕ
-bytes_in (Bytes n) = n
-bytes_in NotHex = 0
-
-no_number : {A : Type 0} {n : ℕ} → NotHex ≡ Bytes n → A
-no_number e = let z : ◌≡◌ {A = ℕ} 0 1 = cc in absurd (omega arith)
+use Rattle.std.specs.Prelude.{Option, Some, None}
+use Rattle.std.specs.Char.{is_ascii_hexdigit}
 
 -- two digits to a byte
 bytes_are_digits : (text : List ℕ) (n : ℕ) → (positional 256 (tabulate (byte_at text) n) ≡ positional 16 (tabulate (place_value text) (2 * n))) × (256 ^ n ≡ 16 ^ (2 * n))
@@ -84,19 +76,41 @@ front_value text rest =
     let seam : take n (t ++ rest) ≡ t = rw (length_tabulate (byte_at text) n) at (take-append_seam t rest) in
     rw seam (has_value text n (omega arith))
 
+-- ---- the answer, by the tests that lead to it
+
+module _ (text : List ℕ) (room : ℕ) where
+  pub no_number : (length text ≡ 0) ⊎ (room < byte_count text) ⊎ (is_hex text ≡ false) → None ≡ parsed text room
+  unfolding parsed
+  no_number (inl z) = simp z
+  no_number (inr (inl h)) = simp (lt-ltb room (byte_count text) h) (either (eqb (length text) 0) None)
+    where
+      either : (b : Bool) (o : Option ℕ) → o ≡ cond b o o
+      either true o = refl
+      either false o = refl
+  no_number (inr (inr e)) = simp e (go (eqb (length text) 0) (ltb room (byte_count text)))
+    where
+      go : (a b : Bool) → ◌≡◌ {A = Option ℕ} None (cond a None (cond b None None))
+      go true b = refl
+      go false true = refl
+      go false false = refl
+
+  pub number : (length text ≡ 0 → ⊥) → byte_count text ≤ room → is_hex text ≡ true → Some (byte_count text) ≡ parsed text room
+  unfolding parsed
+  number some h e = simp (ne_eqb (length text) 0 some, le-ltb room (byte_count text) h, e)
+
 -- a number takes as many bytes as its digits need
-parsed_count : (text : List ℕ) (room n : ℕ) → parsed text room ≡ Bytes n → byte_count text ≡ n
+parsed_count : (text : List ℕ) (room n : ℕ) → parsed text room ≡ Some n → byte_count text ≡ n
 unfolding parsed
 parsed_count text room n = go (eqb (length text) 0) (ltb room (byte_count text)) (is_hex text)
   where
-    go : (none short hex : Bool) → cond none NotHex (cond short NotHex (cond hex (Bytes (byte_count text)) NotHex)) ≡ Bytes n → byte_count text ≡ n
-    go true short hex e = no_number e
-    go false true hex e = no_number e
-    go false false true e = ap bytes_in e
-    go false false false e = no_number e
+    go : (none short hex : Bool) → cond none None (cond short None (cond hex (Some (byte_count text)) None)) ≡ Some n → byte_count text ≡ n
+    go true short hex e = cc
+    go false true hex e = cc
+    go false false true e = cc
+    go false false false e = cc
 
 -- where the answer is a number of this many bytes, these bytes have its value
-pub parsed_value : (text bytes : List ℕ) (n : ℕ) → parsed text (length bytes) ≡ Bytes n → bytes_value (take n (parsed_buffer text bytes)) ≡ hex_value text
+pub parsed_value : (text bytes : List ℕ) (n : ℕ) → parsed text (length bytes) ≡ Some n → bytes_value (take n (parsed_buffer text bytes)) ≡ hex_value text
 parsed_value text bytes n e =
     let m = parsed_count text (length bytes) n e in
     rw (e, ← m) (front_value text (drop (byte_count text) bytes))
@@ -111,7 +125,7 @@ below {A} c n f g = go (ltb c n) refl
     go false e = g (ltb-false c n e)
 
 -- a digit by its ranges, and its value by its halves
-pub digit_law : (c : ℕ) → (leb 48 c && leb c 57 || leb 65 c && leb c 70 || leb 97 c && leb c 102 ≡ leb (digit_value c) 15) × (digit_value c ≤ 15 → c % 16 + c / 64 * 9 ≡ digit_value c)
+pub digit_law : (c : ℕ) → (is_ascii_hexdigit c ≡ leb (digit_value c) 15) × (digit_value c ≤ 15 → c % 16 + c / 64 * 9 ≡ digit_value c)
 unfolding digit_value
 digit_law c =
     below c 48 (λ h. simp (lt-ltb c 48 h, lt-leb 48 c h, lt-leb 65 c (omega arith), lt-leb 97 c (omega arith)) (refl, λ d. absurd (omega arith)))
@@ -228,7 +242,7 @@ not_all (c ∷ text) (suc i) h d = go (ltb 15 (digit_value c)) (not_all text i (
     go false e = e
 
 -- there is no number exactly where the text is empty, or has a byte that is no digit, or there is too little room
-pub not_hex : (text : List ℕ) (room : ℕ) → parsed text room ≡ NotHex ↔ (length text ≡ 0) ⊎ Other text ⊎ (room < byte_count text)
+pub not_hex : (text : List ℕ) (room : ℕ) → parsed text room ≡ None ↔ (length text ≡ 0) ⊎ Other text ⊎ (room < byte_count text)
 unfolding parsed
 not_hex text room = (
   to (eqb (length text) 0) refl (ltb room (byte_count text)) refl (is_hex text) refl,
@@ -236,14 +250,14 @@ not_hex text room = (
 )
   where
     to : (none : Bool) → eqb (length text) 0 ≡ none → (short : Bool) → ltb room (byte_count text) ≡ short → (hex : Bool) → is_hex text ≡ hex
-        → cond none NotHex (cond short NotHex (cond hex (Bytes (byte_count text)) NotHex)) ≡ NotHex → (length text ≡ 0) ⊎ Other text ⊎ (room < byte_count text)
+        → cond none None (cond short None (cond hex (Some (byte_count text)) None)) ≡ None → (length text ≡ 0) ⊎ Other text ⊎ (room < byte_count text)
     to true n short s hex x e = inl (eqb-true (length text) 0 n)
     to false n true s hex x e = inr (inr (ltb-true room (byte_count text) s))
-    to false n false s true x e = no_number (sym e)
+    to false n false s true x e = cc
     to false n false s false x e = inr (inl (other_byte text x))
 
     from : (none : Bool) → eqb (length text) 0 ≡ none → (short : Bool) → ltb room (byte_count text) ≡ short → (hex : Bool) → is_hex text ≡ hex
-        → (length text ≡ 0) ⊎ Other text ⊎ (room < byte_count text) → cond none NotHex (cond short NotHex (cond hex (Bytes (byte_count text)) NotHex)) ≡ NotHex
+        → (length text ≡ 0) ⊎ Other text ⊎ (room < byte_count text) → cond none None (cond short None (cond hex (Some (byte_count text)) None)) ≡ None
     from true n short s hex x why = refl
     from false n true s hex x why = refl
     from false n false s false x why = refl

@@ -1,8 +1,6 @@
 -- Numbers in hexadecimal, as people write them: most significant digit first, in ASCII.
-use Rattle.std.specs.Prelude.{ℕ, ◌+◌, ◌-◌, ◌*◌, ◌/◌, ◌%◌, ◌^◌, Bool, true, false, cond, List, [], ◌∷◌, ◌++◌, ltb, leb, eqb, length, get_or, drop}
+use Rattle.std.specs.Prelude.{ℕ, ◌+◌, ◌-◌, ◌*◌, ◌/◌, ◌%◌, ◌^◌, Bool, true, false, cond, List, [], ◌∷◌, ◌++◌, ltb, leb, eqb, length, get_or, drop, Option, Some, None}
 use Rattle.integers.specs.Tabulate.{tabulate}
-use Rattle.hexadecimal.specs.declared.Parsed.{Parsed}
-use Rattle.hexadecimal.specs.declared.Parsed.TheVariants.{Bytes, NotHex}
 
 -- the value of a digit: 0 to 9, A to F, a to f; 16 for any other byte
 unfoldable pub digit_value : ℕ → ℕ
@@ -37,16 +35,16 @@ abbrev pub byte_count : List ℕ → ℕ
 byte_count text = length text / 2 + length text % 2
 
 -- a text is a number where it has a digit, all are digits, and there is room for its bytes
-unfoldable pub parsed : List ℕ → ℕ → Parsed
+unfoldable pub parsed : List ℕ → ℕ → Option ℕ
 parsed text room =
-    cond (eqb (length text) 0) NotHex
-    (cond (ltb room (byte_count text)) NotHex
-    (cond (is_hex text) (Bytes (byte_count text)) NotHex))
+    cond (eqb (length text) 0) None
+    (cond (ltb room (byte_count text)) None
+    (cond (is_hex text) (Some (byte_count text)) None))
 
 -- the buffer afterwards: the number's bytes at its start, and those above stay; where there is no number, as it was
-abbrev pub leaves : Parsed → List ℕ → List ℕ → List ℕ
-leaves (Bytes n) text bytes = tabulate (byte_at text) n ++ drop n bytes
-leaves NotHex text bytes = bytes
+abbrev pub leaves : Option ℕ → List ℕ → List ℕ → List ℕ
+leaves (Some n) text bytes = tabulate (byte_at text) n ++ drop n bytes
+leaves None text bytes = bytes
 
 abbrev pub parsed_buffer : List ℕ → List ℕ → List ℕ
 parsed_buffer text bytes = leaves (parsed text (length bytes)) text bytes

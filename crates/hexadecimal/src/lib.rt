@@ -5,31 +5,20 @@ ghost use Rattle.std.specs.Prelude.{◌≡◌, true, ◌++◌, ◌≤◌, ◌<�
 ghost use Rattle.integers.specs.Tabulate.{tabulate};
 ghost use Rattle.hexadecimal.specs.Hex.{digit_value, place_value, byte_at, byte_count, is_hex, is_prefix, parsed, parsed_buffer, without_prefix};
 
-// What a word holds: a number in this many bytes, or something else.
-#[derive(Drop)]
-pub enum Parsed {
-    Bytes(usize),
-    NotHex,
-}
-
-// Whether a byte is a hexadecimal digit: three ranges, and no branch that digits decide.
+// Whether a byte is a hexadecimal digit. No branch that digits decide: std tests three ranges.
 fn is_digit(byte: u8) -> bool
     ensures { result ≡ leb (digit_value byte) 15 }
 {
-    ((b'0' <= byte) & (byte <= b'9'))
-        | ((b'A' <= byte) & (byte <= b'F'))
-        | ((b'a' <= byte) & (byte <= b'f'))
+    byte.is_ascii_hexdigit()
 }
 
-// Whether all bytes are hexadecimal digits.
+// Whether all bytes are hexadecimal digits. It tests each, so that no digit decides a branch.
 fn is_hex(text: &[u8]) -> bool
     ensures { result ≡ is_hex text.now }
 {
     let mut all = true;
-    let mut i = 0;
-    while i < text.len() {
-        all = all & is_digit(text[i]);
-        i += 1;
+    for byte in text {
+        all &= is_digit(*byte);
     }
     all
 }
@@ -52,67 +41,37 @@ fn write(text: &[u8], bytes: &mut [u8])
     ensures { bytes.new ≡ tabulate (byte_at text.now) (byte_count text.now) ++ drop (byte_count text.now) bytes.old }
 {
     let pairs = text.len() / 2;
-    let mut k = 0;
-    while k < pairs {
+    for k in 0..pairs {
         let low = digit_at(text, 2 * k);
         let high = digit_at(text, 2 * k + 1);
         bytes[k] = low + 16 * high;
-        k += 1;
     }
     if text.len() % 2 == 1 {
         bytes[pairs] = digit_at(text, 2 * pairs);
     }
 }
 
-// Puts the number of a text into bytes, least significant first.
-fn parse_digits(text: &[u8], bytes: &mut [u8]) -> Parsed
-    ensures answer { result ≡ parsed text.now (length bytes.old) }
-    ensures buffer { bytes.new ≡ parsed_buffer text.now bytes.old }
-{
-    let n = text.len() / 2 + text.len() % 2;
-    if text.len() == 0 {
-        return Parsed::NotHex;
-    }
-    if bytes.len() < n {
-        return Parsed::NotHex;
-    }
-    if is_hex(text) {
-        write(text, bytes);
-        return Parsed::Bytes(n);
-    }
-    Parsed::NotHex
-}
-
-// Whether a byte is the x of 0x.
-fn is_prefix(byte: u8) -> bool
-    ensures { result ≡ is_prefix byte }
-{
-    if byte == b'x' {
-        return true;
-    }
-    byte == b'X'
-}
-
 // The word behind the 0x that it may have in front.
+#[tactic(auto, unfolding(crate::specs::Hex::without_prefix, crate::specs::Hex::is_prefix))]
 fn without_prefix(word: &[u8]) -> &[u8]
     ensures { result.now ≡ without_prefix word.now }
 {
-    if word.len() < 2 {
-        return word;
+    match word {
+        [b'0', b'x' | b'X', digits @ ..] => digits,
+        _ => word,
     }
-    if word[0] != b'0' {
-        return word;
-    }
-    if is_prefix(word[1]) {
-        return &word[2..];
-    }
-    word
 }
 
-// Puts the number of a word into bytes, least significant first.
-pub fn parse(word: &[u8], bytes: &mut [u8]) -> Parsed
+// Puts the number of a word into bytes, least significant first: the answer is how many they are.
+pub fn parse(word: &[u8], bytes: &mut [u8]) -> Option<usize>
     ensures answer { result ≡ parsed (without_prefix word.now) (length bytes.old) }
     ensures buffer { bytes.new ≡ parsed_buffer (without_prefix word.now) bytes.old }
 {
-    parse_digits(without_prefix(word), bytes)
+    let text = without_prefix(word);
+    let n = text.len() / 2 + text.len() % 2;
+    if text.is_empty() || bytes.len() < n || !is_hex(text) {
+        return None;
+    }
+    write(text, bytes);
+    Some(n)
 }

@@ -12,4 +12,4 @@ loop-k-init c = search rules
 pub loop-k-preserved : goal.loop-k-preserved
 loop-k-preserved c =
     let args = c.args in
-    (search rules, search rules, rw c.loop-k.invariant.2 (byte_more args.text.now args.bytes.now c.loop-k.k (omega arith) (search rules)))
+    (search rules, rw c.loop-k.invariant.1 (byte_more args.text.now args.bytes.now c.loop-k.k (omega arith) (search rules)))

@@ -5,7 +5,7 @@ ghost use Rattle.std.specs.Prelude.{◌≡◌, length};
 ghost use Rattle.cleaning.specs.Clean.{clean_answer, clean_buffer};
 
 use cleaning_digits::{count, write};
-use digit_strings::{CANONICAL_WIDTH, string_verdict};
+use digit_strings::string_verdict;
 use rules::Refusal;
 
 // Writes the canonical string of a digit string's value, lowest digit first.
@@ -14,7 +14,7 @@ pub fn clean(digits: &[u8], out: &mut [u8]) -> Result<usize, Refusal>
     ensures answer { result ≡ clean_answer digits.now (length out.old) }
     ensures buffer { out.new ≡ clean_buffer digits.now out.old }
 {
-    string_verdict(digits, CANONICAL_WIDTH)?;
+    string_verdict(digits, Width::CANONICAL)?;
     let length = count(digits);
     if out.len() < length {
         return Err(Refusal::RoomTooSmall(length));

@@ -1,18 +1,17 @@
 -- Each verdict on a digit string with what it is given for, and no other. Assumes nothing.
 use Rattle.rules.specs.declared.Refusal.{Refusal}
 use Rattle.std.specs.Prelude.{Result, Ok, Err}
-use mathlib.Core.Path.{◌≡◌, sym, ap, ◌∙◌}
+use mathlib.Core.Path.{◌≡◌, sym}
 use mathlib.Core.Logic.{◌↔◌}
 use mathlib.Core.List.{List}
-use Prim.Native.Nat.{ℕ, ◌-◌, ◌*◌, ◌%◌, ◌^◌, ◌<◌, ◌≤◌}
+use Prim.Native.Nat.{ℕ, ◌<◌, ◌≤◌}
 use borrow.Author.Tests.{lt-ltb, le-ltb}
 use native.Mathlib.Decide.{dec_lt}
 use native.Mathlib.Omega.{arith}
 use lib.ListN.{length}
-use Rattle.rules.specs.Limits.{largest_width, string_digits}
+use Rattle.rules.specs.Limits.{string_digits}
 use Rattle.rules.specs.declared.Refusal.TheVariants.{NotADigit, StringTooLong}
-use Rattle.digit_strings.specs.Admission.{largest_digit, digit_up_to, first_failing, first_bad, string_verdict, DigitString, LowestBad}
-use Rattle.digit_strings.proofs.Digits.{bound_fits}
+use Rattle.digit_strings.specs.Admission.{first_bad, string_verdict, DigitString, LowestBad}
 use Rattle.digit_strings.proofs.Scan.{bad_is, bad_only, all_digits, none_bad}
 
 module _ (w : ℕ) (s : List ℕ) where
@@ -42,20 +41,11 @@ module _ (w : ℕ) (s : List ℕ) where
 
   -- ---- what the code's tests say of refusals 5 and 4
 
-  -- the code's largest digit: the shifted 1, less 1
-  shifted : w ≤ largest_width → 1 * 2 ^ (w - 1) % 2 ^ 64 - 1 ≡ largest_digit w
-  shifted h = omega (arith, bound_fits w h)
-
-  scanned : w ≤ largest_width → first_failing (digit_up_to (1 * 2 ^ (w - 1) % 2 ^ 64 - 1)) s ≡ first_bad w s
-  scanned h = ap (λ (m : ℕ). first_failing (digit_up_to m) s) (shifted h)
-
   pub verdict_too_long : string_digits < length s → Err StringTooLong ≡ string_verdict w s
   verdict_too_long h = sym (string_only (too_long h))
 
-  pub verdict_bad_digit : (p : ℕ) → w ≤ largest_width → length s ≤ string_digits → p ≡ first_failing (digit_up_to (1 * 2 ^ (w - 1) % 2 ^ 64 - 1)) s → p < length s → Err (NotADigit p) ≡ string_verdict w s
-  verdict_bad_digit p n h e l =
-      let f : p ≡ first_bad w s = e ∙ scanned n in
-      sym (string_only (bad_digit h (rw (← f) at (bad_is w s (rw (← f) l)))))
+  pub verdict_bad_digit : (p : ℕ) → length s ≤ string_digits → p ≡ first_bad w s → p < length s → Err (NotADigit p) ≡ string_verdict w s
+  verdict_bad_digit p h f l = sym (string_only (bad_digit h (rw (← f) at (bad_is w s (rw (← f) l)))))
 
-  pub verdict_passed : w ≤ largest_width → length s ≤ string_digits → length s ≤ first_failing (digit_up_to (1 * 2 ^ (w - 1) % 2 ^ 64 - 1)) s → Ok tt ≡ string_verdict w s
-  verdict_passed n h l = sym (string_only (digits (all_digits w s h (rw (← scanned n) l))))
+  pub verdict_passed : length s ≤ string_digits → length s ≤ first_bad w s → Ok tt ≡ string_verdict w s
+  verdict_passed h l = sym (string_only (digits (all_digits w s h l)))

@@ -5,7 +5,7 @@ ghost use Rattle.std.specs.Prelude.{◌≡◌, ◌≤◌, length};
 ghost use Rattle.rules.specs.Limits.{least_width, largest_width};
 ghost use Rattle.reading.specs.ReadBack.{read_answer_of, read_buffer_of, read_back_answer, read_back_buffer};
 
-use digit_strings::{CANONICAL_WIDTH, string_verdict};
+use digit_strings::string_verdict;
 use integers::significant;
 use output::put;
 use reading_digits::{sign_of, size_of};
@@ -41,5 +41,5 @@ pub fn read_back(digits: &[u8], out: &mut [u8]) -> Result<ReadBack, Refusal>
     ensures answer { result ≡ read_back_answer digits.now (length out.old) }
     ensures buffer { out.new ≡ read_back_buffer digits.now out.old }
 {
-    read_of_width(digits, CANONICAL_WIDTH, out)
+    read_of_width(digits, Width::CANONICAL, out)
 }

@@ -8,6 +8,8 @@ ghost use Rattle.std.specs.Prelude.{◌≡◌};
 ghost use Rattle.rules.specs.Limits.{documented};
 ghost use Rattle.rules.specs.Refusals.{refusal_number, refusal_place};
 
+use std::marker::Model;
+
 // The version: 10000 * major + 100 * minor + patch.
 pub const VERSION: u32 = 800;
 
@@ -152,4 +154,47 @@ pub struct Counts {
 pub struct Accepted {
     pub counts: Counts,
     pub largest_bits: usize,
+}
+
+// A width of a non-adjacent form that is allowed: the width of its digits.
+#[derive(Clone, Copy)]
+pub struct Width {
+    pub bits: usize,
+}
+
+impl Model for Width {
+    ghost use Rattle.std.specs.Prelude.{ℕ, ◌≤◌};
+    ghost use Rattle.rules.specs.Limits.{least_width, largest_width};
+
+    ghost Value = { ℕ };
+
+    ghost view = { λ w. w.bits };
+
+    ghost invariant = { λ w. (least_width ≤ w.bits) × (w.bits ≤ largest_width) };
+
+    ghost inverse = { λ n. record { bits = n } };
+}
+
+impl Width {
+    ghost use Rattle.std.specs.Prelude.{◌≡◌, ◌≤◌, ◌-◌, ◌^◌};
+    ghost use Rattle.rules.specs.Limits.{least_width, largest_width};
+
+    // The width of the canonical string, whose digits are 0, 1 and -1.
+    pub const CANONICAL: Width = Width { bits: LEAST_WIDTH };
+
+    // How many bits that is.
+    pub fn bits(self) -> usize
+        ensures value { result ≡ self }
+        ensures range { (least_width ≤ result) × (result ≤ largest_width) }
+    {
+        self.bits
+    }
+
+    // The largest digit: sizes are below 2 to the power of the bits but one.
+    pub fn largest_digit(self) -> u8
+        ensures value { result ≡ 2 ^ (self - 1) - 1 }
+        ensures bound { result ≤ 127 }
+    {
+        ((1 << (self.bits - 1)) - 1) as u8
+    }
 }

@@ -1,7 +1,7 @@
 -- A take of a kept recoder, by the move of the recoder that its words hold. Assumes nothing.
 use mathlib.Core.Path.{◌≡◌, refl, sym, ap, ◌∙◌}
 use mathlib.Core.Logic.{◌≢◌}
-use mathlib.Core.Bool.{Bool, true, false, not, ◌&&◌, ◌||◌, or-true, true≢false, false≢true}
+use mathlib.Core.Bool.{Bool, true, false, not, ◌||◌, or-true, true≢false, false≢true}
 use mathlib.Core.List.{List}
 use Prim.Native.Nat.{ℕ, zero, suc, ◌+◌, ◌/◌, ◌%◌, ◌^◌, ◌<◌}
 use borrow.Author.Tests.{eqb-true, eqb-false, ne_eqb, le-leb, not-true}
@@ -17,8 +17,8 @@ use Rattle.integers.proofs.Positional.{positional_nonzero}
 use Rattle.signed_digits.specs.Naf.{low_digit}
 use Rattle.signed_digits.specs.Bytes.{digit_byte}
 use Rattle.taking.specs.declared.Recoder.{Recoder}
-use Rattle.taking.specs.Take.{stands_for}
-use Rattle.taking.proofs.Moves.{move_is}
+use Rattle.taking.specs.Take.{stands_for, take_answer, take_leaves}
+use Rattle.taking.proofs.Moves.{digit_answered, digit_taken_off}
 use Rattle.c_recoder.specs.Kept.{kept_number, taken_number, done_number, IsKeptTake}
 
 -- ---- a number v and a carry c, where a word that is part of v is not 0 if w
@@ -32,10 +32,8 @@ none : (v : ℕ) (w c : Bool) → (w || c) ≡ false → eqb v 0 ≡ eqb (v + bo
 none v w true t = absurd (true≢false (sym (or-true w) ∙ t))
 none v w false t = rw add-zero
 
-going : (v : ℕ) (c : Bool) → eqb (v + bool_byte c) 0 ≡ false → (eqb v 0 && not c) ≡ false
-going zero false t = t
-going zero true t = refl
-going (suc v) c t = rw (ne_eqb (suc v) 0 (λ z. omega arith))
+going : (v : ℕ) → eqb v 0 ≡ false → 0 < v
+going v t = let h = eqb-false v 0 t in omega arith
 
 -- two ones or three carry one
 carried : (m : ℕ) → not (eqb (m / 2) 0) ≡ leb 2 m
@@ -68,26 +66,30 @@ module _ (kept : List ℕ) where
   unfolding kept_number
   none_left = none (words_value words) (not (eqb low 0)) carry
 
-  -- ---- the two returns of a take
+  -- ---- a take with no digit left
 
   pub taken_done : eqb (kept_number kept) 0 ≡ true → IsKeptTake kept kept done_number
   taken_done t =
       let z : kept_number kept ≡ 0 = eqb-true (kept_number kept) 0 t in
       record { answer = rw z; next = rw z; done = λ _. refl }
 
-  pub taken_digit : (next : List ℕ) (digit : ℕ) → let ones = low % 2 + low / 2 % 2 + bool_byte carry in let stored = set kept number_words (ones / 2) in
-      number_words < length kept → eqb (kept_number kept) 0 ≡ false → drop number_words next ≡ drop number_words stored
-      → words_value (take number_words next) ≡ words_value (take number_words stored) / 2 → digit ≡ digit_byte (low_digit 2 (low % 4 + bool_byte carry)) → IsKeptTake kept next digit
+  -- ---- a take of a digit: its parts
+
+  pub kept_answered : (digit : ℕ) → eqb (kept_number kept) 0 ≡ false → digit ≡ digit_byte (low_digit 2 (low % 4 + bool_byte carry)) → digit ≡ taken_number (take_answer (kept_number kept))
   unfolding kept_number stands_for
-  taken_digit next digit long left rest halves byte =
+  kept_answered digit left byte =
+      let r : Recoder = record { words = words; carry = carry } in
+      ap taken_number (digit_answered r digit (going (kept_number kept) left) (rw low_is byte))
+
+  pub kept_left : (next : List ℕ) → let ones = low % 2 + low / 2 % 2 + bool_byte carry in let stored = set kept number_words (ones / 2) in
+      eqb (kept_number kept) 0 ≡ false → number_words < length kept → drop number_words next ≡ drop number_words stored
+      → words_value (take number_words next) ≡ words_value (take number_words stored) / 2 → kept_number next ≡ take_leaves (kept_number kept)
+  unfolding kept_number stands_for
+  kept_left next left long rest halves =
       let r : Recoder = record { words = words; carry = carry } in
       let ones : ℕ = low % 2 + low / 2 % 2 + bool_byte carry in
       let stored : List ℕ = set kept number_words (ones / 2) in
       let last : get_or next number_words 0 ≡ get_or stored number_words 0 = sym (get_or-drop number_words next 0 0) ∙ ap (λ (l : List ℕ). get_or l 0 0) rest ∙ get_or-drop number_words stored 0 0 in
       let half = rw (take-set-le number_words kept number_words (ones / 2) (omega arith)) at halves in
-      let move = move_is r (eqb (words_value words) 0) refl digit (take number_words next) (going (words_value words) carry left) half (rw low_is byte) in
-      record {
-        answer = ap taken_number move.answer;
-        next = rw (last, get_or-set_same kept number_words (ones / 2) 0 long, carried ones) (rw low_is at move.next);
-        done = λ z. absurd (eqb-false (kept_number kept) 0 left z);
-      }
+      let some = going (kept_number kept) left in
+      rw (last, get_or-set_same kept number_words (ones / 2) 0 long, carried ones) (rw low_is at (digit_taken_off r (take number_words next) _ some half refl))

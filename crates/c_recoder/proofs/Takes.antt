@@ -1,6 +1,6 @@
 -- Takes of a kept recoder one after the other give the canonical digits, lowest first, then done; shown from what the exported calls promise alone.
 -- Assumes nothing.
-use mathlib.Core.Path.{◌≡◌, refl, sym, ap, ◌∙◌}
+use mathlib.Core.Path.{◌≡◌, refl, ap, ◌∙◌}
 use mathlib.Core.List.{List, [], ◌∷◌}
 use Prim.Native.Nat.{ℕ, zero, suc}
 use lib.IntN.{pos}
@@ -11,7 +11,7 @@ use Rattle.signed_digits.specs.Bytes.{digit_byte, digit_bytes}
 use Rattle.signed_digits.proofs.Steps.{naf_zero, low_digit_2, by_four}
 use Rattle.recoding.specs.Recode.{recoding_of, recoding}
 use Rattle.taking.specs.Take.{start_answer, start_number, start_outcome, take_answer, take_outcome, digit_outcome}
-use Rattle.taking.proofs.Takes.{digits_of_lem, digits_after}
+use Rattle.taking.proofs.Takes.{numbers_taken}
 use Rattle.taking.proofs.Promises.{start_number_lem, refused_number}
 use Rattle.c_recoder.specs.Kept.{kept_number, taken_number, taken_outcome, IsKeptTake}
 
@@ -30,11 +30,7 @@ outcome_at n k = digit_outcome (digit_bytes (canonical (pos n))) k
 -- take k finds the words w k, leaves w (k + 1) and answers a k; also from words put together by hand
 pub kept_takes : (w : ℕ → List ℕ) (a : ℕ → ℕ) → ((k : ℕ) → IsKeptTake (w k) (w (suc k)) (a k)) → (k : ℕ)
     → taken_outcome (a k) ≡ digit_outcome (digit_bytes (canonical (pos (kept_number (w 0))))) k
-kept_takes w a run zero = ap taken_outcome (run 0).answer ∙ told (kept_number (w 0)) ∙ sym (digits_of_lem (kept_number (w 0)))
-kept_takes w a run (suc k) =
-    kept_takes (λ i. w (suc i)) (λ i. a (suc i)) (λ i. run (suc i)) k
-    ∙ ap (λ (n : ℕ). outcome_at n k) (run 0).next
-    ∙ sym (digits_after (kept_number (w 0)) k)
+kept_takes w a run k = ap taken_outcome (run k).answer ∙ told (kept_number (w k)) ∙ numbers_taken (λ i. kept_number (w i)) (λ i. (run i).next) k
 
 module _ (number : List ℕ) (w : ℕ → List ℕ) (a : ℕ → ℕ) (start : kept_number (w 0) ≡ start_number number) (run : (k : ℕ) → IsKeptTake (w k) (w (suc k)) (a k)) where
   -- from lesmutka_start on: the number's digits, then done

@@ -13,23 +13,19 @@ use words::{halve, is_zero};
 pub const KEPT_WORDS: usize = NUMBER_WORDS + 1;
 
 // A recoder to be kept.
+#[tactic(auto, using(crate::proofs::Copied::kept_stored), unfolding(taking::specs::Take::stands_for))]
 pub fn kept_of(recoder: Recoder) -> [u64; KEPT_WORDS]
     ensures { kept_number result ≡ stands_for recoder }
 {
-    let words = recoder.words;
-    let carry = recoder.carry;
-    let mut kept = [0u64; KEPT_WORDS];
-    let mut k = 0;
-    while k < NUMBER_WORDS {
-        kept[k] = words[k];
-        k += 1;
-    }
-    kept[NUMBER_WORDS] = carry as u64;
+    let mut kept = [0; KEPT_WORDS];
+    kept[..NUMBER_WORDS].copy_from_slice(&recoder.words);
+    kept[NUMBER_WORDS] = u64::from(recoder.carry);
     kept
 }
 
 // Whether nothing is left. The lowest word and the carry nearly always tell. One branch for both, since one
 // on the carry alone would go at random.
+#[tactic(auto, using(crate::proofs::Taken::some_left, crate::proofs::Taken::none_left))]
 fn is_done(kept: &[u64]) -> bool
     requires { number_words < length kept.now }
     ensures { result ≡ eqb (kept_number kept.now) 0 }
@@ -45,6 +41,7 @@ const DONE: u32 = 256;
 
 // Takes the lowest digit that is left: its byte, or DONE if there is none. In place, since so many words
 // by value do not fit into registers.
+#[tactic(auto, using(integers::proofs::Bits::bool_small, crate::proofs::Taken::taken_done, crate::proofs::Taken::kept_answered, crate::proofs::Taken::kept_left))]
 pub fn take(kept: &mut [u64; KEPT_WORDS]) -> u32
     ensures { IsKeptTake kept.old kept.new result }
 {
@@ -52,10 +49,10 @@ pub fn take(kept: &mut [u64; KEPT_WORDS]) -> u32
         return DONE;
     }
     let word = kept[0];
-    let one = (kept[NUMBER_WORDS] != 0) as u64;
+    let one = u64::from(kept[NUMBER_WORDS] != 0);
     let ones = word % 2 + word / 2 % 2 + one;
     let residue = word % 4 + one;
     kept[NUMBER_WORDS] = ones / 2;
     halve(kept);
-    digit_byte(residue) as u32
+    u32::from(digit_byte(residue))
 }

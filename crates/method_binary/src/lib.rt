@@ -16,6 +16,7 @@ use plan_writing::Cursor;
 use rules::Counts;
 
 // The counts of the steps for a number above zero: the bit length less one, the ones less one.
+#[tactic(auto, using(integers::proofs::Bits::some_bits, methods::proofs::Binary::ones_positive, methods::proofs::Binary::binary_counts))]
 pub fn counts(number: &[u8]) -> Counts
     requires { Positive number.now }
     ensures { result ≡ counts_of (binary_steps (bytes_value number.now)) }
@@ -48,9 +49,7 @@ pub fn write(number: &[u8], out: &mut [u8])
     ensures { out.new ≡ plan_bytes_of (binary_steps (bytes_value number.now)) ++ drop (length (plan_bytes_of (binary_steps (bytes_value number.now)))) out.old }
 {
     let mut c = Cursor::first();
-    let mut i = bit_length(number) - 1;
-    while 0 < i {
-        i -= 1;
+    for i in (0..bit_length(number) - 1).rev() {
         c = at_bit(c, out, bit_at(number, i));
     }
 }

@@ -12,8 +12,8 @@ use Rattle.plan_writing.proofs.Underway.{Underway, down_one, nothing_written, un
 use borrow.Author.Rules.{rules}
 use Rattle.method_binary.proofs.write.Goals as goal
 
-pub overflow_sub-i : goal.overflow_sub-i
-overflow_sub-i c = omega (arith, c.bit_length-i.ensures, some_bits (bytes_value c.args.number.now) (search rules))
+pub overflow_step-i : goal.overflow_step-i
+overflow_step-i c = omega (arith, c.bit_length-i.ensures, some_bits (bytes_value c.args.number.now) (search rules))
 
 pub loop-i-init : goal.loop-i-init
 unfolding binary_steps

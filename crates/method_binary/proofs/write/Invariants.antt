@@ -10,6 +10,3 @@ use Rattle.method_binary.proofs.write.Given as goal
 
 abbrev pub invariant-loop-i : goal.invariant-loop-i
 invariant-loop-i l = (l.i + 1 ≤ bit_length (bytes_value l.number)) × (length l.out ≡ length l.initial.out) × Underway l.initial.out l.out l.c (λ i b. at_bit (bit (bytes_value l.number) i) b) l.i (binary_steps (bytes_value l.number))
-
-abbrev pub decreases-loop-i : goal.decreases-loop-i
-decreases-loop-i l = l.i

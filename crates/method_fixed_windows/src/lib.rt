@@ -28,6 +28,7 @@ fn window_at(number: &[u8], width: usize, i: usize) -> usize
 }
 
 // The place of the top window, the one that holds the top bit: 0 for a number below 2^width.
+#[tactic(auto, using(integers::proofs::Bits::some_bits, integers::proofs::Bits::bytes_length))]
 fn top_window(number: &[u8], width: usize) -> usize
     requires positive { Positive number.now }
     requires le_width { 1 ≤ width }
@@ -52,13 +53,6 @@ fn table_length(width: usize) -> usize
     power_of_two(width) as usize - 2
 }
 
-// The additions of a window of value v: none for zero.
-fn additions_for(v: usize) -> usize
-    ensures { (result ≡ cond (eqb v 0) 0 1) × (result ≤ 1) }
-{
-    if v == 0 { 0 } else { 1 }
-}
-
 // How many of the windows 0 to n - 1 are not zero.
 fn nonzero_windows(number: &[u8], width: usize, n: usize) -> usize
     requires width_le_fixed_window_bits { width ≤ fixed_window_bits }
@@ -66,10 +60,8 @@ fn nonzero_windows(number: &[u8], width: usize, n: usize) -> usize
     ensures { (result ≡ nonzero_windows (bytes_value number.now) width n) × (result ≤ n) }
 {
     let mut total = 0;
-    let mut i = 0;
-    while i < n {
-        total += additions_for(window_at(number, width, i));
-        i += 1;
+    for i in 0..n {
+        total += usize::from(window_at(number, width, i) != 0);
     }
     total
 }
@@ -118,9 +110,7 @@ fn write_windows(number: &[u8], width: usize, top: usize, out: &mut [u8])
         steps: table.steps,
         latest: window_at(number, width, top) - 1,
     };
-    let mut i = top;
-    while 0 < i {
-        i -= 1;
+    for i in (0..top).rev() {
         c = at_window(c, out, width, window_at(number, width, i));
     }
 }

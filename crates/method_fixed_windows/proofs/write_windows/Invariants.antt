@@ -22,6 +22,3 @@ tabled number width top = multiplied (2 ^ width - 2) (window (bytes_value number
 abbrev pub invariant-loop-i : goal.invariant-loop-i
 invariant-loop-i l =
     (l.i ≤ l.top) × (length l.out ≡ length l.initial.out) × ((lent : List ℕ) → Writing lent l.initial.out l.initial.c (tabled l.number l.width l.top) → Underway lent l.out l.c (window_at l.number l.width) l.i (window_steps (bytes_value l.number) l.width))
-
-abbrev pub decreases-loop-i : goal.decreases-loop-i
-decreases-loop-i l = l.i

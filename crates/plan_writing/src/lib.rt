@@ -3,10 +3,13 @@
 
 pub mod tables;
 
-ghost use Rattle.std.specs.Prelude.{◌≡◌, List, ◌++◌, ℕ, ◌+◌, ◌*◌, ◌≤◌, ◌<◌, length, take, drop};
+ghost use Rattle.std.specs.Prelude.{◌≡◌, ◌≢◌, List, ◌++◌, ℕ, ◌+◌, ◌*◌, ◌≤◌, ◌<◌, nat_abs, length, take, drop};
 ghost use Rattle.rules.specs.Limits.{step_bytes};
+ghost use Rattle.signed_digits.specs.Bytes.{byte_digit};
 ghost use Rattle.chains.specs.Steps.{step_bytes_of};
 ghost use Rattle.methods.specs.PartialPlan.{PartialPlan, double, doubled, add_at, followed};
+ghost use Rattle.methods.specs.OddMultiples.{odd_position};
+ghost use Rattle.methods.specs.DigitSteps.{at_digit};
 ghost use Rattle.plan_writing.specs.Writing.{Writing, step_with};
 
 use rules::STEP_BYTES;
@@ -83,5 +86,22 @@ impl Cursor {
             last = last.double(out);
         }
         last
+    }
+
+    // What a digit below the top takes: double, then for a digit other than 0 add what stands at p,
+    // or subtract it for one below zero. The highest bit, which is the sign, is also the operation.
+    #[tactic(auto, using(crate::proofs::Digits::step_beside))]
+    pub fn at_digit(self, out: &mut [u8], digit: u8, p: usize) -> Cursor
+        requires position { digit ≢ 0 → p ≡ odd_position (nat_abs (byte_digit digit)) }
+        requires steps_in_bounds { step_bytes * (self.steps + 1) ≤ length out.old }
+        requires steps_in_bounds_2 { digit ≢ 0 → step_bytes * (self.steps + 2) ≤ length out.old }
+        ensures { (lent : List ℕ) (b : PartialPlan) → Writing lent out.old self b → Writing lent out.new result (at_digit (byte_digit digit) b) }
+    {
+        let doubled = self.double(out);
+        if digit == 0 {
+            doubled
+        } else {
+            doubled.step_at(out, digit / 128, p)
+        }
     }
 }

@@ -10,6 +10,7 @@ use integers::power_of_two;
 use rules::Counts;
 
 // The counts of the first n steps of a table.
+#[tactic(auto, unfolding(methods::specs::Tables::table_counts))]
 pub fn table_counts(n: usize) -> Counts
     ensures { result ≡ table_counts n }
 {

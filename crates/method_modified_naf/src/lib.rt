@@ -4,12 +4,10 @@
 ghost use Rattle.std.specs.Prelude.{◌≡◌, ◌++◌, ◌*◌, ◌≤◌, length, drop};
 ghost use Rattle.rules.specs.Limits.{step_bytes};
 ghost use Rattle.integers.specs.Positional.{bytes_value};
-ghost use Rattle.numbers.specs.Admission.{Admitted, Positive};
-ghost use Rattle.signed_digits.specs.Modified.{modified};
+ghost use Rattle.numbers.specs.Admission.{Positive};
 ghost use Rattle.chains.specs.Steps.{plan_bytes_of};
 ghost use Rattle.chains.specs.Counts.{counts_of};
 ghost use Rattle.methods.specs.ModifiedNaf.{modified_naf_steps};
-ghost use Rattle.digit_plans.specs.Raised.{digit_room, Recoded};
 
 use digit_plans::{DIGIT_ROOM, write_steps};
 use integers::words_of;
@@ -36,27 +34,16 @@ pub fn counts(number: &[u8]) -> Counts
     }
 }
 
-// Puts the digit at each place i of a number's modified form into an array at i + 1; answers how many
-// there are.
-fn recoded(number: &[u8], digits: &mut [u8]) -> usize
-    requires admitted { Admitted number.now }
-    requires digit_room_in_bounds { digit_room ≤ length digits.old }
-    ensures { Recoded (modified (bytes_value number.now)) digits.new result }
-{
-    let words = words_of(number);
-    let triple = tripled(&words);
-    let form = shape_of(number, &triple);
-    write_form_raised(&words, &triple, digits, form);
-    form.length
-}
-
 // Writes the steps for a number above zero.
 pub fn write(number: &[u8], out: &mut [u8])
     requires positive { Positive number.now }
     requires number_in_bounds { step_bytes * length (modified_naf_steps (bytes_value number.now)) ≤ length out.old }
     ensures { out.new ≡ plan_bytes_of (modified_naf_steps (bytes_value number.now)) ++ drop (length (plan_bytes_of (modified_naf_steps (bytes_value number.now)))) out.old }
 {
+    let words = words_of(number);
+    let triple = tripled(&words);
+    let form = shape_of(number, &triple);
     let mut digits = [0u8; DIGIT_ROOM];
-    let count = recoded(number, &mut digits);
-    write_steps(&digits, count, out);
+    write_form_raised(&words, &triple, &mut digits, form);
+    write_steps(&digits[1..form.length + 1], out);
 }

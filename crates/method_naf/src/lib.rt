@@ -1,15 +1,13 @@
 // Method 4, NAF: its steps counted, and written.
 #![tactic(auto)]
 
-ghost use Rattle.std.specs.Prelude.{◌≡◌, ◌++◌, ◌*◌, ◌≤◌, pos, length, drop};
+ghost use Rattle.std.specs.Prelude.{◌≡◌, ◌++◌, ◌*◌, ◌≤◌, length, drop};
 ghost use Rattle.rules.specs.Limits.{step_bytes};
 ghost use Rattle.integers.specs.Positional.{bytes_value};
-ghost use Rattle.numbers.specs.Admission.{Admitted, Positive};
-ghost use Rattle.signed_digits.specs.Naf.{canonical};
+ghost use Rattle.numbers.specs.Admission.{Positive};
 ghost use Rattle.chains.specs.Steps.{plan_bytes_of};
 ghost use Rattle.chains.specs.Counts.{counts_of};
 ghost use Rattle.methods.specs.NonAdjacentForm.{naf_steps};
-ghost use Rattle.digit_plans.specs.Raised.{digit_room, Recoded};
 
 use digit_plans::{DIGIT_ROOM, write_steps};
 use integers::words_of;
@@ -17,19 +15,6 @@ use naf_tally::tally_of;
 use recoding_words_digits::write_raised;
 use rules::Counts;
 use triples::{count, tripled};
-
-// Puts the canonical digit at each place i of a number into an array at i + 1; answers how many there are.
-fn recoded(number: &[u8], digits: &mut [u8]) -> usize
-    requires admitted { Admitted number.now }
-    requires digit_room_in_bounds { digit_room ≤ length digits.old }
-    ensures { Recoded (canonical (pos (bytes_value number.now))) digits.new result }
-{
-    let words = words_of(number);
-    let triple = tripled(&words);
-    let length = count(number, &triple);
-    write_raised(&words, &triple, digits, length);
-    length
-}
 
 // The counts of the steps for a number above zero: a doubling for each digit below the top one, which
 // is 1, an addition for each of these that is 1, and a subtraction for each -1. The digits are one
@@ -52,7 +37,10 @@ pub fn write(number: &[u8], out: &mut [u8])
     requires number_in_bounds { step_bytes * length (naf_steps (bytes_value number.now)) ≤ length out.old }
     ensures { out.new ≡ plan_bytes_of (naf_steps (bytes_value number.now)) ++ drop (length (plan_bytes_of (naf_steps (bytes_value number.now)))) out.old }
 {
+    let words = words_of(number);
+    let triple = tripled(&words);
+    let length = count(number, &triple);
     let mut digits = [0u8; DIGIT_ROOM];
-    let count = recoded(number, &mut digits);
-    write_steps(&digits, count, out);
+    write_raised(&words, &triple, &mut digits, length);
+    write_steps(&digits[1..length + 1], out);
 }

@@ -1,25 +1,67 @@
 -- `method_modified_naf::write` meets its contract. Assumes nothing.
+use mathlib.Core.Path.{◌≡◌, ◌∙◌}
+use Prim.Native.Nat.{ℕ, ◌+◌, ◌-◌, ◌*◌, ◌≤◌}
 use native.Mathlib.Omega.{arith}
-use Prim.Native.Nat.{ℕ}
-use Rattle.integers.specs.Positional.{bytes_value}
+use lib.ListN.{take, drop}
+use Rattle.rules.specs.Limits.{number_bytes}
+use Rattle.integers.specs.Positional.{bytes_value, words_value}
+use Rattle.numbers.proofs.Tests.{admitted_value}
 use Rattle.signed_digits.specs.Modified.{modified}
-use Rattle.signed_digits.proofs.Modified.{modified_bits, modified_top}
+use Rattle.signed_digits.specs.Bytes.{string_of}
+use Rattle.signed_digits.proofs.Modified.{modified_bits, modified_top, modified_size}
+use Rattle.recoding_digits.proofs.TopByte.{most_digits_lem}
 use Rattle.methods.specs.ModifiedNaf.{modified_naf_steps}
-use Rattle.digit_plans.proofs.Raised.{plain}
+use Rattle.digit_plans.proofs.Digits.{raised}
 use borrow.Author.Rules.{rules}
+use Rattle.method_modified_naf.proofs.write.Goals.{After-words_of-words, After-shape_of-form, After-write_form_raised}
 use Rattle.method_modified_naf.proofs.write.Goals as goal
+
+-- the words hold the number
+held : (c : After-words_of-words) → words_value c.words_of-words.result ≡ bytes_value c.args.number.now
+held c = c.words_of-words.ensures ∙ admitted_value c.args.number.now c.requires.positive.admitted
+
+-- the digits fit, one place up, in whole words
+few : (c : After-shape_of-form) → c.shape_of-form.result.length ≤ 8 * number_bytes + 1
+few c =
+    let number = c.args.number.now in
+    omega (arith, c.shape_of-form.ensures.digits, modified_size (bytes_value number), most_digits_lem number (λ i. (c.type_inv.number i).fits), c.requires.positive.admitted.short)
+
+there : (c : After-write_form_raised) → string_of (take (c.shape_of-form.result.length + 1 - 1) (drop 1 c.write_form_raised.new.out)) ≡ modified (bytes_value c.args.number.now)
+there c =
+    let e : ℕ = bytes_value c.args.number.now in
+    raised (modified e) c.write_form_raised.new.out c.shape_of-form.result.length c.shape_of-form.ensures.digits (omega (arith, few (goal.at.After-write_form_raised c).After-shape_of-form)) (modified_bits e)
+    (λ i l. rw (held (goal.at.After-write_form_raised c).After-words_of-words) at (c.write_form_raised.ensures i l))
+
+pub shape_of-form-requires : goal.shape_of-form-requires
+shape_of-form-requires c = record {
+  admitted = c.requires.positive.admitted;
+  triple_value = c.tripled-triple.ensures ∙ rw (held (goal.at.shape_of-form-requires c).After-words_of-words);
+}
+
+pub write_form_raised-requires : goal.write_form_raised-requires
+write_form_raised-requires c = record {
+  triple_value = c.tripled-triple.ensures;
+  shape_of = rw (held (goal.at.write_form_raised-requires c).After-words_of-words) c.shape_of-form.ensures;
+  length_in_bounds = omega (arith, few (goal.at.write_form_raised-requires c).After-shape_of-form);
+}
+
+pub overflow_add-form : goal.overflow_add-form
+overflow_add-form c = omega (arith, few (goal.at.overflow_add-form c).After-shape_of-form)
+
+pub slice_bounds-write_steps-end : goal.slice_bounds-write_steps-end
+slice_bounds-write_steps-end c = omega (arith, few (goal.at.slice_bounds-write_steps-end c).After-shape_of-form)
 
 pub write_steps-requires : goal.write_steps-requires
 unfolding modified_naf_steps
 write_steps-requires c =
     let e : ℕ = bytes_value c.args.number.now in
-    let there = c.recoded-count.ensures in
+    let digits = there (goal.at.write_steps-requires c).After-write_form_raised in
     record {
-      plain = plain _ _ (omega (arith, there.few)) (modified e) there (modified_bits e) (modified_top e (search rules));
-      count_in_bounds = rw there.digits (search rules);
+      bits = rw digits (modified_bits e);
+      top = rw digits (modified_top e (search rules));
+      steps_in_bounds = rw digits (search rules);
     }
 
 pub returns : goal.returns
 unfolding modified_naf_steps
-returns c =
-    rw c.recoded-count.ensures.digits at c.write_steps.ensures
+returns c = rw (there (goal.at.returns c).After-write_form_raised) at c.write_steps.ensures

@@ -1,27 +1,66 @@
 -- `method_naf::write` meets its contract. Assumes nothing.
+use mathlib.Core.Path.{◌≡◌, ◌∙◌}
+use Prim.Native.Nat.{ℕ, ◌+◌, ◌-◌, ◌*◌, ◌≤◌}
 use native.Mathlib.Omega.{arith}
-use Prim.Native.Nat.{ℕ}
 use lib.IntN.{pos}
-use Rattle.integers.specs.Positional.{bytes_value}
+use lib.ListN.{take, drop}
+use Rattle.rules.specs.Limits.{number_bytes}
+use Rattle.integers.specs.Positional.{bytes_value, words_value}
+use Rattle.numbers.proofs.Tests.{admitted_value}
 use Rattle.signed_digits.specs.Naf.{canonical}
+use Rattle.signed_digits.specs.Bytes.{string_of}
 use Rattle.signed_digits.proofs.Canonical.{canonical_form}
 use Rattle.signed_digits.proofs.Leading.{canonical_top}
+use Rattle.recoding_digits.proofs.TopByte.{most_digits_lem}
 use Rattle.methods.specs.NonAdjacentForm.{naf_steps}
-use Rattle.digit_plans.proofs.Raised.{plain}
+use Rattle.digit_plans.proofs.Digits.{raised}
 use borrow.Author.Rules.{rules}
+use Rattle.method_naf.proofs.write.Goals.{After-words_of-words, After-count-length, After-write_raised}
 use Rattle.method_naf.proofs.write.Goals as goal
+
+-- the words hold the number
+held : (c : After-words_of-words) → words_value c.words_of-words.result ≡ bytes_value c.args.number.now
+held c = c.words_of-words.ensures ∙ admitted_value c.args.number.now c.requires.positive.admitted
+
+-- the digits fit, one place up, in whole words
+few : (c : After-count-length) → c.count-length.result ≤ 8 * number_bytes + 1
+few c = omega (arith, c.count-length.ensures, most_digits_lem c.args.number.now (λ i. (c.type_inv.number i).fits), c.requires.positive.admitted.short)
+
+there : (c : After-write_raised) → string_of (take (c.count-length.result + 1 - 1) (drop 1 c.write_raised.new.out)) ≡ canonical (pos (bytes_value c.args.number.now))
+there c =
+    let e : ℕ = bytes_value c.args.number.now in
+    raised (canonical (pos e)) c.write_raised.new.out c.count-length.result c.count-length.ensures (omega (arith, few (goal.at.After-write_raised c).After-count-length)) (canonical_form (pos e)).digits
+    (λ i l. rw (held (goal.at.After-write_raised c).After-words_of-words) at (c.write_raised.ensures i l))
+
+pub count-length-requires : goal.count-length-requires
+count-length-requires c = record {
+  admitted = c.requires.positive.admitted;
+  triple_value = c.tripled-triple.ensures ∙ rw (held (goal.at.count-length-requires c).After-words_of-words);
+}
+
+pub write_raised-requires : goal.write_raised-requires
+write_raised-requires c = record {
+  triple_value = c.tripled-triple.ensures;
+  count_in_bounds = omega (arith, few (goal.at.write_raised-requires c).After-count-length);
+}
+
+pub overflow_add-length : goal.overflow_add-length
+overflow_add-length c = omega (arith, few (goal.at.overflow_add-length c).After-count-length)
+
+pub slice_bounds-write_steps-end : goal.slice_bounds-write_steps-end
+slice_bounds-write_steps-end c = omega (arith, few (goal.at.slice_bounds-write_steps-end c).After-count-length)
 
 pub write_steps-requires : goal.write_steps-requires
 unfolding naf_steps
 write_steps-requires c =
     let e : ℕ = bytes_value c.args.number.now in
-    let there = c.recoded-count.ensures in
+    let digits = there (goal.at.write_steps-requires c).After-write_raised in
     record {
-      plain = plain _ _ (omega (arith, there.few)) (canonical (pos e)) there (canonical_form (pos e)).digits (canonical_top e (search rules));
-      count_in_bounds = rw there.digits (search rules);
+      bits = rw digits (canonical_form (pos e)).digits;
+      top = rw digits (canonical_top e (search rules));
+      steps_in_bounds = rw digits (search rules);
     }
 
 pub returns : goal.returns
 unfolding naf_steps
-returns c =
-    rw c.recoded-count.ensures.digits at c.write_steps.ensures
+returns c = rw (there (goal.at.returns c).After-write_raised) at c.write_steps.ensures

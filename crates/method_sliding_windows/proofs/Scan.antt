@@ -2,9 +2,9 @@
 use mathlib.Core.Path.{◌≡◌, refl, sym, ap, subst, ◌∙◌}
 use mathlib.Core.Logic.{◌≢◌}
 use mathlib.Core.List.{List, ◌++◌}
-use Prim.Native.Nat.{ℕ, zero, suc, ◌+◌, ◌*◌, ◌-◌, ◌%◌, ◌^◌, ◌<◌, ◌≤◌}
+use Rattle.std.specs.Prelude.{Option, Some, None}
+use Prim.Native.Nat.{ℕ, zero, suc, ◌+◌, ◌*◌, ◌-◌, ◌^◌, ◌<◌, ◌≤◌}
 use borrow.Author.Tests.{eq-eqb, ne_eqb}
-use native.Mathlib.Decide.{ℕ_discrete}
 use native.Mathlib.Nat.{zero-add, add-zero, suc-add, lt_of_lt_of_le}
 use native.Mathlib.Omega.{arith}
 use lib.ListN.{length, take, drop}
@@ -29,14 +29,15 @@ use Rattle.chains.proofs.Counts.{length_counted}
 use Rattle.methods.proofs.Laws.{length_followed, length_doubled}
 use Rattle.methods.proofs.Tables.{no_subtractions}
 use Rattle.methods.proofs.OddMultiples.{odd_length, Entry}
-use Rattle.methods.proofs.SlidingWindows.{scan_fuel, slide_grows, below_window, top, longest_window, window_entry, first_window, first_value, whole_entry, entry_whole, entry_or_scan, sliding_short, sliding_counts}
+use Rattle.methods.proofs.SlidingWindows.{scan_fuel, slide_grows, below_window, top, longest_window, first_window, first_value, whole_entry, entry_whole, entry_or_scan, sliding_short, sliding_counts}
 use Rattle.plan_writing.proofs.Underway.{Unfinished, finished}
 use Rattle.plan_writing.specs.declared.Cursor.{Cursor}
 use Rattle.plan_writing.specs.Writing.{Writing}
 use Rattle.method_sliding_windows.specs.declared.Window.{Window}
+use Rattle.method_sliding_windows.specs.declared.Taken.{Taken}
 use Rattle.method_sliding_windows.specs.declared.Start.{Start}
 use Rattle.method_sliding_windows.proofs.Bits.{bits_zero, first_in_lem}
-use Rattle.method_sliding_windows.specs.Scan.{window_at, bits_down, first_in, at_sliding_window, Turn, start_from, start_of}
+use Rattle.method_sliding_windows.specs.Scan.{window_at, bits_down, first_in, whole_window, at_value, windows_in, at_sliding_window, Turn, start_from, start_of}
 
 -- ---- a number and its words
 
@@ -64,15 +65,12 @@ unfolding doubled
 doubled_more zero l b = rw zero-add
 doubled_more (suc z) l b = rw suc-add (doubled_more z l (double b))
 
-length_at : (w : Window) (b : PartialPlan) → length (at_sliding_window w b).steps ≡ length b.steps + w.bits + w.value % 2
-unfolding at_sliding_window
-length_at w b =
-    elim (ℕ_discrete (w.value % 2) 0) [
-      | yes z ↦ rw (eq-eqb (w.value % 2) 0 z) (omega (arith, length_doubled w.bits b))
-      | no o ↦
-          let more : length (add_at (odd_position w.value) (doubled w.bits b)).steps ≡ length (doubled w.bits b).steps + 1 = length_followed (doubled w.bits b) _ in
-          rw (ne_eqb (w.value % 2) 0 o) (omega (arith, length_doubled w.bits b))
-    ]
+length_at : (t : Taken) (b : PartialPlan) → length (at_sliding_window t b).steps ≡ length b.steps + t.bits + windows_in t.value
+length_at t b = omega (arith, go t.value (doubled t.bits b), length_doubled t.bits b)
+  where
+    go : (o : Option ℕ) (b : PartialPlan) → length (at_value o b).steps ≡ length b.steps + windows_in o
+    go None b = omega arith
+    go (Some v) b = length_followed b _
 
 -- the bits from place m up to i are zeros
 abbrev Zeros : ℕ → ℕ → ℕ → Type 0
@@ -103,22 +101,18 @@ module _ (e d : ℕ) (wide : 1 ≤ d) where
         let same = scan_fuel e d wide n (suc n - l) (suc n - l) (add_at (odd_position v) (doubled l b)) (omega arith) (omega arith) in
         rw (eq-eqb (bit e n) 1 one) (same.1, ap suc same.0)
 
-    turn_window : (z : ℕ) → Zeros e (suc n) (suc n + z) → Turn e d (suc n + z) (record { bits = z + l; value = v })
-    unfolding at_sliding_window
+    turn_window : (z : ℕ) → Zeros e (suc n) (suc n + z) → Turn e d (suc n + z) (record { bits = z + l; value = Some v })
     turn_window z zeros =
         let w = longest_window e n d one wide in
-        let entry = window_entry w in
         let left : suc n + z - (z + l) ≡ suc n - l = omega (arith, w.within) in
-        let odd : v % 2 ≢ 0 = omega (arith, entry.odd) in
         record {
           some = omega (arith, w.some);
           within = omega (arith, w.within);
-          steps = λ b. rw (left, ne_eqb (v % 2) 0 odd, ← doubled_more z l b) ((over_zeros z (suc n) zeros b).0 ∙ (at_one (doubled z b)).0);
-          windows = rw left (omega (arith, (over_zeros z (suc n) zeros none).1, (at_one none).1, entry.odd));
+          steps = λ b. rw (left, ← doubled_more z l b) ((over_zeros z (suc n) zeros b).0 ∙ (at_one (doubled z b)).0);
+          windows = rw left (omega (arith, (over_zeros z (suc n) zeros none).1, (at_one none).1));
         }
 
-  turn_zeros : (i k : ℕ) → 1 ≤ k → k ≤ i → Zeros e (i - k) i → Turn e d i (record { bits = k; value = 0 })
-  unfolding at_sliding_window
+  turn_zeros : (i k : ℕ) → 1 ≤ k → k ≤ i → Zeros e (i - k) i → Turn e d i (record { bits = k; value = None })
   turn_zeros i k some within zeros =
       let s : i - k + k ≡ i = omega arith in
       let over = over_zeros k (i - k) (λ j h l. zeros j h (omega arith)) in
@@ -131,18 +125,18 @@ module _ (e d : ℕ) (wide : 1 ≤ d) where
 
   -- the same of the 64 bits x from place i - 1 down
   module _ (narrow : d ≤ sliding_window_bits) (i : ℕ) (more : 1 ≤ i) (x : ℕ) (bits : x ≡ bits_down e (i - 1)) where
-    pub next_zeros : (k : ℕ) → x < 2 ^ sliding_window_bits → 1 ≤ k → k ≤ i → k ≤ 64 - sliding_window_bits → Turn e d i (record { bits = k; value = 0 })
+    pub next_zeros : (k : ℕ) → x < 2 ^ sliding_window_bits → 1 ≤ k → k ≤ i → k ≤ 64 - sliding_window_bits → Turn e d i (record { bits = k; value = None })
     next_zeros k low some within few =
         turn_zeros i k some within (λ j h l. bits_zero e (i - 1) j (j + 63 - (i - 1)) (omega arith) (omega arith) ((bit_length_iff (bits_down e (i - 1)) (j + 63 - (i - 1))).1 (lt_of_lt_of_le (rw bits at low) (pow_mono {i = sliding_window_bits} (omega arith)))))
 
-    pub next_window : 2 ^ sliding_window_bits ≤ x → Turn e d i (first_in x d)
+    pub next_window : 2 ^ sliding_window_bits ≤ x → Turn e d i (whole_window (first_in x d))
     next_window big =
         let f = first_in_lem e (i - 1) d wide narrow (rw bits at big) in
         let n : ℕ = f.place in
         let z : ℕ = 64 - bit_length (bits_down e (i - 1)) in
         let s : i ≡ suc n + z = omega (arith, f.below) in
         let t = turn_window n f.one z (λ j h l. f.zeros j h (omega arith)) in
-        rw (bits, f.window) (subst (λ (k : ℕ). Turn e d k (record { bits = z + longest e n d; value = window_value e n (longest e n d) })) (sym s) t)
+        subst (λ (w : Window). Turn e d i (whole_window w)) (sym (ap (λ (x : ℕ). first_in x d) bits ∙ f.window)) (subst (λ (k : ℕ). Turn e d k (record { bits = z + longest e n d; value = Some (window_value e n (longest e n d)) })) (sym s) t)
 
 -- ---- a loop that writes: the places below i are to come
 
@@ -154,12 +148,12 @@ module _ (lent here : List ℕ) (c : Cursor) (e d : ℕ) (all : List Step) where
   unfolding slide
   sliding_end u = finished u
 
-  module _ (wide : 1 ≤ d) (i : ℕ) (u : Sliding lent here c e d i all) (w : Window) (t : Turn e d i w) where
+  module _ (wide : 1 ≤ d) (i : ℕ) (u : Sliding lent here c e d i all) (w : Taken) (t : Turn e d i w) where
     turn : (slide e d (i - w.bits) (i - w.bits) (at_sliding_window w u.partial)).steps ≡ all
     turn = rw (← t.steps u.partial) u.rest
 
     -- the steps of the next turn are among all
-    pub sliding_room : c.steps + w.bits + w.value % 2 ≤ length all
+    pub sliding_room : c.steps + w.bits + windows_in w.value ≤ length all
     sliding_room =
         omega (arith, slide_grows e d wide (i - w.bits) (i - w.bits) (at_sliding_window w u.partial) (omega arith), ap length turn, length_at w u.partial, u.writing.steps)
 

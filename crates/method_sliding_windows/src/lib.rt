@@ -1,7 +1,7 @@
 // Method 3, sliding windows of at most `width` bits: its steps counted, and written.
 #![tactic(auto)]
 
-ghost use Rattle.std.specs.Prelude.{◌≡◌, ◌≢◌, List, ◌++◌, ℕ, ◌+◌, ◌*◌, ◌-◌, ◌%◌, ◌^◌, ◌≤◌, ◌<◌, length, drop};
+ghost use Rattle.std.specs.Prelude.{◌≡◌, ◌≢◌, List, ◌++◌, ℕ, ◌+◌, ◌*◌, ◌-◌, ◌^◌, ◌≤◌, ◌<◌, length, drop};
 ghost use Rattle.rules.specs.Limits.{number_bytes, step_bytes};
 ghost use Rattle.integers.specs.Bits.{bit_length};
 ghost use Rattle.integers.specs.Positional.{bytes_value, words_value};
@@ -13,7 +13,7 @@ ghost use Rattle.methods.specs.Widths.{sliding_window_bits};
 ghost use Rattle.methods.specs.SlidingWindows.{sliding_window_steps};
 ghost use Rattle.methods.specs.Forecast.{later_windows};
 ghost use Rattle.plan_writing.specs.Writing.{Writing};
-ghost use Rattle.method_sliding_windows.specs.Scan.{first_in, at_sliding_window, Turn, table_steps, start_of};
+ghost use Rattle.method_sliding_windows.specs.Scan.{first_in, at_sliding_window, windows_in, Turn, table_steps, start_of};
 
 use integers::{bit_length, words_of};
 use methods::SLIDING_WINDOW_BITS;
@@ -28,12 +28,19 @@ const WINDOW_VALUES: u64 = 1 << SLIDING_WINDOW_BITS;
 // Of the 64 bits that are read at once, those above the lowest such window.
 const BITS_ABOVE: usize = 64 - SLIDING_WINDOW_BITS;
 
-// What the scan takes at once: the zeros from a place down and the window below them, with its
-// value; or zeros alone, and 0.
+// A window and the zeros above it: how many bits they are, and the window's value.
 #[derive(Clone, Copy)]
 struct Window {
     bits: usize,
     value: u64,
+}
+
+// What the scan takes at once: the zeros from a place down and the window below them, with its
+// value; or zeros alone.
+#[derive(Clone, Copy)]
+struct Taken {
+    bits: usize,
+    value: Option<u64>,
 }
 
 // Where the scan starts: the place below the first window, the position of its value, and how many
@@ -52,9 +59,9 @@ fn window_in(bits: u64, width: usize) -> Window
     requires le_width { (1 ≤ width) × (width ≤ sliding_window_bits) }
     ensures { result ≡ first_in bits width }
 {
-    let zeros = u64::leading_zeros(bits) as usize;
+    let zeros = bits.leading_zeros() as usize;
     let window = bits >> (64 - zeros - width);
-    let trailing = u64::trailing_zeros(window) as usize;
+    let trailing = window.trailing_zeros() as usize;
     let taken = zeros + width - trailing;
     let value = window >> trailing;
     Window {
@@ -63,32 +70,25 @@ fn window_in(bits: u64, width: usize) -> Window
     }
 }
 
-// The zeros that are taken if no window is whole: of 64 bits, all but those of a window.
-fn zeros_above(place: usize) -> usize
-    requires { 1 ≤ place }
-    ensures { (1 ≤ result) × (result ≤ place) × (result ≤ 64 - sliding_window_bits) }
-{
-    if place < BITS_ABOVE {
-        place
-    } else {
-        BITS_ABOVE
-    }
-}
-
-// What the scan takes below a place.
-fn next_window(words: &[u64], place: usize, width: usize) -> Window
+// What the scan takes below a place. If it sees no window that is whole, that is zeros: of 64 bits,
+// all but those of a window.
+fn next_window(words: &[u64], place: usize, width: usize) -> Taken
     requires le_place { 1 ≤ place }
     requires le_width { (1 ≤ width) × (width ≤ sliding_window_bits) }
     ensures { Turn (words_value words.now) width place result }
 {
     let bits = bits_down(words, place - 1);
     if bits < WINDOW_VALUES {
-        return Window {
-            bits: zeros_above(place),
-            value: 0,
+        return Taken {
+            bits: place.min(BITS_ABOVE),
+            value: None,
         };
     }
-    window_in(bits, width)
+    let window = window_in(bits, width);
+    Taken {
+        bits: window.bits,
+        value: Some(window.value),
+    }
 }
 
 // How many steps of the table come before the scan. With nothing below the first window, the number
@@ -126,9 +126,9 @@ fn later_windows(words: &[u64], below: usize, width: usize) -> usize
     let mut windows: usize = 0;
     let mut i = below;
     while 0 < i {
-        let window = next_window(words, i, width);
-        windows += (window.value % 2) as usize;
-        i -= window.bits;
+        let taken = next_window(words, i, width);
+        windows += usize::from(taken.value.is_some());
+        i -= taken.bits;
     }
     windows
 }
@@ -152,16 +152,15 @@ pub fn counts(number: &[u8], width: usize) -> Counts
 }
 
 // The steps of what the scan takes at a place.
-fn at_window(c: Cursor, out: &mut [u8], w: Window) -> Cursor
-    requires { step_bytes * (c.steps + w.bits + w.value % 2) ≤ length out.old }
-    ensures { (result.steps ≡ c.steps + w.bits + w.value % 2) × ((lent : List ℕ) (b : PartialPlan) → Writing lent out.old c b → Writing lent out.new result (at_sliding_window w b)) }
+fn at_window(c: Cursor, out: &mut [u8], taken: Taken) -> Cursor
+    requires { step_bytes * (c.steps + taken.bits + windows_in taken.value) ≤ length out.old }
+    ensures { (result.steps ≡ c.steps + taken.bits + windows_in taken.value) × ((lent : List ℕ) (b : PartialPlan) → Writing lent out.old c b → Writing lent out.new result (at_sliding_window taken b)) }
 {
-    let bits = w.bits;
+    let bits = taken.bits;
     let doubled = c.double_times(out, bits);
-    if w.value % 2 == 0 {
-        doubled
-    } else {
-        doubled.add_at(out, position(w.value))
+    match taken.value {
+        Some(value) => doubled.add_at(out, position(value)),
+        None => doubled,
     }
 }
 
@@ -181,8 +180,8 @@ pub fn write(number: &[u8], width: usize, out: &mut [u8])
     };
     let mut i = start.below;
     while 0 < i {
-        let window = next_window(&words, i, width);
-        c = at_window(c, out, window);
-        i -= window.bits;
+        let taken = next_window(&words, i, width);
+        c = at_window(c, out, taken);
+        i -= taken.bits;
     }
 }

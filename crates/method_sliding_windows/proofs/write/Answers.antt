@@ -69,7 +69,7 @@ loop-i-init c = (refl, λ lent b w. record { partial = b; writing = w; rest = re
 pub at_window-c-requires : goal.at_window-c-requires
 at_window-c-requires c =
     let start = (goal.at.at_window-c-requires c).After-bit_length in
-    let more = sliding_room (lent start) c.loop-i.out c.loop-i.c (words_value (words start)) (width start) (sliding_window_steps (words_value (words start)) (width start)) (wide start) c.loop-i.i (sliding (goal.at.at_window-c-requires c).At-loop-i) c.next_window-window.result c.next_window-window.ensures in
+    let more = sliding_room (lent start) c.loop-i.out c.loop-i.c (words_value (words start)) (width start) (sliding_window_steps (words_value (words start)) (width start)) (wide start) c.loop-i.i (sliding (goal.at.at_window-c-requires c).At-loop-i) c.next_window-taken.result c.next_window-taken.ensures in
     omega (arith, more, room start)
 
 pub loop-i-preserved : goal.loop-i-preserved
@@ -78,7 +78,7 @@ loop-i-preserved c =
       search rules,
       λ l b w.
           let u = c.loop-i.invariant.1 l b w in
-          sliding_next l c.loop-i.out c.loop-i.c (words_value (words start)) (width start) _ (wide start) c.loop-i.i u c.next_window-window.result c.next_window-window.ensures c.at_window-c.new.out c.at_window-c.result (c.at_window-c.ensures.1 l u.partial u.writing),
+          sliding_next l c.loop-i.out c.loop-i.c (words_value (words start)) (width start) _ (wide start) c.loop-i.i u c.next_window-taken.result c.next_window-taken.ensures c.at_window-c.new.out c.at_window-c.result (c.at_window-c.ensures.1 l u.partial u.writing),
     )
 
 pub returns : goal.returns

@@ -34,7 +34,7 @@ module _ (c : At-loop-i) where
   underway h = down_one lent c.loop-i.out c.loop-i.c (at_place ds) (digit_steps 0 ds) c.loop-i.i h c.loop-i.invariant.0
 
 pub overflow_step-i : goal.overflow_step-i
-overflow_step-i c = some (goal.at.overflow_step-i c).Start
+overflow_step-i c = omega (arith, some (goal.at.overflow_step-i c).Start)
 
 pub loop-i-init : goal.loop-i-init
 loop-i-init c =

@@ -2,3 +2,4 @@ pub mod Judge
 pub mod Promises
 mod Tally
 mod Underway
+mod Turn

@@ -1,5 +1,5 @@
 -- What the rules promise of check, as theorems about the definitions that its statement cites. Assumes nothing.
-use Rattle.std.specs.Prelude.{Result, Err}
+use Rattle.std.specs.Prelude.{Result, Ok, Err}
 use mathlib.Core.Path.{◌≡◌, refl, ◌∙◌}
 use mathlib.Core.Logic.{◌↔◌, ◌≢◌, ◌⊎◌, inl, inr}
 use mathlib.Core.List.{List, [], ◌∷◌}
@@ -25,7 +25,7 @@ use Rattle.records.specs.Recording.{recorded}
 use Rattle.step_values.proofs.Tested.{Tested, malformed, value_is_zero, value_too_large}
 use Rattle.check_admission.specs.Admission.{room_for, admission}
 use Rattle.check_admission.proofs.Admission.{Checkable, Admits, number_refused, plan_length, space_too_short, checkable, admits, admits_only}
-use Rattle.checking.specs.Check.{Judged, judge, judged, steps_verdict, check_answer, check_space, end_verdict}
+use Rattle.checking.specs.Check.{Judged, judge, judged, steps_verdict, accepted_of, check_answer, check_space, end_verdict}
 use Rattle.checking.proofs.Judge.{SoundTo, Judges, sound, stops, judges, judges_only}
 
 -- step i is the first that is not sound: the steps before it are, and this is wrong with it
@@ -65,14 +65,14 @@ module _ (number plan : List ℕ) (room : ℕ) where
     twelve : {i : ℕ} → Checkable number (length plan) room → Sound (steps_of plan) → i ≡ length (steps_of plan) → end_of (steps_of plan) ≢ pos (bytes_value number)
         → Given (refused 12 i)
     accepted : {vs : List ℕ} → Checkable number (length plan) room → Sound (steps_of plan) → end_of (steps_of plan) ≡ pos (bytes_value number)
-        → vs ≡ checked_values (counts_of (steps_of plan)) (largest_bits (steps_of plan)) → Given (answered vs)
+        → vs ≡ checked_values (accepted_of (steps_of plan)) → Given (answered vs)
 
   stopped : {r : Refusal} → Admits number (length plan) room (Err r) → outcome ≡ refusal r
   stopped t = rw (admits_only number (length plan) room t)
 
   -- the outcome by what judging comes to
   outcome_is : Checkable number (length plan) room → {j : Judged} → judge start (steps_of plan) ≡ j
-      → let r = length (steps_of plan) in outcome ≡ checked_outcome (and_then (and_then j.verdict (end_verdict number (at j.values r) r)) (ACCEPTED (counts_of (steps_of plan)) (largest_bits (steps_of plan))))
+      → let r = length (steps_of plan) in outcome ≡ checked_outcome (and_then (and_then j.verdict (end_verdict number (at j.values r) r)) (Ok (accepted_of (steps_of plan))))
   unfolding steps_verdict judged
   outcome_is a e = rw (admits_only number (length plan) room (checkable a), e)
 
@@ -159,7 +159,7 @@ module _ (number plan : List ℕ) (room : ℕ) where
 
   -- counts and bits are answered exactly for a sound plan that ends at the number, and they are its own
   pub accepts : (vs : List ℕ)
-      → outcome ≡ answered vs ↔ Checkable number (length plan) room × Sound (steps_of plan) × (end_of (steps_of plan) ≡ pos (bytes_value number)) × (vs ≡ checked_values (counts_of (steps_of plan)) (largest_bits (steps_of plan)))
+      → outcome ≡ answered vs ↔ Checkable number (length plan) room × Sound (steps_of plan) × (end_of (steps_of plan) ≡ pos (bytes_value number)) × (vs ≡ checked_values (accepted_of (steps_of plan)))
   accepts vs = (λ e. elim (given e) [ accepted a s x v ↦ (a, s, x, v) ], λ h. given_only (accepted h.0 h.1 h.2 h.3))
 
   -- ---- the bits of the largest size

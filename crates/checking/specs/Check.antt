@@ -40,11 +40,14 @@ steps_verdict number plan =
     let r = length (steps_of plan) in
     and_then (judged plan).verdict (end_verdict number (at (judged plan).values r) r)
 
+-- what an accepted plan is answered with: its counts, and the bits of its largest size
+abbrev pub accepted_of : List Step → Accepted
+accepted_of steps = record { counts = counts_of steps; largest_bits = largest_bits steps }
+
 -- ---- the answer, and the work space: untouched at 1, 13, 2, 7 and 8; else the records of the values by then, and the bytes past these stay
 abbrev pub check_answer : List ℕ → List ℕ → ℕ → Result Accepted Refusal
 check_answer number plan room =
-    and_then (and_then (admission number (length plan) room) (steps_verdict number plan))
-    (ACCEPTED (counts_of (steps_of plan)) (largest_bits (steps_of plan)))
+    and_then (and_then (admission number (length plan) room) (steps_verdict number plan)) (Ok (accepted_of (steps_of plan)))
 
 abbrev pub check_space : List ℕ → List ℕ → List ℕ → List ℕ
 check_space number plan space = unless_failed (λ r. space) (admission number (length plan) (length space)) (recorded (judged plan).values space)

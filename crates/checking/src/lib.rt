@@ -23,29 +23,25 @@ pub fn check(number: &[u8], plan: &[u8], space: &mut [u8]) -> Result<Accepted, R
     let mut not_additions = 0;
     // The bit length of 1, at position 0. A step at most doubles the largest size: one bit more, or none.
     let mut largest_bits = 1;
-    let mut n = 0;
-    while n < steps {
+    for n in 0..steps {
         let step = read_step(plan, n);
-        let checked = check_step(step, space, n);
-        let verdict = checked.verdict;
-        verdict?;
-        doublings += checked.doubling as usize;
-        not_additions += checked.doubling as usize | step.operation as usize;
-        n += 1;
-        largest_bits = grown_bits(space, n, largest_bits);
+        let doubling = usize::from(check_step(step, space, n)?);
+        doublings += doubling;
+        not_additions += doubling | usize::from(step.operation);
+        largest_bits = grown_bits(space, n + 1, largest_bits);
     }
-    if ends_at(number, space, steps) {
-        let additions = steps - not_additions;
-        let subtractions = not_additions - doublings;
-        let counts = Counts {
-            doublings,
-            additions,
-            subtractions,
-        };
-        return Checked::Accepted {
-            counts,
-            largest_bits,
-        };
+    if !ends_at(number, space, steps) {
+        return Err(Refusal::WrongEnd(steps));
     }
-    Err(Refusal::WrongEnd(steps))
+    let additions = steps - not_additions;
+    let subtractions = not_additions - doublings;
+    let counts = Counts {
+        doublings,
+        additions,
+        subtractions,
+    };
+    Ok(Accepted {
+        counts,
+        largest_bits,
+    })
 }

@@ -1,129 +1,86 @@
 -- `checking::check` meets its contract: n steps are checked and counted. Assumes nothing.
 use Rattle.std.specs.Prelude.{Ok, Err}
-use mathlib.Core.Path.{◌≡◌, refl, sym, ◌∙◌}
+use mathlib.Core.Path.{◌≡◌, sym, ap, ◌∙◌}
 use mathlib.Core.Bool.{cond}
-use mathlib.Core.List.{List}
-use Prim.Native.Nat.{ℕ, ◌+◌, ◌/◌, ◌≤◌}
+use Prim.Native.Nat.{◌+◌, ◌/◌, ◌≤◌}
 use native.Mathlib.Omega.{arith}
 use lib.Bits.{bit_or}
 use lib.ListN.{length}
 use mir.Val.{bool_byte}
-use Rattle.rules.specs.Limits.{step_bytes, plan_steps}
+use Rattle.std.proofs.lemmas.Grind.{common_steps}
+use Rattle.rules.specs.Limits.{step_bytes}
 use Rattle.rules.specs.declared.Refusal.TheVariants.{WrongEnd}
-use Rattle.chains.specs.Steps.{steps_of}
-use Rattle.chains.proofs.Largest.{bits_start}
 use Rattle.step_reading.specs.Fields.{as_step}
 use Rattle.check_admission.specs.Admission.{room_for, admission}
 use Rattle.check_admission.proofs.Admission.{Checkable, checkable_is}
-use Rattle.checking.proofs.Underway.{Underway, Done, done_answer, done_space, underway_none, underway_next, underway_stop, underway_counted, underway_end, underway_few, underway_bits, underway_largest}
-use Rattle.checking.proofs.Tally.{Holding, counts_to, holding_none, holding_few, holding_more, holding_all}
-use borrow.Author.Rules.{rules}
-use Rattle.checking.proofs.check.Goals.{After-check_step-checked, After-ends_at, At-loop-n, In_default}
+use Rattle.checking.proofs.Underway.{Done, done_answer, done_space}
+use Rattle.checking.proofs.Turn.{turn_none, turn_few, turn_refused, turn_counted, turn_more, turn_few_counts, turn_done, turn_accepted}
+use Rattle.checking.proofs.check.Goals.{In_ok-admit, At-loop-n, In_err-check_step, After-from-doubling, After-loop-n, After-ends_at}
 use Rattle.checking.proofs.check.Goals as goal
 
-pub returns-in-Failed : goal.returns-in-Failed
-returns-in-Failed c =
-    let e = sym c.admit.ensures ∙ c.in-Failed.is in
-    record { answer = rw e; space = rw e }
-
 -- past refusals 1, 13, 2, 7 and 8
-passed : (c : In_default)
-    → let args = c.args in admission args.number.now (length args.plan.now) (length args.space.now) ≡ Ok tt
-passed c = sym c.admit.ensures ∙ c.in_default.is
+passed : (c : In_ok-admit) → let args = c.args in admission args.number.now (length args.plan.now) (length args.space.now) ≡ Ok tt
+passed c = sym c.admit.ensures ∙ c.in_ok-admit.was
 
-admitted : (c : In_default)
-    → let args = c.args in Checkable args.number.now (length args.plan.now) (length args.space.now)
+admitted : (c : In_ok-admit) → let args = c.args in Checkable args.number.now (length args.plan.now) (length args.space.now)
 admitted c = (checkable_is _ _ _).0 (passed c)
 
 pub begin-requires : goal.begin-requires
-begin-requires c = omega (arith, (admitted (goal.at.begin-requires c).In_default).fits)
+begin-requires c = omega (arith, (admitted (goal.at.begin-requires c).In_ok-admit).fits)
 
 pub loop-n-init : goal.loop-n-init
-loop-n-init c =
-    let plan = c.args.plan.now in
-    (search rules, refl, holding_none plan, sym (bits_start (steps_of plan)), λ lent w. underway_none plan lent _ w)
+loop-n-init c = turn_none c.args.plan.now c.begin.new.space
 
--- at each turn: what was lent keeps its length, which is enough, and checking is underway in it
-kept : (c : At-loop-n) → length c.loop-n.space ≡ length c.args.space.now
-kept c = c.loop-n.invariant.1 ∙ c.begin.auto.space
-
+-- at each turn: what was lent keeps its length, which is enough
 room : (c : At-loop-n) → room_for (length c.args.plan.now) ≤ length c.loop-n.space
-room c = rw (kept c) (admitted (goal.at.At-loop-n c).In_default).fits
+room c = rw (c.loop-n.auto.space, c.begin.auto.space) (admitted (goal.at.At-loop-n c).In_ok-admit).fits
 
-underway : (c : At-loop-n) → let args = c.args in Underway args.plan.now args.space.now c.loop-n.space c.loop-n.n
-underway c = c.loop-n.invariant.4 _ c.begin.ensures
+pub check_step-requires : goal.check_step-requires
+check_step-requires c = omega (arith, room (goal.at.check_step-requires c).At-loop-n)
 
-pub check_step-checked-requires : goal.check_step-checked-requires
-check_step-checked-requires c = omega (arith, room (goal.at.check_step-checked-requires c).At-loop-n)
-
-pub shape_of-space-in-Failed-verdict : goal.shape_of-space-in-Failed-verdict
-shape_of-space-in-Failed-verdict c =
-    c.check_step-checked.auto.space ∙ kept (goal.at.shape_of-space-in-Failed-verdict c).At-loop-n
-
-pub returns-in-Failed-verdict : goal.returns-in-Failed-verdict
-returns-in-Failed-verdict c =
+refused : (c : In_err-check_step) → let args = c.args in Done args.number.now args.plan.now args.space.now c.check_step.new.space (Err c.in_err-check_step.field-0.0)
+refused c =
     let args = c.args in
-    let done = underway_stop args.number.now args.plan.now args.space.now c.loop-n.space c.loop-n.n (underway (goal.at.returns-in-Failed-verdict c).At-loop-n) (search rules) (as_step c.read_step-step.result) c.read_step-step.ensures c.check_step-checked.result.verdict c.check_step-checked.result.doubling c.check_step-checked.new.space c.check_step-checked.ensures c.in-Failed-verdict.is in
-    record {
-      answer = done_answer (passed (goal.at.returns-in-Failed-verdict c).In_default) done;
-      space = done_space (passed (goal.at.returns-in-Failed-verdict c).In_default) done;
-    }
+    turn_refused args.number.now args.plan.now c.begin.new.space c.loop-n.space args.space.now c.loop-n.n _ _ _ c.loop-n.invariant c.begin.ensures (omega arith) (as_step c.read_step-step.result) c.read_step-step.ensures c.check_step.result c.check_step.new.space c.check_step.ensures c.in_err-check_step.was
 
--- a step that passes is behind
-behind : (c : After-check_step-checked) → c.check_step-checked.result.verdict ≡ Ok tt
-    → let plan = c.args.plan.now in
-    (lent : List ℕ) → Underway plan lent c.loop-n.space c.loop-n.n → Underway plan lent c.check_step-checked.new.space (c.loop-n.n + 1)
-behind c e lent u =
-    let args = c.args in
-    underway_next args.number.now args.plan.now lent c.loop-n.space c.loop-n.n u (search rules) (as_step c.read_step-step.result) c.read_step-step.ensures c.check_step-checked.result.verdict c.check_step-checked.result.doubling c.check_step-checked.new.space c.check_step-checked.ensures e
+pub returns-in_err-check_step-clause-answer : goal.returns-in_err-check_step-clause-answer
+returns-in_err-check_step-clause-answer c =
+    let e : c.from_residual-in_err-check_step.result ≡ Err c.in_err-check_step.field-0.0 = grind (arith, common_steps) in
+    e ∙ done_answer (passed (goal.at.returns-in_err-check_step-clause-answer c).In_ok-admit) (refused (goal.at.returns-in_err-check_step-clause-answer c).In_err-check_step)
+
+pub returns-in_err-check_step-clause-space : goal.returns-in_err-check_step-clause-space
+returns-in_err-check_step-clause-space c = done_space (passed (goal.at.returns-in_err-check_step-clause-space c).In_ok-admit) (refused (goal.at.returns-in_err-check_step-clause-space c).In_err-check_step)
 
 -- a step that passes is counted
-held : (c : After-check_step-checked) → c.check_step-checked.result.verdict ≡ Ok tt
-    → let d = bool_byte c.check_step-checked.result.doubling in
-    Holding (counts_to c.args.plan.now (c.loop-n.n + 1)) (c.loop-n.doublings + d) (c.loop-n.not_additions + bit_or d c.read_step-step.result.operation)
-held c e =
+counted : (c : After-from-doubling)
+    → (c.loop-n.doublings + bool_byte c.in_ok-check_step.field-0 ≤ c.loop-n.n + 1) × (c.loop-n.not_additions + bit_or (bool_byte c.in_ok-check_step.field-0) c.read_step-step.result.operation ≤ c.loop-n.n + 1)
+counted c =
     let args = c.args in
-    let step = as_step c.read_step-step.result in
-    let known = underway_counted args.number.now args.plan.now args.space.now c.loop-n.space c.loop-n.n (underway (goal.at.After-check_step-checked c).At-loop-n) (search rules) step c.read_step-step.ensures c.check_step-checked.result.verdict c.check_step-checked.result.doubling c.check_step-checked.new.space c.check_step-checked.ensures e in
-    holding_more args.plan.now c.loop-n.n c.loop-n.doublings c.loop-n.not_additions c.loop-n.invariant.2 step c.check_step-checked.result.doubling (search rules) c.read_step-step.ensures known.0 known.1
-
--- no more than a plan may have
-counted : (c : After-check_step-checked) → c.check_step-checked.result.verdict ≡ Ok tt
-    → let d = bool_byte c.check_step-checked.result.doubling in
-    (c.loop-n.doublings + d ≤ plan_steps) × (c.loop-n.not_additions + bit_or d c.read_step-step.result.operation ≤ plan_steps)
-counted c e =
-    let within : c.loop-n.n + 1 ≤ length c.args.plan.now / step_bytes = search rules in
-    let few = holding_few c.args.plan.now (c.loop-n.n + 1) _ _ (held c e) within in
-    let most = (admitted (goal.at.After-check_step-checked c).In_default).few in
-    (omega arith, omega arith)
+    turn_counted args.number.now args.plan.now c.begin.new.space c.loop-n.space args.space.now c.loop-n.n _ _ _ c.loop-n.invariant c.begin.ensures (omega arith) (as_step c.read_step-step.result) c.read_step-step.ensures c.check_step.result c.check_step.new.space c.check_step.ensures c.in_ok-check_step.was
 
 pub overflow_add-doublings : goal.overflow_add-doublings
-overflow_add-doublings c =
-    omega (arith, counted (goal.at.overflow_add-doublings c).After-check_step-checked c.in_default-verdict.is)
+overflow_add-doublings c = rw c.from-doubling.ensures (omega (arith, counted (goal.at.overflow_add-doublings c).After-from-doubling))
 
 pub overflow_add-not_additions : goal.overflow_add-not_additions
-overflow_add-not_additions c =
-    omega (arith, counted (goal.at.overflow_add-not_additions c).After-check_step-checked c.in_default-verdict.is)
+overflow_add-not_additions c = rw (c.from-doubling.ensures, c.from.ensures) (omega (arith, counted (goal.at.overflow_add-not_additions c).After-from-doubling))
 
 pub grown_bits-largest_bits-requires : goal.grown_bits-largest_bits-requires
-grown_bits-largest_bits-requires c = record {
-  record_bytes_in_bounds = omega (arith, room (goal.at.grown_bits-largest_bits-requires c).At-loop-n, c.check_step-checked.auto.space);
-  bits_bound = omega (arith, c.loop-n.invariant.3, underway_few _ _ _ c.loop-n.n (underway (goal.at.grown_bits-largest_bits-requires c).At-loop-n));
-}
+grown_bits-largest_bits-requires c =
+    let args = c.args in
+    record {
+      record_bytes_in_bounds = omega (arith, room (goal.at.grown_bits-largest_bits-requires c).At-loop-n, c.check_step.auto.space);
+      bits_bound = omega (arith, turn_few args.number.now args.plan.now c.begin.new.space c.loop-n.space args.space.now c.loop-n.n _ _ _ c.loop-n.invariant c.begin.ensures);
+    }
 
 pub loop-n-preserved : goal.loop-n-preserved
 loop-n-preserved c =
-    let args = c.args in (
-      search rules,
-      c.check_step-checked.auto.space ∙ c.loop-n.invariant.1,
-      held (goal.at.loop-n-preserved c).After-check_step-checked c.in_default-verdict.is,
-      underway_bits _ _ _ c.loop-n.n c.loop-n.largest_bits _ (behind (goal.at.loop-n-preserved c).After-check_step-checked c.in_default-verdict.is _ (underway (goal.at.loop-n-preserved c).At-loop-n)) (search rules) c.loop-n.invariant.3 c.grown_bits-largest_bits.ensures,
-      λ lent w. behind (goal.at.loop-n-preserved c).After-check_step-checked c.in_default-verdict.is lent (c.loop-n.invariant.4 lent w),
-    )
+    let args = c.args in
+    rw (c.from-doubling.ensures, c.from.ensures)
+    (turn_more args.number.now args.plan.now c.begin.new.space c.loop-n.space args.space.now c.loop-n.n _ _ _ c.loop-n.invariant c.begin.ensures (omega arith) (as_step c.read_step-step.result) c.read_step-step.ensures c.check_step.result c.check_step.new.space c.check_step.ensures c.in_ok-check_step.was c.grown_bits-largest_bits.result c.grown_bits-largest_bits.ensures)
 
 pub ends_at-requires : goal.ends_at-requires
 ends_at-requires c = record {
-  positive = (admitted (goal.at.ends_at-requires c).In_default).positive;
+  positive = (admitted (goal.at.ends_at-requires c).In_ok-admit).positive;
   record_bytes_in_bounds = omega (arith, room (goal.at.ends_at-requires c).At-loop-n);
 }
 
@@ -133,40 +90,32 @@ ended : (c : After-ends_at)
     Done args.number.now args.plan.now args.space.now c.loop-n.space (cond c.ends_at.result (Ok tt) (Err (WrongEnd (length args.plan.now / step_bytes))))
 ended c =
     let args = c.args in
-    let e : c.loop-n.n ≡ length args.plan.now / step_bytes = omega arith in
-    rw e at (underway_end args.number.now args.plan.now args.space.now c.loop-n.space c.loop-n.n (underway (goal.at.After-ends_at c).At-loop-n) e {t = c.ends_at.result} (rw e c.ends_at.ensures))
+    turn_done args.number.now args.plan.now c.begin.new.space c.loop-n.space args.space.now c.loop-n.n _ _ _ c.loop-n.invariant c.begin.ensures (omega arith) c.ends_at.ensures
+
+pub returns-then-not-ends_at-clause-answer : goal.returns-then-not-ends_at-clause-answer
+returns-then-not-ends_at-clause-answer c =
+    done_answer (passed (goal.at.returns-then-not-ends_at-clause-answer c).In_ok-admit) (rw c.if-not-ends_at.true at (ended (goal.at.returns-then-not-ends_at-clause-answer c).After-ends_at))
+
+pub returns-then-not-ends_at-clause-space : goal.returns-then-not-ends_at-clause-space
+returns-then-not-ends_at-clause-space c = done_space (passed (goal.at.returns-then-not-ends_at-clause-space c).In_ok-admit) (ended (goal.at.returns-then-not-ends_at-clause-space c).After-ends_at)
 
 -- no count is below zero
-few : (c : At-loop-n) → (c.loop-n.doublings ≤ c.loop-n.not_additions) × (c.loop-n.not_additions ≤ c.loop-n.n)
-few c = holding_few _ c.loop-n.n _ _ c.loop-n.invariant.2 c.loop-n.invariant.0
+few : (c : After-loop-n) → (c.loop-n.doublings ≤ c.loop-n.not_additions) × (c.loop-n.not_additions ≤ length c.args.plan.now / step_bytes)
+few c =
+    let args = c.args in
+    turn_few_counts args.number.now args.plan.now c.begin.new.space c.loop-n.space args.space.now c.loop-n.n _ _ _ c.loop-n.invariant c.begin.ensures (omega arith)
 
 pub overflow_sub-additions : goal.overflow_sub-additions
-overflow_sub-additions c = omega (arith, few (goal.at.overflow_sub-additions c).At-loop-n)
+overflow_sub-additions c = omega (arith, few (goal.at.overflow_sub-additions c).After-loop-n)
 
 pub overflow_sub-subtractions : goal.overflow_sub-subtractions
-overflow_sub-subtractions c = omega (arith, few (goal.at.overflow_sub-subtractions c).At-loop-n)
+overflow_sub-subtractions c = omega (arith, few (goal.at.overflow_sub-subtractions c).After-loop-n)
 
-pub shape_of-space-then-ends_at : goal.shape_of-space-then-ends_at
-shape_of-space-then-ends_at c = kept (goal.at.shape_of-space-then-ends_at c).At-loop-n
+pub returns-clause-answer : goal.returns-clause-answer
+returns-clause-answer c =
+    let args = c.args in
+    ap Ok (turn_accepted args.number.now args.plan.now c.begin.new.space c.loop-n.space args.space.now c.loop-n.n _ _ _ c.loop-n.invariant c.begin.ensures (omega arith))
+    ∙ done_answer (passed (goal.at.returns-clause-answer c).In_ok-admit) (rw c.if-not-ends_at.false at (ended (goal.at.returns-clause-answer c).After-ends_at))
 
-pub returns-then-ends_at : goal.returns-then-ends_at
-returns-then-ends_at c =
-    let plan = c.args.plan.now in
-    let done = rw c.if-ends_at.true at (ended (goal.at.returns-then-ends_at c).After-ends_at) in
-    let e : c.loop-n.n ≡ length plan / step_bytes = omega arith in
-    let all = rw e at (holding_all plan c.loop-n.n c.loop-n.doublings c.loop-n.not_additions c.loop-n.invariant.2 e) in
-    let admission = passed (goal.at.returns-then-ends_at c).In_default in
-    let bits = underway_largest plan c.loop-n.n c.loop-n.largest_bits e c.loop-n.invariant.3 in
-    record {
-      answer = (λ i. ACCEPTED (all i) (bits i)) ∙ done_answer admission done;
-      space = done_space admission done;
-    }
-
-pub shape_of-space : goal.shape_of-space
-shape_of-space c = kept (goal.at.shape_of-space c).At-loop-n
-
-pub returns : goal.returns
-returns c =
-    let done = rw c.if-ends_at.false at (ended (goal.at.returns c).After-ends_at) in
-    let admission = passed (goal.at.returns c).In_default in
-    record { answer = done_answer admission done; space = done_space admission done }
+pub returns-clause-space : goal.returns-clause-space
+returns-clause-space c = done_space (passed (goal.at.returns-clause-space c).In_ok-admit) (ended (goal.at.returns-clause-space c).After-ends_at)

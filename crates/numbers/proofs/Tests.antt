@@ -132,3 +132,6 @@ pub positive_passed : (number : List ℕ) → number_verdict number ≡ Ok tt �
 positive_passed number e n =
     let a = (admitted_is number).0 e in
     sym (positive_only number (positive (record { admitted = a; nonzero = nonzero_if_some number a n })))
+
+pub positive_is : (number : List ℕ) → positive_verdict number ≡ Ok tt ↔ Positive number
+positive_is number = (λ e. elim (rw e at (positive_test number)) [ positive p ↦ p ], λ p. positive_only number (positive p))

@@ -1,10 +1,11 @@
 // The tests that every call makes of the number that it is handed (docs/RULES.md, "Numbers").
 #![tactic(auto)]
 
-ghost use Rattle.std.specs.Prelude.{◌≡◌};
-ghost use Rattle.numbers.specs.Admission.{is_padded, number_verdict, positive_verdict};
+ghost use Rattle.std.specs.Prelude.{◌≡◌, Ok, Err, MatchResult};
+ghost use Rattle.numbers.specs.Admission.{is_padded, number_verdict, positive_verdict, Admitted, Positive};
 
 use rules::{NUMBER_BYTES, Refusal};
+use std::marker::Model;
 
 // Whether the highest byte is zero. The empty number has none.
 #[tactic(auto, using(crate::proofs::Tests::padded_none, crate::proofs::Tests::padded_highest))]
@@ -38,4 +39,82 @@ pub fn positive_verdict(number: &[u8]) -> Result<(), Refusal>
         return Err(Refusal::NumberIsZero);
     }
     Ok(())
+}
+
+// A number that every call takes: not longer than the limit, its highest byte not zero.
+#[derive(Drop)]
+pub struct Number<'a> {
+    bytes: &'a [u8],
+}
+
+impl<'a> Model for Number<'a> {
+    ghost use Rattle.std.specs.Prelude.{ℕ, List};
+    ghost use Rattle.numbers.specs.Admission.{Admitted};
+
+    ghost Value = { List ℕ };
+
+    ghost view = { λ n. n.bytes.now };
+
+    ghost invariant = { λ n. Admitted n.bytes.now };
+}
+
+impl<'a> Number<'a> {
+    // The number of these bytes, past refusals 1 and 13.
+    #[tactic(auto, using(crate::proofs::Tests::admitted_is))]
+    pub fn new(bytes: &'a [u8]) -> Result<Number<'a>, Refusal>
+        ensures { MatchResult result (λ n. (number_verdict bytes.now ≡ Ok tt) × (n ≡ bytes.now)) (λ r. number_verdict bytes.now ≡ Err r) }
+    {
+        number_verdict(bytes)?;
+        Ok(Number { bytes })
+    }
+
+    pub fn bytes(&self) -> &'a [u8]
+        ensures value { result.now ≡ self.now }
+        ensures admitted { Admitted self.now }
+    {
+        self.bytes
+    }
+}
+
+// One that is also not zero.
+#[derive(Drop)]
+pub struct PositiveNumber<'a> {
+    bytes: &'a [u8],
+}
+
+impl<'a> Model for PositiveNumber<'a> {
+    ghost use Rattle.std.specs.Prelude.{ℕ, List};
+    ghost use Rattle.numbers.specs.Admission.{Positive};
+
+    ghost Value = { List ℕ };
+
+    ghost view = { λ n. n.bytes.now };
+
+    ghost invariant = { λ n. Positive n.bytes.now };
+}
+
+impl<'a> PositiveNumber<'a> {
+    // The number of these bytes, past refusals 1, 13 and 2.
+    #[tactic(auto, using(crate::proofs::Tests::positive_is))]
+    pub fn new(bytes: &'a [u8]) -> Result<PositiveNumber<'a>, Refusal>
+        ensures { MatchResult result (λ n. (positive_verdict bytes.now ≡ Ok tt) × (n ≡ bytes.now)) (λ r. positive_verdict bytes.now ≡ Err r) }
+    {
+        positive_verdict(bytes)?;
+        Ok(PositiveNumber { bytes })
+    }
+
+    pub fn bytes(&self) -> &'a [u8]
+        ensures value { result.now ≡ self.now }
+        ensures positive { Positive self.now }
+    {
+        self.number().bytes()
+    }
+
+    // The same as a number that may be zero.
+    pub fn number(&self) -> Number<'a>
+        ensures value { result ≡ self.now }
+        ensures positive { Positive self.now }
+    {
+        Number { bytes: self.bytes }
+    }
 }

@@ -1,3 +1,4 @@
 pub mod Triple
 pub mod SpreadBits
 pub mod TopByte
+pub mod Parts

@@ -1,10 +1,8 @@
 -- `recoding_digits::write_byte` meets its contract. Assumes nothing.
-use mathlib.Core.Path.{◌≡◌, sym, ◌∙◌}
-use Prim.Native.Nat.{ℕ, ◌+◌, ◌-◌, ◌*◌, ◌/◌, ◌%◌, ◌^◌}
+use mathlib.Core.Path.{◌≡◌, refl, sym, ◌∙◌}
+use Prim.Native.Nat.{ℕ, ◌+◌, ◌*◌, ◌/◌, ◌%◌, ◌^◌}
 use native.Mathlib.Omega.{arith}
 use lib.IntN.{pos}
-use lib.Seq.{drop-drop}
-use lib.ListN.{length, take, drop, length-take, length-drop}
 use Rattle.integers.specs.Positional.{bytes_value}
 use Rattle.integers.specs.Tabulate.{tabulate}
 use Rattle.integers.proofs.Positional.{Below, positional_at}
@@ -12,6 +10,7 @@ use Rattle.integers.proofs.Tabulate.{tabulate_same}
 use Rattle.signed_digits.specs.Naf.{canonical}
 use Rattle.digit_strings.specs.Places.{place_byte}
 use Rattle.recoding_digits.specs.Internal.{difference}
+use Rattle.recoding_digits.proofs.Parts.{part_written}
 use Rattle.recoding_digits.proofs.Triple.{carry_small, carry_step, byte_digit_lem, more_of, less_of}
 use Rattle.recoding_digits.proofs.write_byte.Goals as goal
 
@@ -33,12 +32,8 @@ returns c =
     let table : tabulate (difference (more_of e k) (less_of e k)) count ≡ tabulate (λ j. place_byte (canonical (pos e)) (8 * k + j)) count =
     tabulate_same (difference (more_of e k) (less_of e k)) (λ j. place_byte (canonical (pos e)) (8 * k + j)) count (λ j h. sym (byte_digit_lem e k j (omega arith))) in
     let out = c.args.out.now in
-    let room : length (take (8 * k + count - 8 * k) (drop (8 * k) out)) ≡ count = omega (arith, length-take (8 * k + count - 8 * k) (drop (8 * k) out), length-drop (8 * k) out, c.requires.count_in_bounds) in
-    let written : c.write_differences.new.out ≡ tabulate (difference ((3 * c.byte_at-byte.result + c.args.carry) / 2 + 128 * c.byte_at-next.result) (c.byte_at-byte.result / 2 + 128 * c.byte_at-next.result)) count =
-    rw room at c.write_differences.ensures in
-    let size : 8 * k + (8 * k + count - 8 * k) ≡ 8 * k + count = omega arith in
-    let back : drop (8 * k + count - 8 * k) (drop (8 * k) out) ≡ drop (8 * k + count) out = drop-drop (8 * k + count - 8 * k) (8 * k) out ∙ rw size in
+    let written = part_written (difference ((3 * c.byte_at-byte.result + c.args.carry) / 2 + 128 * c.byte_at-next.result) (c.byte_at-byte.result / 2 + 128 * c.byte_at-next.result)) out c.write_differences.new.out (8 * k) (8 * k + count) count refl c.requires.count_in_bounds c.write_differences.ensures in
     record {
       carried = rw (b, c.requires.carry_value) (sym (carry_step e k));
-      buffer = rw (written, more, less, table, back);
+      buffer = rw (more, less, table) at written;
     }

@@ -3,7 +3,7 @@ use mathlib.Core.Path.{◌≡◌, sym, ap, ◌∙◌}
 use mathlib.Core.List.{List, ◌++◌}
 use Prim.Native.Nat.{ℕ, ◌+◌, ◌*◌, ◌-◌, ◌/◌, ◌%◌, ◌^◌, ◌<◌, ◌≤◌}
 use native.Mathlib.Decide.{dec_lt}
-use native.Mathlib.Nat.{zero-add, div-eq_of_lt}
+use native.Mathlib.Nat.{div-eq_of_lt}
 use native.Mathlib.Omega.{arith}
 use lib.Bits.{bit_xor, xor_shr, xor_lt}
 use lib.IntN.{pos}
@@ -121,9 +121,9 @@ module _ (words triple : List ℕ) (hw : Below (2 ^ 64) words) (ht : Below (2 ^ 
 
   -- n digits of the lowest word
   pub low_written : (n : ℕ) (out after : List ℕ) → n ≤ 63
-      → after ≡ take 0 out ++ (tabulate (difference (get_or triple 0 0 / 2) (get_or words 0 0 / 2)) n ++ drop (0 + n) out) → after ≡ tabulate digit n ++ drop n out
+      → after ≡ tabulate (difference (get_or triple 0 0 / 2) (get_or words 0 0 / 2)) n ++ drop n out → after ≡ tabulate digit n ++ drop n out
   low_written n out after h w =
-      w ∙ rw (zero-add n, tabulate_same (difference (get_or triple 0 0 / 2) (get_or words 0 0 / 2)) digit n (λ j l. low_digit_lem j (omega arith)))
+      w ∙ rw (tabulate_same (difference (get_or triple 0 0 / 2) (get_or words 0 0 / 2)) digit n (λ j l. low_digit_lem j (omega arith)))
 
   -- n digits of word k, above those of the words below
   pub word_written : (k n : ℕ) (lent out after : List ℕ) → 0 < k → n ≤ 64 → 64 * k - 1 ≤ length lent → out ≡ tabulate digit (64 * k - 1) ++ drop (64 * k - 1) lent

@@ -50,6 +50,7 @@ const FOUR_DIGITS: [u32; 32] = [
 // Writes the first `count` canonical digits of the number that the words hold. Bits stand one place above
 // their digits: of the lowest word the lowest bit is left out, and the digits of each word above begin
 // one place down. So no word is shifted but the lowest.
+#[tactic(auto, unfolding(word_digits::specs::Internal::four_digits))]
 pub fn write(words: &[u64], triple: &[u64], out: &mut [u8], count: usize)
     requires triple_value { words_value triple.now ≡ 3 * words_value words.now }
     requires count_in_bounds { count ≤ length out.old }
@@ -59,50 +60,44 @@ pub fn write(words: &[u64], triple: &[u64], out: &mut [u8], count: usize)
     let more = word_in(triple, 0) / 2;
     let less = word_in(words, 0) / 2;
     if count < 63 {
-        write_word(out, 0, count, &fours, more, less);
+        write_word(&mut out[..count], &fours, more, less);
         return;
     }
-    write_word(out, 0, 63, &fours, more, less);
-    let mut k = 1;
-    while 64 * k + 63 <= count {
+    write_word(&mut out[..63], &fours, more, less);
+    let whole = (count + 1) / 64;
+    for k in 1..whole {
         write_word(
-            out,
-            64 * k - 1,
-            64,
+            &mut out[64 * k - 1..64 * k + 63],
             &fours,
             word_in(triple, k),
             word_in(words, k),
         );
-        k += 1;
     }
     write_word(
-        out,
-        64 * k - 1,
-        count - (64 * k - 1),
+        &mut out[64 * whole - 1..count],
         &fours,
-        word_in(triple, k),
-        word_in(words, k),
+        word_in(triple, whole),
+        word_in(words, whole),
     );
 }
 
 // Writes the first `count` canonical digits one place up, each where its bit is: the digit at place i is
 // byte i + 1. Whole words of bytes are written, so what stands at 0 and above the digits is left open.
+// One function for both, over the place, would be no plainer: here no word is halved and none is cut off,
+// which is what the steps before and after the loop of `write` are for.
+#[tactic(auto, unfolding(word_digits::specs::Internal::four_digits))]
 pub fn write_raised(words: &[u64], triple: &[u64], out: &mut [u8], count: usize)
     requires triple_value { words_value triple.now ≡ 3 * words_value words.now }
     requires count_in_bounds { 64 * (count / 64 + 1) ≤ length out.old }
     ensures { (i : ℕ) → i < count → get_or out.new (i + 1) 0 ≡ place_byte (canonical (pos (words_value words.now))) i }
 {
     let fours = FOUR_DIGITS;
-    let mut k = 0;
-    while 64 * k <= count {
+    for k in 0..count / 64 + 1 {
         write_word(
-            out,
-            64 * k,
-            64,
+            &mut out[64 * k..64 * k + 64],
             &fours,
             word_in(triple, k),
             word_in(words, k),
         );
-        k += 1;
     }
 }

@@ -3,7 +3,7 @@
 // known by their nonzero places and twice those of -1, a number below 32, and are looked up by it.
 #![tactic(auto)]
 
-ghost use Rattle.std.specs.Prelude.{◌≡◌, ◌++◌, ◌+◌, ◌<◌, ◌≤◌, length, take, drop};
+ghost use Rattle.std.specs.Prelude.{◌≡◌, ◌<◌, ◌≤◌, length};
 ghost use Rattle.std.specs.Int.Bits.{bit_xor};
 ghost use Rattle.integers.specs.Positional.{bytes_value};
 ghost use Rattle.integers.specs.Tabulate.{tabulate};
@@ -21,13 +21,6 @@ fn indices(more: u64, less: u64) -> u64
     places + 2 * (places & low)
 }
 
-// A word of 32 bits as one of 64; apart, so that its bound is known where it is added.
-fn wide(word: u32) -> u64
-    ensures { (result ≡ word) × (result < 0x100000000) }
-{
-    word as u64
-}
-
 // The bytes of the eight digits whose numbers stand in byte j of two words.
 fn eight_digits(fours: &[u32; 32], low: u64, high: u64, j: usize) -> u64
     requires { j < 8 }
@@ -35,30 +28,24 @@ fn eight_digits(fours: &[u32; 32], low: u64, high: u64, j: usize) -> u64
 {
     let first = ((low >> (8 * j)) % 32) as usize;
     let second = ((high >> (8 * j)) % 32) as usize;
-    wide(fours[first]) + 0x1_0000_0000 * wide(fours[second])
+    u64::from(fours[first]) + 0x1_0000_0000 * u64::from(fours[second])
 }
 
-// Writes at `at` the `count` low digits of a word of 3 e and one of e.
-pub fn write_word(out: &mut [u8], at: usize, count: usize, fours: &[u32; 32], more: u64, less: u64)
-    requires count_bound { count ≤ 64 }
-    requires count_in_bounds { at + count ≤ length out.old }
+// Writes as many of the low digits of a word of 3 e and one of e as there is room for.
+pub fn write_word(out: &mut [u8], fours: &[u32; 32], more: u64, less: u64)
+    requires room { length out.old ≤ 64 }
     requires fours_value { fours.now ≡ four_digits }
     requires apart { Apart (bit_xor more less) }
-    ensures { out.new ≡ take at out.old ++ (tabulate (difference more less) count ++ drop (at + count) out.old) }
+    ensures { out.new ≡ tabulate (difference more less) (length out.old) }
 {
     let low = indices(more, less);
     let high = indices(more / 16, less / 16);
-    let mut j = 0;
-    while 8 * j + 8 <= count {
-        store_word(out, at + 8 * j, eight_digits(fours, low, high, j));
-        j += 1;
+    let whole = out.len() / 8;
+    let rest = out.len() % 8;
+    for j in 0..whole {
+        store_word(out, 8 * j, eight_digits(fours, low, high, j));
     }
-    if 8 * j < count {
-        store_low(
-            out,
-            at + 8 * j,
-            count - 8 * j,
-            eight_digits(fours, low, high, j),
-        );
+    if 0 < rest {
+        store_low(out, 8 * whole, rest, eight_digits(fours, low, high, whole));
     }
 }

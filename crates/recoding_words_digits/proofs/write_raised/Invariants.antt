@@ -1,7 +1,7 @@
 -- `recoding_words_digits::write_raised` meets its contract: after k turns the digits of the k low words stand. Assumes nothing.
 use mathlib.Core.Path.{◌≡◌}
 use mathlib.Core.List.{◌++◌}
-use Prim.Native.Nat.{◌≤◌, ◌-◌, ◌+◌, ◌*◌, ◌/◌}
+use Prim.Native.Nat.{◌*◌}
 use lib.ListN.{length, drop}
 use Rattle.integers.specs.Positional.{words_value}
 use Rattle.integers.specs.Tabulate.{tabulate}
@@ -10,7 +10,4 @@ use Rattle.recoding_words_digits.proofs.write_raised.Given as goal
 
 abbrev pub invariant-loop-k : goal.invariant-loop-k
 invariant-loop-k l =
-    (64 * l.k ≤ 64 * (l.count / 64 + 1)) × (length l.out ≡ length l.initial.out) × (l.out ≡ tabulate (difference (3 * words_value l.words) (words_value l.words)) (64 * l.k) ++ drop (64 * l.k) l.initial.out)
-
-abbrev pub decreases-loop-k : goal.decreases-loop-k
-decreases-loop-k l = l.count + 64 - 64 * l.k
+    (length l.out ≡ length l.initial.out) × (l.out ≡ tabulate (difference (3 * words_value l.words) (words_value l.words)) (64 * l.k) ++ drop (64 * l.k) l.initial.out)

@@ -3,7 +3,7 @@
 // the next carry.
 #![tactic(auto)]
 
-ghost use Rattle.std.specs.Prelude.{◌≡◌, cond, ◌++◌, ◌+◌, ◌%◌, ◌<◌, ◌≤◌, eqb, length, drop};
+ghost use Rattle.std.specs.Prelude.{◌≡◌, cond, ◌++◌, ◌+◌, ◌%◌, ◌<◌, ◌≤◌, eqb, IfSome, length, drop};
 ghost use Rattle.integers.specs.Positional.{Significant};
 ghost use Rattle.integers.specs.Tabulate.{tabulate};
 ghost use Rattle.signed_digits.specs.Naf.{rest, canonical, canonical_width};
@@ -48,38 +48,40 @@ fn highest(digits: &[u8], from: usize, n: usize, start: u64) -> usize
     requires start_value { start ≡ sum_at digits.now from }
     ensures { Highest digits.now from (n + 1) result }
 {
-    let mut i = from;
     let mut sum = start;
     let mut length = 0;
-    while i <= n {
-        i += 1;
-        length = top(sum, i, length);
-        sum = rest_of(sum + 2 * raised_at(digits, i));
+    for i in from..=n {
+        length = top(sum, i + 1, length);
+        sum = rest_of(sum + 2 * raised_at(digits, i + 1));
     }
     length
 }
 
-// The length by the digits from `from` on alone, where each carry into that place comes to the same;
-// else 0. The sum lies from `low` to `high`.
-fn by_top(digits: &[u8], from: usize, n: usize) -> usize
+// The length by the digits from `from` on alone, where each carry into that place comes to the same
+// and a canonical digit from where it does is not 0. The sum lies from `low` to `high`.
+fn by_top(digits: &[u8], from: usize, n: usize) -> Option<usize>
     requires digit_string { DigitString canonical_width digits.now }
     requires from_le_n { from ≤ n }
     requires significant { Significant digits.now n }
-    ensures { 0 < result → result ≡ length (canonical (string_value digits.now)) }
+    ensures { IfSome result (λ found. found ≡ length (canonical (string_value digits.now))) }
 {
     let mut i = from;
     let mut low = raised_at(digits, i);
     let mut high = low + 2;
+    // How many places up the two differ, the digits decide.
     while low < high {
         if n <= i {
-            return 0;
+            return None;
         }
         i += 1;
         let above = 2 * raised_at(digits, i);
         low = rest_of(low + above);
         high = rest_of(high + above);
     }
-    highest(digits, i, n, low)
+    match highest(digits, i, n, low) {
+        0 => None,
+        length => Some(length),
+    }
 }
 
 // How many digits the canonical string has.
@@ -89,8 +91,7 @@ pub fn count(digits: &[u8]) -> usize
 {
     let n = significant(digits);
     if NEAR < n {
-        let length = by_top(digits, n - NEAR, n);
-        if length != 0 {
+        if let Some(length) = by_top(digits, n - NEAR, n) {
             return length;
         }
     }
@@ -104,11 +105,9 @@ pub fn write(digits: &[u8], out: &mut [u8], count: usize)
     ensures { out.new ≡ tabulate (place_byte (canonical (string_value digits.now))) count ++ drop count out.old }
 {
     let mut sum = raised_at(digits, 0) + 1;
-    let mut i = 0;
-    while i < count {
+    for i in 0..count {
         let pair = sum + 2 * raised_at(digits, i + 1);
         sum = rest_of(pair);
         out[i] = ((256 + pair - 2 * sum) % 256) as u8;
-        i += 1;
     }
 }

@@ -15,9 +15,6 @@ loop-low-init c =
     let b = sum_small c.args.digits.now c.requires.digit_string c.args.from in
     (search rules, search rules, search rules, omega (arith, b, c.raised_at-low.ensures), omega (arith, b, c.raised_at-low.ensures))
 
-pub returns-then-n-i : goal.returns-then-n-i
-returns-then-n-i c = λ h. absurd (omega arith)
-
 pub loop-low-preserved : goal.loop-low-preserved
 unfolding sum_at
 loop-low-preserved c =
@@ -33,6 +30,6 @@ loop-low-preserved c =
       rw (high, e) (rest_grows (sum_at s c.loop-low.i + 2 * c.raised_at-above.result) (c.loop-low.high + 2 * c.raised_at-above.result) (search rules)),
     )
 
-pub returns : goal.returns
-returns c = λ h.
-    count_is c.args.digits.now c.requires.digit_string c.args.n c.loop-low.i c.highest.result c.requires.significant c.highest.ensures (λ _. h)
+pub returns-in_default : goal.returns-in_default
+returns-in_default c =
+    count_is c.args.digits.now c.requires.digit_string c.args.n c.loop-low.i c.highest.result c.requires.significant c.highest.ensures (λ _. omega arith)

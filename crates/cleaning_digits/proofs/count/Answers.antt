@@ -5,9 +5,6 @@ use Rattle.cleaning_digits.proofs.Length.{count_is}
 use borrow.Author.Rules.{rules}
 use Rattle.cleaning_digits.proofs.count.Goals as goal
 
-pub returns-then-length-ne0 : goal.returns-then-length-ne0
-returns-then-length-ne0 c = c.by_top-length.ensures (search rules)
-
 pub highest-requires : goal.highest-requires
 unfolding sum_at
 highest-requires c = search rules

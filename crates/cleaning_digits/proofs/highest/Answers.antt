@@ -15,8 +15,6 @@ loop-i-init c =
     let args = c.args in
     let given = c.requires.digit_string in
     let s = args.digits.now in (
-      search rules,
-      search rules,
       omega (arith, sum_small s given args.from, raised_small s given args.from, c.requires.start_value),
       search rules,
       highest_none s args.from,
@@ -29,11 +27,11 @@ loop-i-preserved c =
     let s = args.digits.now in
     let a : c.raised_at.result ≡ raised_at s (c.loop-i.i + 1) = c.raised_at.ensures.0 in
     let r : c.rest_of-sum.result ≡ rest 2 (c.loop-i.sum + 2 * c.raised_at.result) = c.rest_of-sum.ensures.0 in
-    let high = rw (← c.loop-i.invariant.3) at (highest_more s args.from c.loop-i.i c.loop-i.length c.loop-i.invariant.4 (search rules)) in
-    (search rules, search rules, search rules, rw (r, c.loop-i.invariant.3, a, add-one c.loop-i.i), rw c.top-length.ensures high)
+    let high = rw (← c.loop-i.invariant.1) at (highest_more s args.from c.loop-i.i c.loop-i.length c.loop-i.invariant.2 (search rules)) in
+    (search rules, rw (r, c.loop-i.invariant.1, a, add-one c.loop-i.i), rw c.top-length.ensures high)
 
 pub returns : goal.returns
 returns c =
     let args = c.args in
     let e : c.loop-i.i ≡ args.n + 1 = omega arith in
-    rw e at c.loop-i.invariant.4
+    rw e at c.loop-i.invariant.2

@@ -26,12 +26,11 @@ loop-i-preserved c =
     let rest = c.rest_of-sum.ensures.0 in (
       search rules,
       search rules,
-      search rules,
-      rw (c.loop-i.invariant.3, rest, above) (rw (← place_byte_lem s c.requires.digit_string c.loop-i.i, ← c.loop-i.invariant.4, ← add-one c.loop-i.i) at stored),
-      rw (rest, above, c.loop-i.invariant.4, add-one c.loop-i.i),
+      rw (c.loop-i.invariant.2, rest, above) (rw (← place_byte_lem s c.requires.digit_string c.loop-i.i, ← c.loop-i.invariant.3, ← add-one c.loop-i.i) at stored),
+      rw (rest, above, c.loop-i.invariant.3, add-one c.loop-i.i),
     )
 
 pub returns : goal.returns
 returns c =
     let e : c.loop-i.i ≡ c.args.count = omega arith in
-    rw e at c.loop-i.invariant.3
+    rw e at c.loop-i.invariant.2

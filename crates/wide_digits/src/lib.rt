@@ -11,7 +11,6 @@ ghost use Rattle.wide_digits.specs.Form.{Blank, turned, FormIn};
 ghost use Rattle.wide_digits.specs.Internal.{left_at, nearest};
 
 use integers::{power_of_two, whole_word_at};
-use output::put;
 use rules::{LARGEST_WIDTH, NUMBER_BYTES};
 
 // Of eight bytes up to seven bits stand below a place.
@@ -59,6 +58,7 @@ pub fn write(bytes: &[u8], bits: usize, width: usize, sign: u8, out: &mut [u8]) 
     let mut place = 0;
     let mut carry: u64 = 0;
     let mut length = 0;
+    // How far a turn goes up, the number decides.
     while place <= bits {
         let left = left_at(bytes, place, carry);
         if left % (1 << BLANK_PLACES) == 0 {
@@ -88,6 +88,6 @@ pub fn recoded(number: &[u8], width: usize, out: &mut [u8]) -> usize
     ensures { FormIn width (pos (bytes_value number.now)) out.new result }
 {
     let mut padded = [0u8; PADDED_BYTES];
-    put(number, &mut padded);
+    padded[..number.len()].copy_from_slice(number);
     write(&padded, 8 * number.len(), width, 0, out)
 }

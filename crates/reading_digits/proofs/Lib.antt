@@ -1,3 +1,4 @@
 pub mod Raised
 pub mod Sign
 pub mod Size
+pub mod Backward

@@ -1,13 +1,15 @@
 -- A digit string with each digit raised by the largest of its width: its value by that sum. Assumes nothing.
-use mathlib.Core.Path.{◌≡◌, refl, ap, ◌∙◌}
+use mathlib.Core.Path.{◌≡◌, refl, sym, ap, ◌∙◌}
 use mathlib.Core.Bool.{true}
 use mathlib.Core.List.{List, [], ◌∷◌}
 use Prim.Native.Nat.{ℕ, zero, suc, ◌+◌, ◌-◌, ◌*◌, ◌%◌, ◌^◌, ◌<◌, ◌≤◌}
 use native.Mathlib.Nat.{pow-suc, mul-add, mul-le-mul}
 use native.Mathlib.Omega.{arith}
-use lib.ListN.{length, get_or, take, drop, length-take, length-map}
+use lib.ListN.{length, get_or, take, drop, length-take, length-drop, length-map}
 use lib.Pow.{pow-add, pow_pos, pow_mono}
-use lib.Seq.{take-add, drop-cons, length-take-le}
+use lib.Seq.{take-add, take-length, drop-cons, get_or-drop, length-take-le}
+use Rattle.std.specs.Prelude.{map}
+use Rattle.std.proofs.lemmas.List.{get_or-take, drop-map, take-map}
 use Rattle.rules.specs.Limits.{least_width, largest_width}
 use Rattle.integers.specs.Positional.{positional, bytes_value, Significant}
 use Rattle.integers.proofs.Positional.{Below, below_take, below_drop, positional_append}
@@ -15,7 +17,7 @@ use Rattle.signed_digits.specs.Bytes.{string_of}
 use Rattle.signed_digits.proofs.Parts.{positive_part, negative_part, positive_sum, negative_sum, value_parts}
 use Rattle.digit_strings.specs.Admission.{largest_digit, is_digit, string_value, DigitString}
 use Rattle.digit_strings.proofs.Raised.{raised_is}
-use Rattle.reading_digits.specs.Sums.{raised_digits, SizesUpTo, raised_sum, raised_zeros, carry_zero}
+use Rattle.reading_digits.specs.Sums.{raised_digits, SizesUpTo, raised_sum, raised_zeros, by_sign, carry_zero}
 
 -- ---- zeros
 
@@ -96,12 +98,37 @@ module _ (t : ℕ) where
       rw (drop-cons (raised_digits t l) m 0 p, raised_at l m h)
 
   -- a sum from the top down, one digit more
-  pub raised_down : (l : List ℕ) (from count i : ℕ) → from + count ≤ length l → 0 < i → i ≤ count
-      → raised_sum t l (from + i) (count - i) * 2 + (get_or l (from + (i - 1)) 0 + t) % 256 ≡ raised_sum t l (from + (i - 1)) (count - (i - 1))
-  raised_down l from count i h some k =
-      let place : from + i ≡ suc (from + (i - 1)) = omega arith in
-      let left : count - (i - 1) ≡ suc (count - i) = omega arith in
-      rw (left, place) (omega (arith, raised_low l (from + (i - 1)) (count - i) (omega arith)))
+  pub raised_down : (l : List ℕ) (i sum : ℕ) → i < length l → sum ≡ raised_sum t l (suc i) (length l - suc i)
+      → sum * 2 + (get_or l i 0 + t) % 256 ≡ raised_sum t l i (length l - i)
+  raised_down l i sum h e =
+      let left : length l - i ≡ suc (length l - suc i) = omega arith in
+      rw left (omega (arith, e, raised_low l i (length l - suc i) h))
+
+-- the digits from m up to e by themselves
+module _ (t : ℕ) (l : List ℕ) (m e : ℕ) (order : m ≤ e) (fits : e ≤ length l) where
+  abbrev part : List ℕ
+  part = take (e - m) (drop m l)
+
+  part_size : length part ≡ e - m
+  part_size = length-take-le (e - m) (drop m l) (omega (arith, length-drop m l))
+
+  pub part_sizes : SizesUpTo t l → SizesUpTo t part
+  part_sizes d i h =
+      let there : get_or part i 0 ≡ get_or l (m + i) 0 = get_or-take (e - m) (drop m l) i 0 (omega (arith, part_size)) ∙ get_or-drop m l i 0 in
+      rw there (d (m + i) (omega (arith, part_size)))
+
+  part_sum : raised_sum t part 0 (length part) ≡ raised_sum t l m (e - m)
+  unfolding raised_sum
+  part_sum =
+      let f : ℕ → ℕ = λ byte. (byte + t) % 256 in
+      let all : take (length part) (map f part) ≡ map f part = ap (λ (n : ℕ). take n (map f part)) (sym (length-map part f)) ∙ take-length (map f part) in
+      rw (all, drop-map f m l, take-map f (e - m) (drop m l))
+
+  -- what `byte_of` says of them
+  pub part_byte : (sign carry b : ℕ)
+      → b + by_sign sign (raised_zeros t (length part)) (raised_sum t part 0 (length part)) ≡ carry + 255 * carry_zero + by_sign sign (raised_sum t part 0 (length part)) (raised_zeros t (length part))
+      → b + by_sign sign (raised_zeros t (e - m)) (raised_sum t l m (e - m)) ≡ carry + 255 * carry_zero + by_sign sign (raised_sum t l m (e - m)) (raised_zeros t (e - m))
+  part_byte sign carry b h = rw (part_sum, part_size) at h
 
 -- ---- the digits of a width
 

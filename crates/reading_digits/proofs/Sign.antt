@@ -26,11 +26,10 @@ module _ (t : ℕ) (l : List ℕ) (n : ℕ) where
       rw e (omega (arith, zeros_none t, raised_none t l n))
 
   -- one digit more
-  pub one_passed : (i v : ℕ) → n ≤ length l → 0 < i → i ≤ n → Comes t l n i t v → Comes t l n (i - 1) (3 * t) (2 * v + (get_or l (i - 1) 0 + t) % 256)
-  one_passed i v h some k e =
-      let place : suc (i - 1) ≡ i = omega arith in
-      let left : n - (i - 1) ≡ suc (n - i) = omega arith in
-      rw left (omega (arith, zeros_low t (n - i), rw place at (raised_low t l (i - 1) (n - i) (omega arith))))
+  pub one_passed : (i v : ℕ) → n ≤ length l → i < n → Comes t l n (suc i) t v → Comes t l n i (3 * t) (2 * v + (get_or l i 0 + t) % 256)
+  one_passed i v h k e =
+      let left : n - i ≡ suc (n - suc i) = omega arith in
+      rw left (omega (arith, zeros_low t (n - suc i), raised_low t l i (n - suc i) (omega arith)))
 
   -- and less of it to keep
   pub kept : (i x : ℕ) → 2 * t < x → Comes t l n i (3 * t) x → Comes t l n i t (x - 2 * t)

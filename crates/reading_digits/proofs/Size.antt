@@ -102,8 +102,8 @@ module _ (t : ℕ) (l : List ℕ) (sign : ℕ) (size : List ℕ) (k carry : ℕ)
 -- the difference is the size, where the sign is right
 size_by_sign : (v : ℤ) (sum zeros : ℕ) → positive_part v + zeros ≡ sum + negative_part v → nat_abs v + by_sign (sign_of v) zeros sum ≡ by_sign (sign_of v) sum zeros
 unfolding by_sign
-size_by_sign (pos n) sum zeros e = omega arith
-size_by_sign (negsuc n) sum zeros e = omega arith
+size_by_sign (pos n) sum of_zeros e = omega arith
+size_by_sign (negsuc n) sum of_zeros e = omega arith
 
 module _ (w : ℕ) (most : w ≤ largest_width) (l : List ℕ) (n : ℕ) (d : DigitString w l) (s : Significant l n) (size : List ℕ) (k carry : ℕ) (inv : Subtracted (largest_digit w) l (sign_of (string_value l)) size n k carry) where
   abbrev p : ℕ

@@ -35,7 +35,7 @@ fn raised_digit(byte: u8, largest: u64) -> u64
     requires { largest < carry_zero }
     ensures { result ≡ (byte + largest) % 256 }
 {
-    (byte as u64 + largest) % 256
+    (u64::from(byte) + largest) % 256
 }
 
 // The sign of a string of `count` significant digits, from the highest down. What these come to is
@@ -50,10 +50,8 @@ pub fn sign_of(digits: &[u8], count: usize, width: usize) -> u8
     let largest = largest_digit(width);
     let twice = 2 * largest;
     let mut value = largest;
-    let mut i = count;
-    while 0 < i {
-        i -= 1;
-        let next = 2 * value + raised_digit(digits[i], largest);
+    for digit in digits[..count].iter().rev() {
+        let next = 2 * value + raised_digit(*digit, largest);
         if next <= twice {
             return 1;
         }
@@ -65,36 +63,32 @@ pub fn sign_of(digits: &[u8], count: usize, width: usize) -> u8
     if value < largest { 1 } else { 0 }
 }
 
-// What the `count` digits from `from` on come to, each raised by the largest, the lowest at place 0.
-fn raised_sum(digits: &[u8], from: usize, count: usize, largest: u64) -> u64
+// What digits come to, each raised by the largest, the lowest at place 0.
+fn raised_sum(digits: &[u8], largest: u64) -> u64
     requires sizes_up_to { SizesUpTo largest digits.now }
     requires largest_lt_carry_zero { largest < carry_zero }
-    requires count_bound { count ≤ 8 }
-    requires count_in_bounds { from + count ≤ length digits.now }
-    ensures { result ≡ raised_sum largest digits.now from count }
+    requires digits_len_bound { length digits.now ≤ 8 }
+    ensures { result ≡ raised_sum largest digits.now 0 (length digits.now) }
 {
     let mut sum: u64 = 0;
-    let mut i = count;
-    while 0 < i {
-        sum = sum * 2 + raised_digit(digits[from + (i - 1)], largest);
-        i -= 1;
+    for digit in digits.iter().rev() {
+        sum = sum * 2 + raised_digit(*digit, largest);
     }
     sum
 }
 
 // What these digits come to in size, with the carry into them: the next byte of the size, and 256
 // times the carry out of them.
-fn byte_of(digits: &[u8], from: usize, count: usize, largest: u64, sign: u8, carry: u64) -> u64
+fn byte_of(digits: &[u8], largest: u64, sign: u8, carry: u64) -> u64
     requires sizes_up_to { SizesUpTo largest digits.now }
     requires largest_lt_carry_zero { largest < carry_zero }
-    requires count_bound { count ≤ 8 }
-    requires count_in_bounds { from + count ≤ length digits.now }
+    requires digits_len_bound { length digits.now ≤ 8 }
     requires carry_bound { carry < 256 }
     ensures small { result < 256 * 256 }
-    ensures value { result + by_sign sign (raised_zeros largest count) (raised_sum largest digits.now from count) ≡ carry + 255 * carry_zero + by_sign sign (raised_sum largest digits.now from count) (raised_zeros largest count) }
+    ensures value { let n = length digits.now in result + by_sign sign (raised_zeros largest n) (raised_sum largest digits.now 0 n) ≡ carry + 255 * carry_zero + by_sign sign (raised_sum largest digits.now 0 n) (raised_zeros largest n) }
 {
-    let sum = raised_sum(digits, from, count, largest);
-    let zeros = largest * ((1u64 << count) - 1);
+    let sum = raised_sum(digits, largest);
+    let zeros = largest * ((1u64 << digits.len()) - 1);
     if sign == 0 {
         carry + 255 * CARRY_ZERO + sum - zeros
     } else {
@@ -114,15 +108,14 @@ pub fn size_of(digits: &[u8], count: usize, width: usize, sign: u8) -> [u8; SIZE
     let largest = largest_digit(width);
     let mut size = [0u8; SIZE_BYTES];
     let mut carry = CARRY_ZERO;
-    let mut k = 0;
-    while 8 * k + 8 <= count {
-        let byte = byte_of(digits, 8 * k, 8, largest, sign, carry);
+    let whole = count / 8;
+    for k in 0..whole {
+        let byte = byte_of(&digits[8 * k..8 * k + 8], largest, sign, carry);
         size[k] = (byte % 256) as u8;
         carry = byte / 256;
-        k += 1;
     }
-    let byte = byte_of(digits, 8 * k, count - 8 * k, largest, sign, carry);
-    size[k] = (byte % 256) as u8;
-    size[k + 1] = (byte / 256 - CARRY_ZERO) as u8;
+    let byte = byte_of(&digits[8 * whole..count], largest, sign, carry);
+    size[whole] = (byte % 256) as u8;
+    size[whole + 1] = (byte / 256 - CARRY_ZERO) as u8;
     size
 }

@@ -3,6 +3,7 @@ use mathlib.Core.Path.{◌≡◌}
 use borrow.Author.Tests.{eq-eqb, ne_eqb}
 use Prim.Native.Nat.{◌-◌, ◌*◌, ◌%◌, ◌^◌, ◌≤◌}
 use native.Mathlib.Omega.{arith}
+use lib.ListN.{length}
 use lib.Pow.{pow_pos, pow_mono}
 use Rattle.reading_digits.specs.Sums.{raised_zeros, by_sign}
 use Rattle.reading_digits.proofs.Raised.{zeros_made, zeros_byte, raised_few}
@@ -10,19 +11,19 @@ use Rattle.reading_digits.proofs.byte_of.Goals.{After-raised_sum-sum}
 use Rattle.reading_digits.proofs.byte_of.Goals as goal
 
 -- the power of two fits
-power : (c : After-raised_sum-sum) → (1 ≤ 2 ^ c.args.count) × (2 ^ c.args.count ≤ 256)
-power c = (pow_pos c.args.count, pow_mono {i = c.args.count} {j = 8} c.requires.count_bound)
+power : (c : After-raised_sum-sum) → (1 ≤ 2 ^ (length c.args.digits.now)) × (2 ^ (length c.args.digits.now) ≤ 256)
+power c = (pow_pos (length c.args.digits.now), pow_mono {i = (length c.args.digits.now)} {j = 8} c.requires.digits_len_bound)
 
 -- the zeros, and the sum, which is at most twice as much
 zeros : (c : After-raised_sum-sum)
-    → (c.args.largest * (1 * 2 ^ c.args.count % 2 ^ 64 - 1) ≡ raised_zeros c.args.largest c.args.count)
-    × (raised_zeros c.args.largest c.args.count ≤ 127 * 255)
-    × (c.raised_sum-sum.result ≤ 2 * raised_zeros c.args.largest c.args.count)
+    → (c.args.largest * (1 * 2 ^ (length c.args.digits.now) % 2 ^ 64 - 1) ≡ raised_zeros c.args.largest (length c.args.digits.now))
+    × (raised_zeros c.args.largest (length c.args.digits.now) ≤ 127 * 255)
+    × (c.raised_sum-sum.result ≤ 2 * raised_zeros c.args.largest (length c.args.digits.now))
 zeros c =
     let args = c.args in (
-      zeros_made args.largest args.count c.requires.count_bound,
-      zeros_byte args.largest args.count c.requires.largest_lt_carry_zero c.requires.count_bound,
-      rw c.raised_sum-sum.ensures (raised_few args.largest args.digits.now args.from args.count c.requires.sizes_up_to),
+      zeros_made args.largest (length args.digits.now) c.requires.digits_len_bound,
+      zeros_byte args.largest (length args.digits.now) c.requires.largest_lt_carry_zero c.requires.digits_len_bound,
+      rw c.raised_sum-sum.ensures (raised_few args.largest args.digits.now 0 (length args.digits.now) c.requires.sizes_up_to),
     )
 
 pub overflow_sub-zeros : goal.overflow_sub-zeros

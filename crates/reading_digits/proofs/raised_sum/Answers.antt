@@ -1,30 +1,36 @@
--- `reading_digits::raised_sum` meets its contract: the sum is that of the digits from i on. Assumes nothing.
-use mathlib.Core.Path.{◌≡◌, sym}
-use Prim.Native.Nat.{ℕ, ◌≤◌, ◌-◌, ◌+◌, ◌*◌}
-use native.Mathlib.Nat.{add-zero, sub-zero}
+-- `reading_digits::raised_sum` meets its contract: the sum is that of the digits passed. Assumes nothing.
+use mathlib.Core.Path.{◌≡◌, refl, sym}
+use mathlib.Core.List.{List}
+use Prim.Native.Nat.{ℕ, suc, ◌-◌, ◌+◌, ◌*◌}
+use native.Mathlib.Nat.{sub-zero}
 use native.Mathlib.Omega.{arith}
-use Rattle.reading_digits.specs.Sums.{raised_sum, raised_zeros}
+use lib.ListN.{length, length-append}
+use Rattle.reading_digits.specs.Sums.{raised_sum}
+use Rattle.reading_digits.proofs.Backward.{front_whole, front_less}
 use Rattle.reading_digits.proofs.Raised.{zeros_byte, raised_none, raised_down, raised_few}
 use borrow.Author.Rules.{rules}
 use Rattle.reading_digits.proofs.raised_sum.Goals as goal
 
-pub loop-i-init : goal.loop-i-init
-loop-i-init c =
-    let args = c.args in
-    let none : args.count - args.count ≡ 0 = omega arith in
-    (search rules, search rules, rw none (sym (raised_none args.largest args.digits.now (args.from + args.count))))
+pub loop-digit-init : goal.loop-digit-init
+loop-digit-init c =
+    let digits = c.args.digits.now in
+    let none : length digits - length digits ≡ 0 = omega arith in
+    let whole : c.into_iter-digit-iterator.result.iter.rest.now ≡ digits = rw (c.into_iter-digit-iterator.ensures.into_iter_gives, c.rev-digit-items.ensures.source, c.iter.ensures.rest) refl in
+    (search rules, search rules, search rules, rw whole (front_whole digits), rw (whole, none) (sym (raised_none c.args.largest digits (length digits))))
 
-pub loop-i-preserved : goal.loop-i-preserved
-loop-i-preserved c =
-    let args = c.args in
-    let i : ℕ = c.loop-i.i - 1 in
-    let sum : ℕ = raised_sum args.largest args.digits.now (args.from + i) (args.count - i) in
-    let e : c.loop-i.sum * 2 + c.raised_digit.result ≡ sum =
-    rw (c.raised_digit.ensures, c.loop-i.invariant.2) (raised_down args.largest args.digits.now args.from args.count c.loop-i.i (search rules) (search rules) (search rules)) in
-    let few : sum ≤ 2 * raised_zeros args.largest (args.count - i) = raised_few args.largest args.digits.now (args.from + i) (args.count - i) c.requires.sizes_up_to in
-    (omega arith, omega (arith, e, few, zeros_byte args.largest (args.count - i) c.requires.largest_lt_carry_zero (omega arith)), e)
+pub loop-digit-preserved : goal.loop-digit-preserved
+loop-digit-preserved c =
+    let largest : ℕ = c.args.largest in
+    let digits = c.args.digits.now in
+    let left : List ℕ = c.next.new.self.iter.rest.now in
+    let p = front_less digits left c.in-Some.digit.now (rw c.in-Some.ensures.steps at c.loop-digit.invariant.3) in
+    let size : length (c.loop-digit.digit-iterator.iter.rest.now) ≡ suc (length left) = rw c.in-Some.ensures.steps (omega (arith, length-append {A = ℕ})) in
+    let e : c.loop-digit.sum * 2 + c.raised_digit.result ≡ raised_sum largest digits (length left) (length digits - length left) =
+    rw (c.raised_digit.ensures, ← p.element) (raised_down largest digits (length left) c.loop-digit.sum p.within (rw size at c.loop-digit.invariant.4)) in
+    let few = raised_few largest digits (length left) (length digits - length left) c.requires.sizes_up_to in
+    (search rules, search rules, omega (arith, e, few, zeros_byte largest (length digits - length left) c.requires.largest_lt_carry_zero (omega arith)), p.left, e)
 
 pub returns : goal.returns
 returns c =
-    let e : c.loop-i.i ≡ 0 = omega arith in
-    rw (e, add-zero, sub-zero) at c.loop-i.invariant.2
+    let e = c.in-None.ensures.steps.0 in
+    rw (e, sub-zero) at c.loop-digit.invariant.4

@@ -1,45 +1,58 @@
--- `reading_digits::sign_of` meets its contract: the value is what the digits from i on come to, raised by the largest. Assumes nothing.
-use mathlib.Core.Path.{◌≡◌}
-use Prim.Native.Nat.{◌+◌, ◌-◌, ◌*◌}
+-- `reading_digits::sign_of` meets its contract: the value is what the digits passed come to, raised by the largest. Assumes nothing.
+use mathlib.Core.Path.{◌≡◌, refl}
+use Prim.Native.Nat.{ℕ, suc, ◌+◌, ◌*◌}
 use native.Mathlib.Omega.{arith}
+use lib.ListN.{length, take, length-append}
+use lib.Seq.{length-take-le}
+use Rattle.reading_digits.proofs.Backward.{Passed, front_begun, front_less}
 use Rattle.reading_digits.proofs.Sign.{Comes, none_passed, one_passed, kept, decides_0, decides_1, ends_0, ends_1}
 use borrow.Author.Rules.{rules}
 use Rattle.reading_digits.proofs.sign_of.Goals.{After-raised_digit}
 use Rattle.reading_digits.proofs.sign_of.Goals as goal
 
+-- what is left, without this digit
+rest : (c : After-raised_digit) → Passed c.args.digits.now c.next.new.self.iter.rest.now c.in-Some.digit.now
+rest c = front_less c.args.digits.now c.next.new.self.iter.rest.now c.in-Some.digit.now (rw c.in-Some.ensures.steps at c.loop-digit.invariant.4)
+
+size : (c : After-raised_digit) → length c.loop-digit.digit-iterator.iter.rest.now ≡ suc (length c.next.new.self.iter.rest.now)
+size c = rw c.in-Some.ensures.steps (omega (arith, length-append {A = ℕ}))
+
 -- one digit more
 passed : (c : After-raised_digit)
-    → Comes c.largest_digit-largest.result c.args.digits.now c.args.count (c.loop-i.i - 1) (3 * c.largest_digit-largest.result)
-    (2 * c.loop-i.value + c.raised_digit.result)
+    → Comes c.largest_digit-largest.result c.args.digits.now c.args.count (length c.next.new.self.iter.rest.now) (3 * c.largest_digit-largest.result)
+    (2 * c.loop-digit.value + c.raised_digit.result)
 passed c =
-    rw c.raised_digit.ensures (one_passed c.largest_digit-largest.result c.args.digits.now c.args.count c.loop-i.i c.loop-i.value c.requires.significant.within (search rules) (search rules) c.loop-i.invariant.2)
+    rw (c.raised_digit.ensures, ← (rest c).element) (one_passed c.largest_digit-largest.result c.args.digits.now c.args.count (length c.next.new.self.iter.rest.now) c.loop-digit.value c.requires.significant.within (omega (arith, size c)) (rw (size c) at c.loop-digit.invariant.5))
 
-pub loop-i-init : goal.loop-i-init
-loop-i-init c =
+pub loop-digit-init : goal.loop-digit-init
+loop-digit-init c =
     let args = c.args in
-    (search rules, search rules, none_passed c.largest_digit-largest.result args.digits.now args.count)
+    let whole : c.into_iter-digit-iterator.result.iter.rest.now ≡ take args.count args.digits.now = rw (c.into_iter-digit-iterator.ensures.into_iter_gives, c.rev-digit-items.ensures.source, c.iter.ensures.rest) refl in
+    let long : length (take args.count args.digits.now) ≡ args.count = length-take-le args.count args.digits.now c.requires.significant.within in
+    (search rules, search rules, rw (whole, long) (omega arith), omega arith, rw whole (front_begun args.digits.now args.count c.requires.significant.within), rw (whole, long) (none_passed c.largest_digit-largest.result args.digits.now args.count))
 
 pub returns-then-next-twice : goal.returns-then-next-twice
 returns-then-next-twice c =
     let e = c.largest_digit-largest.ensures.0 in
-    decides_1 c.args.width c.args.digits.now c.args.count c.requires.digit_string c.requires.least_width_le_width c.requires.significant _ _ (search rules) (rw e at (passed (goal.at.returns-then-next-twice c).After-raised_digit)) (rw e at c.if-next-twice.true)
+    decides_1 c.args.width c.args.digits.now c.args.count c.requires.digit_string c.requires.least_width_le_width c.requires.significant _ _ (omega (arith, size (goal.at.returns-then-next-twice c).After-raised_digit)) (rw e at (passed (goal.at.returns-then-next-twice c).After-raised_digit)) (rw e at c.if-next-twice.true)
 
 pub returns-then-twice-value : goal.returns-then-twice-value
 returns-then-twice-value c =
     let e = c.largest_digit-largest.ensures.0 in
-    decides_0 c.args.width c.args.digits.now c.args.count c.requires.digit_string c.requires.least_width_le_width c.requires.significant _ _ (search rules) (rw e at (passed (goal.at.returns-then-twice-value c).After-raised_digit)) (search rules)
+    decides_0 c.args.width c.args.digits.now c.args.count c.requires.digit_string c.requires.least_width_le_width c.requires.significant _ _ (omega (arith, size (goal.at.returns-then-twice-value c).After-raised_digit)) (rw e at (passed (goal.at.returns-then-twice-value c).After-raised_digit)) (search rules)
 
-pub loop-i-preserved : goal.loop-i-preserved
-loop-i-preserved c =
+pub loop-digit-preserved : goal.loop-digit-preserved
+loop-digit-preserved c =
     let args = c.args in
-    (search rules, search rules, kept c.largest_digit-largest.result args.digits.now args.count _ _ (search rules) (passed (goal.at.loop-i-preserved c).After-raised_digit))
+    let at = (goal.at.loop-digit-preserved c).After-raised_digit in
+    (search rules, search rules, omega (arith, size at), search rules, (rest at).left, kept c.largest_digit-largest.result args.digits.now args.count _ _ (search rules) (passed at))
 
 pub returns-then-value-largest : goal.returns-then-value-largest
 returns-then-value-largest c =
-    let e : c.loop-i.i ≡ 0 = omega arith in
-    ends_1 c.args.width c.args.digits.now c.args.count c.requires.digit_string c.requires.least_width_le_width c.requires.significant c.loop-i.value (rw (c.largest_digit-largest.ensures.0, e) at c.loop-i.invariant.2) (search rules)
+    let e = c.in-None.ensures.steps.0 in
+    ends_1 c.args.width c.args.digits.now c.args.count c.requires.digit_string c.requires.least_width_le_width c.requires.significant c.loop-digit.value (rw (c.largest_digit-largest.ensures.0, e) at c.loop-digit.invariant.5) (search rules)
 
 pub returns-else-value-largest : goal.returns-else-value-largest
 returns-else-value-largest c =
-    let e : c.loop-i.i ≡ 0 = omega arith in
-    ends_0 c.args.width c.args.digits.now c.args.count c.requires.digit_string c.requires.least_width_le_width c.requires.significant c.loop-i.value (rw (c.largest_digit-largest.ensures.0, e) at c.loop-i.invariant.2) (search rules)
+    let e = c.in-None.ensures.steps.0 in
+    ends_0 c.args.width c.args.digits.now c.args.count c.requires.digit_string c.requires.least_width_le_width c.requires.significant c.loop-digit.value (rw (c.largest_digit-largest.ensures.0, e) at c.loop-digit.invariant.5) (search rules)

@@ -1,13 +1,10 @@
 -- `reading_digits::size_of` meets its contract: after k turns the k low bytes stand. Assumes nothing.
 use mathlib.Core.Path.{◌≡◌}
-use Prim.Native.Nat.{◌≤◌, ◌<◌, ◌-◌, ◌*◌}
+use Prim.Native.Nat.{◌<◌, ◌*◌}
 use lib.ListN.{length}
 use Rattle.reading_digits.proofs.Size.{Subtracted}
 use Rattle.reading_digits.proofs.size_of.Given as goal
 
 abbrev pub invariant-loop-k : goal.invariant-loop-k
 invariant-loop-k l =
-    (8 * l.k ≤ l.count) × (l.carry < 256) × (length l.size ≡ length l.initial.size) × Subtracted l.largest l.digits l.sign l.size (8 * l.k) l.k l.carry
-
-abbrev pub decreases-loop-k : goal.decreases-loop-k
-decreases-loop-k l = l.count - 8 * l.k
+    (l.carry < 256) × (length l.size ≡ length l.initial.size) × Subtracted l.largest l.digits l.sign l.size (8 * l.k) l.k l.carry

@@ -1,18 +1,15 @@
 // Method 5, the NAF of width w: its steps counted, and written.
 #![tactic(auto)]
 
-ghost use Rattle.std.specs.Prelude.{◌≡◌, ◌≢◌, cond, List, ◌++◌, ℕ, ◌+◌, ◌*◌, ◌-◌, ◌≤◌, eqb, nat_abs, length, drop};
+ghost use Rattle.std.specs.Prelude.{◌≡◌, cond, ◌++◌, ◌*◌, ◌-◌, ◌≤◌, eqb, nat_abs, length, drop};
 ghost use Rattle.rules.specs.Limits.{least_width, largest_width, step_bytes};
 ghost use Rattle.integers.specs.Positional.{bytes_value};
 ghost use Rattle.numbers.specs.Admission.{Positive};
 ghost use Rattle.signed_digits.specs.Bytes.{byte_digit};
 ghost use Rattle.chains.specs.Steps.{plan_bytes_of};
 ghost use Rattle.chains.specs.Counts.{counts_of};
-ghost use Rattle.methods.specs.PartialPlan.{PartialPlan};
 ghost use Rattle.methods.specs.OddMultiples.{odd_position, table_length};
-ghost use Rattle.methods.specs.DigitSteps.{at_digit};
 ghost use Rattle.methods.specs.WideNaf.{wide_naf_steps};
-ghost use Rattle.plan_writing.specs.Writing.{Writing};
 
 use plan_writing::Cursor;
 use plan_writing::tables::{position, table_counts, table_length, write_table};
@@ -27,9 +24,9 @@ fn position_of(digit: u8) -> usize
     ensures { result ≡ odd_position (nat_abs (byte_digit digit)) }
 {
     if digit < 128 {
-        position(digit as u64)
+        position(u64::from(digit))
     } else {
-        position(256 - digit as u64)
+        position(256 - u64::from(digit))
     }
 }
 
@@ -57,32 +54,15 @@ pub fn counts(number: &[u8], width: usize) -> Counts
     let length = recoded(number, width, &mut digits);
     let mut plus: u16 = 0;
     let mut minus: u16 = 0;
-    let mut i = 0;
-    while i < length {
-        let digit = digits[i];
-        plus += (digit % 2 - digit / 128) as u16;
-        minus += (digit / 128) as u16;
-        i += 1;
+    for &digit in &digits[..length] {
+        plus += u16::from(digit % 2 - digit / 128);
+        minus += u16::from(digit / 128);
     }
     let table = table_counts(table_steps(length, position_of(digits[length - 1]), width));
     Counts {
         doublings: table.doublings + (length - 1),
-        additions: table.additions + (plus as usize - 1),
-        subtractions: minus as usize,
-    }
-}
-
-// The steps of one digit below the top.
-fn at_digit(c: Cursor, out: &mut [u8], digit: u8) -> Cursor
-    requires steps_in_bounds { step_bytes * (c.steps + 1) ≤ length out.old }
-    requires steps_in_bounds_2 { digit ≢ 0 → step_bytes * (c.steps + 2) ≤ length out.old }
-    ensures { (lent : List ℕ) (b : PartialPlan) → Writing lent out.old c b → Writing lent out.new result (at_digit (byte_digit digit) b) }
-{
-    let doubled = c.double(out);
-    if digit == 0 {
-        doubled
-    } else {
-        doubled.step_at(out, digit / 128, position_of(digit))
+        additions: table.additions + (usize::from(plus) - 1),
+        subtractions: usize::from(minus),
     }
 }
 
@@ -101,9 +81,8 @@ pub fn write(number: &[u8], width: usize, out: &mut [u8])
         steps: table.steps,
         latest: top,
     };
-    let mut i = length - 1;
-    while 0 < i {
-        i -= 1;
-        c = at_digit(c, out, digits[i]);
+    for i in (0..length - 1).rev() {
+        let digit = digits[i];
+        c = c.at_digit(out, digit, position_of(digit));
     }
 }

@@ -58,8 +58,8 @@ write_table-table-requires c =
     let start = (goal.at.write_table-table-requires c).After-recoded-length in
     omega (arith, table_is (held start) c.position_of-top.ensures c.table_steps.ensures, table_room (held start))
 
-pub overflow_sub-i : goal.overflow_sub-i
-overflow_sub-i c = some_places (held (goal.at.overflow_sub-i c).After-recoded-length)
+pub overflow_step-i : goal.overflow_step-i
+overflow_step-i c = some_places (held (goal.at.overflow_step-i c).After-recoded-length)
 
 pub loop-i-init : goal.loop-i-init
 loop-i-init c =
@@ -79,6 +79,7 @@ at_digit-c-requires c =
     let more = length_at_digit (digit_at (naf (w start) (pos (e start))) i) u.partial in
     let fits = c.requires.width_in_bounds in
     record {
+      position = λ n. c.position_of.ensures;
       steps_in_bounds = omega (arith, u.writing.steps);
       steps_in_bounds_2 = λ n. omega (arith, u.writing.steps, rw (read h i) at (step_more _ n));
     }

@@ -194,6 +194,7 @@ impl Width {
     pub fn largest_digit(self) -> u8
         ensures value { result ≡ 2 ^ (self - 1) - 1 }
         ensures bound { result ≤ 127 }
+        ensures range { (least_width ≤ self) × (self ≤ largest_width) }
     {
         ((1 << (self.bits - 1)) - 1) as u8
     }

@@ -5,11 +5,12 @@ use mathlib.Core.Path.{◌≡◌, refl}
 use mathlib.Core.Logic.{◌↔◌}
 use mathlib.Core.Bool.{or-true}
 use mathlib.Core.List.{List}
-use Prim.Native.Nat.{ℕ, ◌<◌}
+use Prim.Native.Nat.{ℕ, ◌<◌, ◌≤◌}
 use borrow.Author.Tests.{lt-ltb, le-ltb}
 use native.Mathlib.Decide.{dec_lt}
 use native.Mathlib.Omega.{arith}
 use Rattle.rules.specs.Limits.{least_width, largest_width}
+use Rattle.rules.specs.Outcome.{and_then}
 use Rattle.rules.specs.declared.Refusal.TheVariants.{MethodOrWidth}
 use Rattle.digit_strings.specs.Admission.{string_verdict}
 use Rattle.widths.specs.Width.{AllowedWidth, width_verdict, wide_verdict}
@@ -19,17 +20,20 @@ module _ (w : ℕ) where
     not_allowed : ¬ AllowedWidth w → WidthTest (Err MethodOrWidth)
     allowed : AllowedWidth w → WidthTest (Ok tt)
 
-  too_narrow : w < least_width → width_verdict w ≡ Err MethodOrWidth
+  pub too_narrow : w < least_width → width_verdict w ≡ Err MethodOrWidth
   unfolding width_verdict
   too_narrow h = rw (lt-ltb w least_width h)
 
-  too_wide : largest_width < w → width_verdict w ≡ Err MethodOrWidth
+  pub too_wide : largest_width < w → width_verdict w ≡ Err MethodOrWidth
   unfolding width_verdict
   too_wide h = rw (lt-ltb largest_width w h, or-true)
 
-  passes : AllowedWidth w → width_verdict w ≡ Ok tt
+  pub in_limits : least_width ≤ w → w ≤ largest_width → width_verdict w ≡ Ok tt
   unfolding width_verdict
-  passes a = rw (le-ltb w least_width a.least, le-ltb largest_width w a.most)
+  in_limits h k = rw (le-ltb w least_width h, le-ltb largest_width w k)
+
+  passes : AllowedWidth w → width_verdict w ≡ Ok tt
+  passes a = in_limits a.least a.most
 
   pub width_test : WidthTest (width_verdict w)
   width_test = go (dec_lt w least_width) (dec_lt largest_width w)
@@ -58,3 +62,19 @@ module _ (w : ℕ) where
   -- past it the tests are those of the digit string
   pub wide_tests : AllowedWidth w → (string : List ℕ) → wide_verdict w string ≡ string_verdict w string
   wide_tests a string = rw (passes a)
+
+-- ---- what the answer to a width says of it
+
+pub let_in : (w n : ℕ) → Ok n ≡ and_then (width_verdict w) (Ok w) → (n ≡ w) × (width_verdict w ≡ Ok tt)
+let_in w n = go (width_verdict w)
+  where
+    go : (v : Result Unit Refusal) → Ok n ≡ and_then v (Ok w) → (n ≡ w) × (v ≡ Ok tt)
+    go (Ok tt) e = (cc, refl)
+    go (Err r) e = absurd cc
+
+pub not_let_in : (w : ℕ) (r : Refusal) → Err r ≡ and_then {A = ℕ} (width_verdict w) (Ok w) → width_verdict w ≡ Err r
+not_let_in w r = go (width_verdict w)
+  where
+    go : (v : Result Unit Refusal) → Err r ≡ and_then {A = ℕ} v (Ok w) → v ≡ Err r
+    go (Ok tt) e = absurd cc
+    go (Err s) e = cc

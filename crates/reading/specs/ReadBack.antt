@@ -19,7 +19,7 @@ read_length_of w digits room = written (string_verdict w digits) (size_bytes dig
 
 -- the answer: the sign and how many bytes
 abbrev pub with_sign : ℕ → Result ℕ Refusal → Result ReadBack Refusal
-with_sign sign (Ok n) = READVALUE sign n
+with_sign sign (Ok n) = Ok (record { sign = sign; length = n })
 with_sign sign (Err r) = Err r
 
 abbrev pub read_answer_of : ℕ → List ℕ → ℕ → Result ReadBack Refusal
@@ -41,5 +41,5 @@ read_back_buffer digits out = read_buffer_of canonical_width digits out
 
 -- the answer in the rules' numbers
 abbrev pub read_back_outcome : Result ReadBack Refusal → Outcome
-read_back_outcome (READVALUE sign n) = answered (sign ∷ n ∷ [])
+read_back_outcome (Ok r) = answered (r.sign ∷ r.length ∷ [])
 read_back_outcome (Err r) = refusal r

@@ -1,39 +1,36 @@
 // Reading a digit string back: the sign and the size of its value.
 #![tactic(auto)]
 
-ghost use Rattle.std.specs.Prelude.{◌≡◌, ◌≤◌, length};
-ghost use Rattle.rules.specs.Limits.{least_width, largest_width};
+ghost use Rattle.std.specs.Prelude.{◌≡◌, length};
 ghost use Rattle.reading.specs.ReadBack.{read_answer_of, read_buffer_of, read_back_answer, read_back_buffer};
 
 use digit_strings::string_verdict;
 use integers::significant;
 use output::put;
 use reading_digits::{sign_of, size_of};
-use rules::Refusal;
+use rules::{Refusal, Width};
 
 // What read back answers: the sign, 1 below zero, and how many bytes of size it wrote.
-#[derive(Drop)]
-pub enum ReadBack {
-    Value { sign: u8, length: usize },
-    Refused(Refusal),
+#[derive(Clone, Copy)]
+pub struct ReadBack {
+    pub sign: u8,
+    pub length: usize,
 }
 
 // Writes the size of a digit string's value, with no high zero byte, least significant first;
 // answers the sign and how many bytes. The digits are of this width.
-pub fn read_of_width(digits: &[u8], width: usize, out: &mut [u8]) -> Result<ReadBack, Refusal>
-    requires { (least_width ≤ width) × (width ≤ largest_width) }
+#[tactic(auto, using(digit_strings::proofs::Tests::digit_string_is))]
+pub fn read_of_width(digits: &[u8], width: Width, out: &mut [u8]) -> Result<ReadBack, Refusal>
     ensures answer { result ≡ read_answer_of width digits.now (length out.old) }
     ensures buffer { out.new ≡ read_buffer_of width digits.now out.old }
 {
     string_verdict(digits, width)?;
     let count = significant(digits);
-    let sign = sign_of(digits, count, width);
-    let size = size_of(digits, count, width, sign);
+    let sign = sign_of(digits, count, width.bits());
+    let size = size_of(digits, count, width.bits(), sign);
     let bytes = significant(&size);
-    match put(&size[..bytes], out) {
-        Ok(length) => ReadBack::Value { sign, length },
-        Err(refusal) => Err(refusal),
-    }
+    let length = put(&size[..bytes], out)?;
+    Ok(ReadBack { sign, length })
 }
 
 // The same of a string of the digits 0, 1 and -1.

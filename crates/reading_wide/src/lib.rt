@@ -6,7 +6,7 @@ ghost use Rattle.reading_wide.specs.ReadBackWide.{read_back_wide_answer, read_ba
 
 use reading::{ReadBack, read_of_width};
 use rules::Refusal;
-use widths::width_verdict;
+use widths::width_of;
 
 // Read back with the width of the digits given: writes the size of the string's value, with no high
 // zero byte, least significant first; answers the sign and how many bytes.
@@ -14,6 +14,6 @@ pub fn read_back_wide(digits: &[u8], width: u32, out: &mut [u8]) -> Result<ReadB
     ensures answer { result ≡ read_back_wide_answer width digits.now (length out.old) }
     ensures buffer { out.new ≡ read_back_wide_buffer width digits.now out.old }
 {
-    width_verdict(width)?;
-    read_of_width(digits, width as usize, out)
+    let width = width_of(width)?;
+    read_of_width(digits, width, out)
 }

@@ -17,7 +17,9 @@ pub fn sum_step(space: &mut [u8], a: usize, b: usize, i: usize) -> Result<bool, 
     requires { (a + record_bytes ≤ length space.old) × (b + record_bytes ≤ length space.old) × (record_bytes * i + record_bytes ≤ length space.old) }
     ensures { (s : Step) (n : ℕ) → Names s n a b i → signs_at space.old a b ≡ s.operation → StepChecked s n space.old space.new result }
 {
-    let words = sum(space, a + 1, b + 1);
+    // The second size first: `difference_step` loads the first one first. Loads in the same order would be
+    // moved above the branch between the two, and there are not registers for all (an eighth slower).
+    let words = sum(space, b + 1, a + 1);
     if !is_small(words) {
         return Err(Refusal::ValueTooLarge(i));
     }

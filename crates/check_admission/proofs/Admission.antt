@@ -62,16 +62,16 @@ module _ (number : List ℕ) (planLength room : ℕ) where
 
 -- ---- what the code's tests say, one after the other
 
-pub length_refused : (number : List ℕ) (planLength room : ℕ) → positive_verdict number ≡ Ok tt → is_wrong_length planLength ≡ true → Err PlanLength ≡ admission number planLength room
+pub length_refused : (number : List ℕ) (planLength room : ℕ) → positive_verdict number ≡ Ok tt → is_wrong_length planLength ≡ true → admission number planLength room ≡ Err PlanLength
 unfolding admission
 length_refused number planLength room passed wrong = rw (passed, wrong)
 
 pub space_refused : (number : List ℕ) (planLength room : ℕ) → positive_verdict number ≡ Ok tt → is_wrong_length planLength ≡ false → room < room_for planLength
-    → Err WorkSpaceTooShort ≡ admission number planLength room
+    → admission number planLength room ≡ Err WorkSpaceTooShort
 unfolding admission
 space_refused number planLength room passed right short = rw (passed, right, lt-ltb room (room_for planLength) short)
 
 pub all_passed : (number : List ℕ) (planLength room : ℕ) → positive_verdict number ≡ Ok tt → is_wrong_length planLength ≡ false → room_for planLength ≤ room
-    → Ok tt ≡ admission number planLength room
+    → admission number planLength room ≡ Ok tt
 unfolding admission
 all_passed number planLength room passed right enough = rw (passed, right, le-ltb room (room_for planLength) enough)

@@ -15,7 +15,7 @@ pub fn check(number: &[u8], plan: &[u8], space: &mut [u8]) -> Result<Accepted, R
     ensures answer { result ≡ check_answer number.now plan.now (length space.old) }
     ensures space { space.new ≡ check_space number.now plan.now space.old }
 {
-    admit(number, plan.len(), space.len())?;
+    let number = admit(number, plan.len(), space.len())?;
     begin(space);
     let steps = plan.len() / STEP_BYTES;
     // Kept are the doublings, and all steps but the additions; the other counts follow at the end.
@@ -30,7 +30,7 @@ pub fn check(number: &[u8], plan: &[u8], space: &mut [u8]) -> Result<Accepted, R
         not_additions += doubling | usize::from(step.operation);
         largest_bits = grown_bits(space, n + 1, largest_bits);
     }
-    if !ends_at(number, space, steps) {
+    if !ends_at(&number, space, steps) {
         return Err(Refusal::WrongEnd(steps));
     }
     let additions = steps - not_additions;

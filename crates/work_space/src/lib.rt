@@ -6,7 +6,6 @@ ghost use Rattle.std.specs.Prelude.{◌≡◌, ◌+◌, ◌*◌, ◌<◌, ◌≤
 ghost use Rattle.rules.specs.Limits.{value_words, record_bytes};
 ghost use Rattle.integers.specs.Positional.{bytes_value};
 ghost use Rattle.integers.specs.Signed.{is_same};
-ghost use Rattle.numbers.specs.Admission.{Positive};
 ghost use Rattle.chain_values.specs.Value.{integer_of};
 ghost use Rattle.chains.specs.Values.{start};
 ghost use Rattle.records.specs.Recording.{Recording};
@@ -15,6 +14,7 @@ ghost use Rattle.work_space.specs.End.{EndsAt};
 
 use chain_values::{Value, one};
 use integers::words_of;
+use numbers::PositiveNumber;
 use records::{load, size_word, store};
 use rules::{NUMBER_WORDS, RECORD_BYTES};
 
@@ -36,22 +36,21 @@ pub fn grown_bits(space: &[u8], i: usize, bits: usize) -> usize
     bits + ((word >> (bits % 64)) % 2) as usize
 }
 
-// Whether a value is the number, which is not zero.
-fn is_number(v: Value, number: &[u8]) -> bool
-    requires { Positive number.now }
+// Whether a value is the number.
+fn is_number(v: Value, number: &PositiveNumber) -> bool
     ensures { result ≡ is_same (integer_of v) (pos (bytes_value number.now)) }
 {
     let Value { words, negative } = v;
+    let own = words_of(number.bytes());
     if negative {
         return false;
     }
-    words.starts_with(&words_of(number)) && words[NUMBER_WORDS] == 0
+    words.starts_with(&own) && words[NUMBER_WORDS] == 0
 }
 
 // Whether the value after this many steps is the number.
-pub fn ends_at(number: &[u8], space: &[u8], steps: usize) -> bool
-    requires positive { Positive number.now }
-    requires record_bytes_in_bounds { record_bytes * steps + record_bytes ≤ length space.now }
+pub fn ends_at(number: &PositiveNumber, space: &[u8], steps: usize) -> bool
+    requires { record_bytes * steps + record_bytes ≤ length space.now }
     ensures { EndsAt number.now steps space.now result }
 {
     is_number(load(space, RECORD_BYTES * steps), number)

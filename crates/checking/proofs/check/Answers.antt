@@ -1,6 +1,6 @@
 -- `checking::check` meets its contract: n steps are checked and counted. Assumes nothing.
 use Rattle.std.specs.Prelude.{Ok, Err}
-use mathlib.Core.Path.{◌≡◌, sym, ap, ◌∙◌}
+use mathlib.Core.Path.{◌≡◌, ap, ◌∙◌}
 use mathlib.Core.Bool.{cond}
 use Prim.Native.Nat.{◌+◌, ◌/◌, ◌≤◌}
 use native.Mathlib.Omega.{arith}
@@ -15,25 +15,25 @@ use Rattle.check_admission.specs.Admission.{room_for, admission}
 use Rattle.check_admission.proofs.Admission.{Checkable, checkable_is}
 use Rattle.checking.proofs.Underway.{Done, done_answer, done_space}
 use Rattle.checking.proofs.Turn.{turn_none, turn_few, turn_refused, turn_counted, turn_more, turn_few_counts, turn_done, turn_accepted}
-use Rattle.checking.proofs.check.Goals.{In_ok-admit, At-loop-n, In_err-check_step, After-from-doubling, After-loop-n, After-ends_at}
+use Rattle.checking.proofs.check.Goals.{In_ok-number, At-loop-n, In_err-check_step, After-from-doubling, After-loop-n, After-ends_at}
 use Rattle.checking.proofs.check.Goals as goal
 
 -- past refusals 1, 13, 2, 7 and 8
-passed : (c : In_ok-admit) → let args = c.args in admission args.number.now (length args.plan.now) (length args.space.now) ≡ Ok tt
-passed c = sym c.admit.ensures ∙ c.in_ok-admit.was
+passed : (c : In_ok-number) → let args = c.args in admission args.number.now (length args.plan.now) (length args.space.now) ≡ Ok tt
+passed c = c.in_ok-number.ensures.0
 
-admitted : (c : In_ok-admit) → let args = c.args in Checkable args.number.now (length args.plan.now) (length args.space.now)
+admitted : (c : In_ok-number) → let args = c.args in Checkable args.number.now (length args.plan.now) (length args.space.now)
 admitted c = (checkable_is _ _ _).0 (passed c)
 
 pub begin-requires : goal.begin-requires
-begin-requires c = omega (arith, (admitted (goal.at.begin-requires c).In_ok-admit).fits)
+begin-requires c = omega (arith, (admitted (goal.at.begin-requires c).In_ok-number).fits)
 
 pub loop-n-init : goal.loop-n-init
 loop-n-init c = turn_none c.args.plan.now c.begin.new.space
 
 -- at each turn: what was lent keeps its length, which is enough
 room : (c : At-loop-n) → room_for (length c.args.plan.now) ≤ length c.loop-n.space
-room c = rw (c.loop-n.auto.space, c.begin.auto.space) (admitted (goal.at.At-loop-n c).In_ok-admit).fits
+room c = rw (c.loop-n.auto.space, c.begin.auto.space) (admitted (goal.at.At-loop-n c).In_ok-number).fits
 
 pub check_step-requires : goal.check_step-requires
 check_step-requires c = omega (arith, room (goal.at.check_step-requires c).At-loop-n)
@@ -46,10 +46,10 @@ refused c =
 pub returns-in_err-check_step-clause-answer : goal.returns-in_err-check_step-clause-answer
 returns-in_err-check_step-clause-answer c =
     let e : c.from_residual-in_err-check_step.result ≡ Err c.in_err-check_step.field-0.0 = grind (arith, common_steps) in
-    e ∙ done_answer (passed (goal.at.returns-in_err-check_step-clause-answer c).In_ok-admit) (refused (goal.at.returns-in_err-check_step-clause-answer c).In_err-check_step)
+    e ∙ done_answer (passed (goal.at.returns-in_err-check_step-clause-answer c).In_ok-number) (refused (goal.at.returns-in_err-check_step-clause-answer c).In_err-check_step)
 
 pub returns-in_err-check_step-clause-space : goal.returns-in_err-check_step-clause-space
-returns-in_err-check_step-clause-space c = done_space (passed (goal.at.returns-in_err-check_step-clause-space c).In_ok-admit) (refused (goal.at.returns-in_err-check_step-clause-space c).In_err-check_step)
+returns-in_err-check_step-clause-space c = done_space (passed (goal.at.returns-in_err-check_step-clause-space c).In_ok-number) (refused (goal.at.returns-in_err-check_step-clause-space c).In_err-check_step)
 
 -- a step that passes is counted
 counted : (c : After-from-doubling)
@@ -79,10 +79,7 @@ loop-n-preserved c =
     (turn_more args.number.now args.plan.now c.begin.new.space c.loop-n.space args.space.now c.loop-n.n _ _ _ c.loop-n.invariant c.begin.ensures (omega arith) (as_step c.read_step-step.result) c.read_step-step.ensures c.check_step.result c.check_step.new.space c.check_step.ensures c.in_ok-check_step.was c.grown_bits-largest_bits.result c.grown_bits-largest_bits.ensures)
 
 pub ends_at-requires : goal.ends_at-requires
-ends_at-requires c = record {
-  positive = (admitted (goal.at.ends_at-requires c).In_ok-admit).positive;
-  record_bytes_in_bounds = omega (arith, room (goal.at.ends_at-requires c).At-loop-n);
-}
+ends_at-requires c = omega (arith, room (goal.at.ends_at-requires c).At-loop-n)
 
 -- the verdict after the last step
 ended : (c : After-ends_at)
@@ -90,14 +87,14 @@ ended : (c : After-ends_at)
     Done args.number.now args.plan.now args.space.now c.loop-n.space (cond c.ends_at.result (Ok tt) (Err (WrongEnd (length args.plan.now / step_bytes))))
 ended c =
     let args = c.args in
-    turn_done args.number.now args.plan.now c.begin.new.space c.loop-n.space args.space.now c.loop-n.n _ _ _ c.loop-n.invariant c.begin.ensures (omega arith) c.ends_at.ensures
+    turn_done args.number.now args.plan.now c.begin.new.space c.loop-n.space args.space.now c.loop-n.n _ _ _ c.loop-n.invariant c.begin.ensures (omega arith) (rw c.in_ok-number.ensures.1 at c.ends_at.ensures)
 
 pub returns-then-not-ends_at-clause-answer : goal.returns-then-not-ends_at-clause-answer
 returns-then-not-ends_at-clause-answer c =
-    done_answer (passed (goal.at.returns-then-not-ends_at-clause-answer c).In_ok-admit) (rw c.if-not-ends_at.true at (ended (goal.at.returns-then-not-ends_at-clause-answer c).After-ends_at))
+    done_answer (passed (goal.at.returns-then-not-ends_at-clause-answer c).In_ok-number) (rw c.if-not-ends_at.true at (ended (goal.at.returns-then-not-ends_at-clause-answer c).After-ends_at))
 
 pub returns-then-not-ends_at-clause-space : goal.returns-then-not-ends_at-clause-space
-returns-then-not-ends_at-clause-space c = done_space (passed (goal.at.returns-then-not-ends_at-clause-space c).In_ok-admit) (ended (goal.at.returns-then-not-ends_at-clause-space c).After-ends_at)
+returns-then-not-ends_at-clause-space c = done_space (passed (goal.at.returns-then-not-ends_at-clause-space c).In_ok-number) (ended (goal.at.returns-then-not-ends_at-clause-space c).After-ends_at)
 
 -- no count is below zero
 few : (c : After-loop-n) → (c.loop-n.doublings ≤ c.loop-n.not_additions) × (c.loop-n.not_additions ≤ length c.args.plan.now / step_bytes)
@@ -115,7 +112,7 @@ pub returns-clause-answer : goal.returns-clause-answer
 returns-clause-answer c =
     let args = c.args in
     ap Ok (turn_accepted args.number.now args.plan.now c.begin.new.space c.loop-n.space args.space.now c.loop-n.n _ _ _ c.loop-n.invariant c.begin.ensures (omega arith))
-    ∙ done_answer (passed (goal.at.returns-clause-answer c).In_ok-admit) (rw c.if-not-ends_at.false at (ended (goal.at.returns-clause-answer c).After-ends_at))
+    ∙ done_answer (passed (goal.at.returns-clause-answer c).In_ok-number) (rw c.if-not-ends_at.false at (ended (goal.at.returns-clause-answer c).After-ends_at))
 
 pub returns-clause-space : goal.returns-clause-space
-returns-clause-space c = done_space (passed (goal.at.returns-clause-space c).In_ok-admit) (ended (goal.at.returns-clause-space c).After-ends_at)
+returns-clause-space c = done_space (passed (goal.at.returns-clause-space c).In_ok-number) (ended (goal.at.returns-clause-space c).After-ends_at)

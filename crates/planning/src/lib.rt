@@ -10,11 +10,12 @@ ghost use Rattle.chains.specs.Counts.{counts_of};
 ghost use Rattle.methods.specs.Method.{Allowed, steps_by};
 ghost use Rattle.planning.specs.Plan.{forecast_answer, plan_answer, plan_buffer};
 
-use methods::{Chosen, Method};
+use methods::Method;
 use requests::requested;
 use rules::{Counts, Refusal, STEP_BYTES};
 
 // The counts of the steps that a method gives for a number. A line a method.
+#[tactic(auto, using(methods::proofs::Every::fixed_widths, methods::proofs::Every::sliding_widths, methods::proofs::Every::wide_widths))]
 fn counts(number: &[u8], method: Method) -> Counts
     requires positive { Positive number.now }
     requires allowed { Allowed method }
@@ -31,6 +32,7 @@ fn counts(number: &[u8], method: Method) -> Counts
 }
 
 // Writes those steps. A line a method.
+#[tactic(auto, using(methods::proofs::Every::fixed_widths, methods::proofs::Every::sliding_widths, methods::proofs::Every::wide_widths))]
 fn write(number: &[u8], method: Method, out: &mut [u8])
     requires positive { Positive number.now }
     requires allowed { Allowed method }
@@ -49,33 +51,29 @@ fn write(number: &[u8], method: Method, out: &mut [u8])
 
 // The counts of the steps of a plan, without the plan. Those of method 1 do not go through `counts`:
 // to hand them over in memory takes as long as to count them.
+#[tactic(auto, using(requests::proofs::Requests::granted_allowed))]
 pub fn forecast(number: &[u8], method: u32, width: u32) -> Result<Counts, Refusal>
     ensures { result ≡ forecast_answer number.now method width }
 {
-    match requested(number, method, width) {
-        Err(refusal) => Err(refusal),
-        Ok(chosen) => match chosen {
-            Method::Binary => Ok(method_binary::counts(number)),
-            _ => Ok(counts(number, chosen)),
-        },
+    let method = requested(number, method, width)?;
+    match method {
+        Method::Binary => Ok(method_binary::counts(number)),
+        _ => Ok(counts(number, method)),
     }
 }
 
 // Writes the plan for a number by a method, and answers the counts of its steps.
+#[tactic(auto, using(requests::proofs::Requests::granted_allowed, rules::proofs::Fitted::too_small, rules::proofs::Fitted::fits, chains::proofs::Bytes::length_plan, chains::proofs::Counts::length_counted, crate::proofs::Outcomes::counted_few))]
 pub fn plan(number: &[u8], method: u32, width: u32, out: &mut [u8]) -> Result<Counts, Refusal>
     ensures answer { result ≡ plan_answer number.now method width (length out.old) }
     ensures buffer { out.new ≡ plan_buffer number.now method width out.old }
 {
-    match requested(number, method, width) {
-        Err(refusal) => Err(refusal),
-        Ok(chosen) => {
-            let steps = counts(number, chosen);
-            let needed = STEP_BYTES * (steps.doublings + steps.additions + steps.subtractions);
-            if out.len() < needed {
-                return Err(Refusal::RoomTooSmall(needed));
-            }
-            write(number, chosen, out);
-            Ok(steps)
-        }
+    let method = requested(number, method, width)?;
+    let steps = counts(number, method);
+    let needed = STEP_BYTES * (steps.doublings + steps.additions + steps.subtractions);
+    if out.len() < needed {
+        return Err(Refusal::RoomTooSmall(needed));
     }
+    write(number, method, out);
+    Ok(steps)
 }

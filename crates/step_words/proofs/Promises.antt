@@ -15,7 +15,7 @@ use Rattle.chains.specs.Sound.{WellFormed}
 use Rattle.chains.specs.Steps.{adding, subtracting, add, subtract, step_bytes_of}
 use Rattle.decimal.specs.Decimal.{is_digit, leading, decimal_value}
 use Rattle.step_words.specs.Word.{no_step, position_limit, position_digits, step_in, begins, add_name, subtract_name, word_step}
-use Rattle.step_words.proofs.Positions.{Found, position_ends, position_is, position_within}
+use Rattle.step_words.proofs.Positions.{Found, digits_end, leading_taken, position_ends, position_is, position_within}
 use Rattle.step_words.proofs.Outcomes.{no_first, no_second, not_closed, is_step}
 use Rattle.step_words.proofs.Names.{begins_is}
 
@@ -30,17 +30,6 @@ pub record IsPosition (digits : List ℕ) : Type 0 where
 -- J, a comma, K, a closing bracket
 abbrev pub pair : List ℕ → List ℕ → List ℕ
 pair J K = J ++ (44 ∷ (K ++ (41 ∷ [])))
-
--- digits end where another byte follows
-digits_end : (digits : List ℕ) (end : ℕ) (rest : List ℕ) → leading digits ≡ length digits → is_digit end ≡ false → leading (digits ++ (end ∷ rest)) ≡ length digits
-unfolding leading
-digits_end [] end rest e f = rw f
-digits_end (c ∷ digits) end rest e f = go (is_digit c) e (λ g. digits_end digits end rest g f)
-  where
-    go : (b : Bool) → cond b (suc (leading digits)) 0 ≡ suc (length digits) → (leading digits ≡ length digits → leading (digits ++ (end ∷ rest)) ≡ length digits)
-        → cond b (suc (leading (digits ++ (end ∷ rest)))) 0 ≡ suc (length digits)
-    go true e more = ap suc (more (omega arith))
-    go false e more = absurd (omega arith)
 
 read_position : (digits : List ℕ) (end : ℕ) (rest : List ℕ) → IsPosition digits → is_digit end ≡ false → length digits ≡ position_digits (digits ++ (end ∷ rest)) end
 read_position digits end rest p f =
@@ -85,15 +74,6 @@ pub record Spelled (name word : List ℕ) : Type 0 where
   pub first : IsPosition J
   pub second : IsPosition K
   pub is : word ≡ name ++ pair J K
-
-leading_taken : (text : List ℕ) → leading (take (leading text) text) ≡ leading text
-unfolding leading
-leading_taken [] = refl
-leading_taken (c ∷ text) = go (is_digit c) refl (leading_taken text)
-  where
-    go : (b : Bool) → is_digit c ≡ b → leading (take (leading text) text) ≡ leading text → leading (take (cond b (suc (leading text)) 0) (c ∷ text)) ≡ cond b (suc (leading text)) 0
-    go true e h = rw (e, h)
-    go false e h = refl
 
 module _ (text : List ℕ) (end : ℕ) (some : 0 < end) (n : position_digits text end ≡ 0 → ⊥) where
   abbrev count : ℕ

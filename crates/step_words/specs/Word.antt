@@ -1,15 +1,29 @@
 -- A step as people write it: the word add(J,K) or subtract(J,K), with decimal positions J and K.
-use Rattle.std.specs.Prelude.{ℕ, ◌+◌, ◌^◌, Bool, true, false, cond, List, [], ◌∷◌, eqb, ltb, length, get_or, take, drop}
+use Rattle.std.specs.Prelude.{ℕ, ◌+◌, ◌^◌, Bool, true, false, cond, List, [], ◌∷◌, eqb, ltb, length, get_or, take, drop, Option, Some, None}
 use Rattle.chains.specs.Steps.{Step, adding, subtracting}
 use Rattle.decimal.specs.Decimal.{leading, decimal_value}
+use Rattle.step_reading.specs.declared.Step.{Step as StepFields}
+use Rattle.step_reading.specs.Fields.{as_step}
 
 -- what is no step: an operation that no step has
 abbrev pub no_step : Step
 no_step = record { operation = 2; first = 0; second = 0 }
 
+-- the step that was read, if one was
+abbrev pub step_or_none : Option StepFields → Step
+step_or_none None = no_step
+step_or_none (Some s) = as_step s
+
 -- a position is a number of two bytes
 abbrev pub position_limit : ℕ
 position_limit = 2 ^ 16
+
+-- the position that digits are
+unfoldable pub position_value : List ℕ → Option ℕ
+position_value digits =
+    cond (eqb (length digits) 0) None
+    (cond (ltb (leading digits) (length digits)) None
+    (cond (ltb (decimal_value digits) position_limit) (Some (decimal_value digits)) None))
 
 -- how many digits a position has, at the start of a text and with this byte behind it; 0 where there is none
 unfoldable pub position_digits : List ℕ → ℕ → ℕ

@@ -1,11 +1,12 @@
 // The step that a word is: add(J,K) or subtract(J,K), with decimal positions J and K.
 #![tactic(auto)]
 
-ghost use Rattle.std.specs.Prelude.{◌≡◌, ◌<◌, take};
-ghost use Rattle.decimal.specs.Decimal.{decimal_value};
+ghost use Rattle.std.specs.Prelude.{◌≡◌, ◌==◌};
+ghost use Rattle.std.specs.List.{position};
 ghost use Rattle.step_reading.specs.Fields.{as_step};
-ghost use Rattle.step_words.specs.Word.{position_digits, step_in, begins, word_step};
+ghost use Rattle.step_words.specs.Word.{position_value, step_in, step_or_none, word_step};
 
+use decimal::is_digit;
 use step_reading::Step;
 
 // A position has two bytes.
@@ -14,119 +15,71 @@ const POSITIONS: usize = 65536;
 // The operation of what is no step: one that no step has.
 const NO_OPERATION: u8 = 2;
 
-// A position at the start of a text: its number, and how many digits it has; none if it is no
-// position.
-#[derive(Drop)]
-struct Position {
-    value: usize,
-    digits: usize,
+// The position that digits are. The first byte that cannot belong to it decides, so the number never
+// grows large.
+fn position_of(digits: &[u8]) -> Option<usize>
+    ensures { result ≡ position_value digits.now }
+{
+    if digits.is_empty() {
+        return None;
+    }
+    let mut value = 0;
+    for digit in digits {
+        if !is_digit(*digit) {
+            return None;
+        }
+        value = value * 10 + usize::from(*digit - b'0');
+        if POSITIONS <= value {
+            return None;
+        }
+    }
+    Some(value)
 }
 
-// The position that a text begins with, up to this byte. The first byte that cannot belong to it
-// decides, so the number never grows large.
-fn position_before(text: &[u8], end: u8) -> Position
-    requires { (0 < end) × (end < 48) }
-    ensures digits { result.digits ≡ position_digits text.now end }
-    ensures value { result.value ≡ decimal_value (take result.digits text.now) }
+// Where the comma behind the first position stands.
+fn first_comma(text: &[u8]) -> Option<usize>
+    ensures { result ≡ position (λ c. c == 44) text.now }
 {
-    let mut value = 0;
-    let mut i = 0;
-    while i < text.len() {
-        if text[i] == end {
-            return Position { value, digits: i };
-        }
-        if text[i] < b'0' {
-            return Position {
-                value: 0,
-                digits: 0,
-            };
-        }
-        if b'9' < text[i] {
-            return Position {
-                value: 0,
-                digits: 0,
-            };
-        }
-        value = value * 10 + (text[i] - b'0') as usize;
-        if POSITIONS <= value {
-            return Position {
-                value: 0,
-                digits: 0,
-            };
-        }
-        i += 1;
-    }
-    Position {
-        value: 0,
-        digits: 0,
-    }
+    text.iter().position(|byte| *byte == b',')
 }
 
 // The step of an operation, by the text of its positions.
-fn step_in(operation: u8, text: &[u8]) -> Step
-    ensures { as_step result ≡ step_in operation text.now }
+fn step_in(operation: u8, text: &[u8]) -> Option<Step>
+    ensures { step_or_none result ≡ step_in operation text.now }
 {
-    let first = position_before(text, b',');
-    if first.digits == 0 {
-        return Step {
-            operation: NO_OPERATION,
-            first: 0,
-            second: 0,
-        };
-    }
-    let behind = &text[first.digits + 1..];
-    let second = position_before(behind, b')');
-    if second.digits == 0 {
-        return Step {
-            operation: NO_OPERATION,
-            first: 0,
-            second: 0,
-        };
-    }
-    if behind.len() != second.digits + 1 {
-        return Step {
-            operation: NO_OPERATION,
-            first: 0,
-            second: 0,
-        };
-    }
-    Step {
+    let comma = first_comma(text)?;
+    let first = position_of(&text[..comma])?;
+    let [digits @ .., b')'] = &text[comma + 1..] else {
+        return None;
+    };
+    let second = position_of(digits)?;
+    Some(Step {
         operation,
-        first: first.value,
-        second: second.value,
-    }
+        first,
+        second,
+    })
 }
 
-// Whether a word begins with a name.
-fn begins_with(word: &[u8], name: &[u8]) -> bool
-    ensures { result ≡ begins name.now word.now }
+// The step of a word that is one.
+fn read(word: &[u8]) -> Option<Step>
+    ensures { step_or_none result ≡ word_step word.now }
 {
-    if word.len() < name.len() {
-        return false;
+    if let Some(text) = word.strip_prefix(b"add(") {
+        return step_in(0, text);
     }
-    let mut i = 0;
-    while i < name.len() {
-        if name[i] != word[i] {
-            return false;
-        }
-        i += 1;
+    if let Some(text) = word.strip_prefix(b"subtract(") {
+        return step_in(1, text);
     }
-    true
+    None
 }
 
 // The step that a word is.
 pub fn step_of(word: &[u8]) -> Step
     ensures { as_step result ≡ word_step word.now }
 {
-    if begins_with(word, b"add(") {
-        return step_in(0, &word[4..]);
-    }
-    if begins_with(word, b"subtract(") {
-        return step_in(1, &word[9..]);
-    }
-    Step {
+    read(word).unwrap_or(Step {
         operation: NO_OPERATION,
         first: 0,
         second: 0,
-    }
+    })
 }

@@ -1,18 +1,19 @@
 -- Words of eight bytes: one, read from the top byte down; all of a number, and its low bytes. Assumes nothing.
 use mathlib.Core.Path.{◌≡◌, refl, sym, ap, ◌∙◌}
-use mathlib.Core.List.{List, [], ◌∷◌, ◌++◌}
+use mathlib.Core.List.{List, [], ◌∷◌, ◌++◌, append_assoc}
 use Prim.Native.Nat.{ℕ, zero, suc, ◌+◌, ◌*◌, ◌-◌, ◌/◌, ◌%◌, ◌^◌, ◌<◌, ◌≤◌}
-use native.Mathlib.Nat.{zero-add, mul-zero, suc-add, mul_assoc}
+use native.Mathlib.Nat.{mul_assoc}
 use native.Mathlib.Omega.{arith}
-use lib.ListN.{length, get_or, take, drop, length-take, length-drop, length-append, replicate, length-replicate, get_or-replicate}
+use lib.ListN.{length, get_or, take, drop, length-take, length-drop}
 use lib.Pow.{pow-add}
-use lib.Seq.{drop-drop, take-take, take_all, take-nil, drop-nil}
+use lib.Seq.{drop-append_seam, drop-drop, take-take, take_all}
+use Rattle.std.proofs.lemmas.List.{drop-take}
 use Rattle.std.specs.Int.{w64, from_le_bytes}
 use Rattle.integers.specs.Bits.{bit}
 use Rattle.integers.specs.Positional.{positional, bytes_value, words_value, low_bytes}
 use Rattle.integers.specs.Tabulate.{tabulate}
 use Rattle.integers.proofs.Powers.{power_of_power}
-use Rattle.integers.proofs.Positional.{Below, below_take, below_drop, positional_drop, positional_take, positional_lt, positional_split, positional_append, positional_div, zero_above}
+use Rattle.integers.proofs.Positional.{Below, below_take, below_drop, positional_drop, positional_take, positional_lt, positional_split, positional_div}
 use Rattle.integers.proofs.Bits.{bit_of_element}
 use Rattle.integers.proofs.LowBytes.{low_add, low_above}
 use Rattle.integers.proofs.Tabulate.{get_d_tabulate, below_tabulate, positional_tabulate}
@@ -28,23 +29,29 @@ eight_bytes l h =
     let none : bytes_value (take 0 l) ≡ 0 = refl in
     omega (arith, ap bytes_value (take_all 8 l (omega arith)), positional_take 256 0 l, positional_take 256 1 l, positional_take 256 2 l, positional_take 256 3 l, positional_take 256 4 l, positional_take 256 5 l, positional_take 256 6 l, positional_take 256 7 l)
 
--- the same of fewer, with zeros above them
-pub filled_bytes : (l : List ℕ) → length l ≤ 8 → from_le_bytes w64 (l ++ drop (length l) (replicate 8 0)) ≡ bytes_value l
-filled_bytes l h =
-    let rest : List ℕ = drop (length l) (replicate 8 0) in
-    let none : bytes_value rest ≡ 0 = zero_above (replicate 8 0) (length l) (λ k _ below. get_or-replicate 8 k 0 0 (omega (arith, length-replicate {A = ℕ} 8 0))) in
-    eight_bytes (l ++ rest) (omega (arith, length-append l rest, length-drop {A = ℕ} (length l) (replicate 8 0), length-replicate {A = ℕ} 8 0)) ∙ rw (positional_append 256 l rest, none) (omega (arith, mul-zero (256 ^ length l)))
+-- a word of bytes that are read from the top down: x is next, and then those that are left
+module _ (l left : List ℕ) (x word : ℕ) (read : (left ++ (x ∷ [])) ++ drop (length (left ++ (x ∷ []))) l ≡ l) (value : word ≡ bytes_value (drop (length (left ++ (x ∷ []))) l)) where
+  above : drop (length left) l ≡ x ∷ drop (length (left ++ (x ∷ []))) l
+  above =
+      let rest : List ℕ = drop (length (left ++ (x ∷ []))) l in
+      ap (drop (length left)) (sym read ∙ append_assoc left (x ∷ []) rest) ∙ drop-append_seam left (x ∷ rest)
+
+  pub word_left : left ++ drop (length left) l ≡ l
+  word_left = rw above (sym (append_assoc left (x ∷ []) (drop (length (left ++ (x ∷ []))) l)) ∙ read)
+
+  pub word_more : 256 * word + x ≡ bytes_value (drop (length left) l)
+  unfolding positional
+  word_more = rw above (omega (arith, value))
+
+  pub word_room : length l ≤ 8 → Below 256 l → 256 * word + x < 2 ^ 64
+  word_room few b =
+      rw word_more (positional_lt 256 8 (drop (length left) l) (omega (arith, length-drop (length left) l)) (below_drop 256 (length left) l (omega arith) b))
 
 -- ---- all words of a number
 
 -- the word at k
 abbrev pub word_at : List ℕ → ℕ → ℕ
 word_at l k = bytes_value (take 8 (drop (8 * k) l))
-
-drop_take : (n m : ℕ) (l : List ℕ) → drop n (take (n + m) l) ≡ take m (drop n l)
-drop_take zero m l = rw zero-add
-drop_take (suc n) m [] = rw (take-nil, drop-nil, take-nil)
-drop_take (suc n) m (x ∷ l) = rw suc-add (drop_take n m l)
 
 pub words_value_lem : (l : List ℕ) (n : ℕ) → words_value (tabulate (word_at l) n) ≡ bytes_value (take (8 * n) l)
 unfolding tabulate positional
@@ -53,7 +60,7 @@ words_value_lem l (suc n) =
     let e : 8 * suc n ≡ 8 * n + 8 = omega arith in
     let top : words_value (tabulate (word_at l) (suc n)) ≡ words_value (tabulate (word_at l) n) + (2 ^ 64) ^ n * word_at l n = positional_tabulate (2 ^ 64) (word_at l) n in
     let low : bytes_value (take (8 * n + 8) l) ≡ bytes_value (take (8 * n) l) + 256 ^ (8 * n) * word_at l n =
-    rw (positional_split 256 (8 * n) (take (8 * n + 8) l), take-take (8 * n) (8 * n + 8) l (omega arith), drop_take (8 * n) 8 l) in
+    rw (positional_split 256 (8 * n) (take (8 * n + 8) l), take-take (8 * n) (8 * n + 8) l (omega arith), drop-take (8 * n) 8 l) in
     rw e (top ∙ ap (λ (v : ℕ). v + (2 ^ 64) ^ n * word_at l n) (words_value_lem l n) ∙ ap (λ (p : ℕ). bytes_value (take (8 * n) l) + p * word_at l n) (power_of_power 256 8 n) ∙ sym low)
 
 -- the word at k, and the bytes above it
@@ -71,7 +78,7 @@ word_lt l k b =
 pub part_part : (l : List ℕ) (at size from count : ℕ) → from + count ≤ size → part from count (part at size l) ≡ part (at + from) count l
 part_part l at size from count h =
     let e : size ≡ from + (size - from) = omega arith in
-    rw (e, drop_take from (size - from) (drop at l), take-take count (size - from) (drop from (drop at l)) (omega arith), drop-drop from at l)
+    rw (e, drop-take from (size - from) (drop at l), take-take count (size - from) (drop from (drop at l)) (omega arith), drop-drop from at l)
 
 -- the low bytes up to the word at k, and the lowest of that word
 pub words_low : (words : List ℕ) (k n : ℕ) → n ≤ 8 → Below (2 ^ 64) words

@@ -80,14 +80,19 @@ pub fn ones(number: &[u8]) -> usize
     total + word_of(&number[8 * words..]).count_ones() as usize
 }
 
-// The value of at most eight bytes.
+// The value of at most eight bytes. Eight are one load.
 fn word_of(bytes: &[u8]) -> u64
     requires { length bytes.now ≤ 8 }
     ensures { result ≡ bytes_value bytes.now }
 {
-    let mut word = [0; 8];
-    word[..bytes.len()].copy_from_slice(bytes);
-    u64::from_le_bytes(word)
+    if let Some(word) = bytes.as_array() {
+        return u64::from_le_bytes(*word);
+    }
+    let mut word = 0;
+    for byte in bytes.iter().rev() {
+        word = 256 * word + u64::from(*byte);
+    }
+    word
 }
 
 // The value of the eight bytes from `from` on.
@@ -98,15 +103,12 @@ pub fn whole_word_at(bytes: &[u8], from: usize) -> u64
     word_of(&bytes[from..from + 8])
 }
 
-// The value of the eight bytes from `from` on, or of those that there are. Eight are one load.
+// The value of the eight bytes from `from` on, or of those that there are.
 fn word_at(bytes: &[u8], from: usize) -> u64
     ensures { result ≡ bytes_value (take 8 (drop from bytes.now)) }
 {
-    match bytes.get(from..) {
-        Some(rest) if 8 <= rest.len() => whole_word_at(rest, 0),
-        Some(rest) => word_of(rest),
-        None => 0,
-    }
+    let rest = bytes.get(from..).unwrap_or(&[]);
+    word_of(&rest[..rest.len().min(8)])
 }
 
 // The words of a number. Bytes above the limit are left out.

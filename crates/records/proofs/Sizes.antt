@@ -84,14 +84,14 @@ absolute_none true given words = carried_none words given []
 absolute_none false given words = (carried_none words [] given, refl)
 
 module _ (k : ℕ) (given words : List ℕ) (x : ℕ) (c d : Bool) (h : k < length words) (small : get_or given k 0 < 2 ^ 64) (next : x < 2 ^ 64) where
-  pub absolute_more : (below : Bool) → x + mask_of below + bool_byte c ≡ bit_xor (get_or given k 0) (mask_of below) + 2 ^ 64 * bool_byte d → Absolute below k given words c
+  pub absolute_more : (below : Bool) → x + mask_of below + bool_byte c ≡ bit_xor (get_or given k 0) (mask_of below) + bool_byte d * 2 ^ 64 → Absolute below k given words c
       → Absolute below (k + 1) given (set words k x) d
   absolute_more true e w = difference_stored k [] given words x c d h w (omega (arith, complement (get_or given k 0) small))
   absolute_more false e w =
-      let f : x + 0 + bool_byte c ≡ get_or given k 0 + 2 ^ 64 * bool_byte d = rw xor_zero_r at e in
+      let f : x + 0 + bool_byte c ≡ get_or given k 0 + bool_byte d * 2 ^ 64 = rw xor_zero_r at e in
       (difference_stored k given [] words x c d h w.0 f, none d (rw w.1 at f))
     where
-      none : (d : Bool) → x + 0 + 0 ≡ get_or given k 0 + 2 ^ 64 * bool_byte d → d ≡ false
+      none : (d : Bool) → x + 0 + 0 ≡ get_or given k 0 + bool_byte d * 2 ^ 64 → d ≡ false
       none true f = absurd (omega arith)
       none false f = refl
 

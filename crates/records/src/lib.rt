@@ -11,7 +11,7 @@ ghost use Rattle.records.specs.Recording.{HasRecord, size_bytes, distance_of};
 use chain_values::Value;
 use integers::whole_word_at;
 use rules::VALUE_WORDS;
-use words::{add_with_carry, store_word, subtract_with_borrow};
+use words::{add_with_carry, store_word};
 
 // A word of the size whose bytes stand at `at`: eight of them, or the single one of the top word.
 pub fn size_word(space: &[u8], at: usize, k: usize) -> u64
@@ -22,7 +22,7 @@ pub fn size_word(space: &[u8], at: usize, k: usize) -> u64
     if k < VALUE_WORDS - 1 {
         whole_word_at(space, at + 8 * k)
     } else {
-        space[at + 8 * k] as u64
+        u64::from(space[at + 8 * k])
     }
 }
 
@@ -32,10 +32,8 @@ fn load_size(space: &[u8], at: usize) -> [u64; VALUE_WORDS]
     ensures { words_value result ≡ bytes_value (size_bytes space.now at) }
 {
     let mut words = [0u64; VALUE_WORDS];
-    let mut k = 0;
-    while k < VALUE_WORDS {
-        words[k] = size_word(space, at, k);
-        k += 1;
+    for (k, word) in words.iter_mut().enumerate() {
+        *word = size_word(space, at, k);
     }
     words
 }
@@ -60,46 +58,25 @@ pub fn sum(space: &[u8], a: usize, b: usize) -> [u64; VALUE_WORDS]
 {
     let mut words = [0u64; VALUE_WORDS];
     let mut carry = false;
-    let mut k = 0;
-    while k < VALUE_WORDS {
-        let next = add_with_carry(size_word(space, a, k), size_word(space, b, k), carry);
-        words[k] = next.word;
-        carry = next.carry;
-        k += 1;
+    for (k, word) in words.iter_mut().enumerate() {
+        (*word, carry) = add_with_carry(size_word(space, a, k), size_word(space, b, k), carry);
     }
     words
 }
 
-// One size less another, and whether that is below zero: then it is in two's complement.
-#[derive(Drop)]
-struct SizeDifference {
-    words: [u64; VALUE_WORDS],
-    below: bool,
-}
-
-// The size at `a` less the one at `b`.
-fn subtracted(space: &[u8], a: usize, b: usize) -> SizeDifference
+// The size at `a` less the one at `b`, and whether that is below zero: then it is in two's complement.
+fn subtracted(space: &[u8], a: usize, b: usize) -> ([u64; VALUE_WORDS], bool)
     requires value_bytes_in_bounds { a + value_bytes ≤ length space.now }
     requires value_bytes_in_bounds_2 { b + value_bytes ≤ length space.now }
-    ensures { words_value result.words + bytes_value (size_bytes space.now b) ≡ bytes_value (size_bytes space.now a) + (2 ^ 64) ^ value_words * bool_byte result.below }
+    ensures { words_value result.0 + bytes_value (size_bytes space.now b) ≡ bytes_value (size_bytes space.now a) + (2 ^ 64) ^ value_words * bool_byte result.1 }
 {
     let mut words = [0u64; VALUE_WORDS];
     let mut borrow = false;
-    let mut k = 0;
-    while k < VALUE_WORDS {
-        let next = subtract_with_borrow(size_word(space, a, k), size_word(space, b, k), borrow);
-        words[k] = next.word;
-        borrow = next.borrow;
-        k += 1;
+    for (k, word) in words.iter_mut().enumerate() {
+        (*word, borrow) = size_word(space, a, k).borrowing_sub(size_word(space, b, k), borrow);
     }
-    SizeDifference {
-        words,
-        below: borrow,
-    }
+    (words, borrow)
 }
-
-// All bits of a word.
-const ALL_BITS: u64 = 18446744073709551615;
 
 // How far apart two sizes are, and whether the first is the smaller.
 #[derive(Drop)]
@@ -114,19 +91,13 @@ pub fn distance_between(space: &[u8], a: usize, b: usize) -> Distance
     requires value_bytes_in_bounds_2 { b + value_bytes ≤ length space.now }
     ensures { (words_value result.words ≡ distance_of (bytes_value (size_bytes space.now a)) (bytes_value (size_bytes space.now b))) × (result.below ≡ ltb (bytes_value (size_bytes space.now a)) (bytes_value (size_bytes space.now b))) }
 {
-    let first = subtracted(space, a, b);
-    let below = first.below;
-    let given = first.words;
+    let (given, below) = subtracted(space, a, b);
     // Negated if it is below zero. Without a branch: which size is the larger cannot be predicted.
-    let mask = (below as u64) * ALL_BITS;
+    let mask = u64::from(below) * u64::MAX;
     let mut words = [0u64; VALUE_WORDS];
     let mut borrow = false;
-    let mut k = 0;
-    while k < VALUE_WORDS {
-        let negated = subtract_with_borrow(given[k] ^ mask, mask, borrow);
-        words[k] = negated.word;
-        borrow = negated.borrow;
-        k += 1;
+    for (k, word) in words.iter_mut().enumerate() {
+        (*word, borrow) = (given[k] ^ mask).borrowing_sub(mask, borrow);
     }
     Distance { words, below }
 }
@@ -139,10 +110,8 @@ pub fn same_size(space: &[u8], a: usize, b: usize) -> bool
     ensures { result ≡ eqb (bytes_value (size_bytes space.now a)) (bytes_value (size_bytes space.now b)) }
 {
     let mut differing = 0;
-    let mut k = 0;
-    while k < VALUE_WORDS {
-        differing = differing | (size_word(space, a, k) ^ size_word(space, b, k));
-        k += 1;
+    for k in 0..VALUE_WORDS {
+        differing |= size_word(space, a, k) ^ size_word(space, b, k);
     }
     differing == 0
 }
@@ -152,12 +121,11 @@ fn store_size(space: &mut [u8], at: usize, words: [u64; VALUE_WORDS])
     requires { at + value_bytes ≤ length space.old }
     ensures { space.new ≡ take at space.old ++ (low_bytes value_bytes (words_value words) ++ drop (at + value_bytes) space.old) }
 {
-    let mut k = 0;
-    while k < VALUE_WORDS - 1 {
+    const TOP: usize = VALUE_WORDS - 1;
+    for k in 0..TOP {
         store_word(space, at + 8 * k, words[k]);
-        k += 1;
     }
-    space[at + 8 * k] = (words[k] % 256) as u8;
+    space[at + 8 * TOP] = (words[TOP] % 256) as u8;
 }
 
 // Writes a record at `at`.

@@ -1,5 +1,5 @@
--- Sums and differences of words, and what they carry or borrow: of one word, which wraps, and of a number, word by word. Assumes nothing.
-use Rattle.std.proofs.Common.{◌≡◌, ℕ, ◌+◌, ◌*◌, ◌%◌, ◌^◌, ◌<◌, ◌≤◌, Bool, true, false, ◌||◌, ltb, List, length, get_or, take, set, sym, refl, ap, mul_assoc, pow-suc, mul-add, add-one, arith, take_all, get_or-set_same, ltb-false, ltb-true}
+-- Sums and differences of words, and what they carry or borrow: of a sum of two words, which wraps, and of a number, word by word. Assumes nothing.
+use Rattle.std.proofs.Common.{◌≡◌, ℕ, ◌+◌, ◌*◌, ◌%◌, ◌^◌, ◌<◌, ◌≤◌, Bool, true, false, ◌||◌, ltb, List, length, get_or, take, set, refl, ap, mul_assoc, pow-suc, mul-add, add-one, arith, take_all, get_or-set_same, ltb-false, ltb-true}
 use lib.Seq.{take-set-le}
 use mir.Val.{bool_byte}
 use Rattle.integers.specs.Positional.{positional, words_value}
@@ -14,36 +14,20 @@ wrapped a b s ha hb e = go (ltb s a) refl
     go true l = omega (arith, ltb-true s a l)
     go false l = omega (arith, ltb-false s a l)
 
--- a difference has wrapped if its first part is below the second
-unwrapped : (a b d : ℕ) → b < 2 ^ 64 → d < 2 ^ 64 → (d + b) % 2 ^ 64 ≡ a → d + b ≡ a + 2 ^ 64 * bool_byte (ltb a b)
-unwrapped a b d hb hd e = go (ltb a b) refl
-  where
-    go : (t : Bool) → ltb a b ≡ t → d + b ≡ a + 2 ^ 64 * bool_byte t
-    go true l = omega (arith, ltb-true a b l)
-    go false l = omega (arith, ltb-false a b l)
-
 -- of two that are not both true, either
 either : (p q : Bool) → bool_byte p + bool_byte q ≤ 1 → bool_byte (p || q) ≡ bool_byte p + bool_byte q
 either true true h = absurd (omega arith)
 either true false h = refl
 either false q h = omega arith
 
-module _ (a b : ℕ) (k : Bool) (s t : ℕ) (hb : b < 2 ^ 64) where
-  pub sum_law : a < 2 ^ 64 → s ≡ (a + b) % 2 ^ 64 → t ≡ (s + bool_byte k) % 2 ^ 64
-      → t + 2 ^ 64 * bool_byte (ltb s a || ltb t s) ≡ a + b + bool_byte k
-  sum_law ha hs ht =
-      let small = bool_small k in
-      let e = wrapped a b s ha hb hs in
-      let f = wrapped s (bool_byte k) t (omega arith) (omega arith) ht in
-      omega (arith, either (ltb s a) (ltb t s) (omega arith))
-
-  pub difference_law : s < 2 ^ 64 → t < 2 ^ 64 → (s + b) % 2 ^ 64 ≡ a → (t + bool_byte k) % 2 ^ 64 ≡ s
-      → t + b + bool_byte k ≡ a + 2 ^ 64 * bool_byte (ltb a b || ltb s (bool_byte k))
-  difference_law hs ht es et =
-      let small = bool_small k in
-      let e = unwrapped a b s hb hs es in
-      let f = unwrapped s (bool_byte k) t (omega arith) ht et in
-      omega (arith, either (ltb a b) (ltb s (bool_byte k)) (omega arith))
+-- a word of a sum carries if either of its two additions has wrapped
+pub sum_law : (a b : ℕ) (k : Bool) (s t : ℕ) → a < 2 ^ 64 → b < 2 ^ 64 → s ≡ (a + b) % 2 ^ 64 → t ≡ (s + bool_byte k) % 2 ^ 64
+    → t + bool_byte (ltb s a || ltb t s) * 2 ^ 64 ≡ a + b + bool_byte k
+sum_law a b k s t ha hb hs ht =
+    let small = bool_small k in
+    let e = wrapped a b s ha hb hs in
+    let f = wrapped s (bool_byte k) t (omega arith) (omega arith) ht in
+    omega (arith, either (ltb s a) (ltb t s) (omega arith))
 
 -- ---- word by word, from the lowest
 
@@ -66,11 +50,11 @@ carried_more k v w u c d h e =
 
 -- the next word x is stored: of the sum of a and b, or of what is left of a without b
 module _ (k : ℕ) (a b words : List ℕ) (x : ℕ) (c d : Bool) (h : k < length words) where
-  pub sum_stored : Carried k a b words c → x + 2 ^ 64 * bool_byte d ≡ get_or a k 0 + get_or b k 0 + bool_byte c → Carried (k + 1) a b (set words k x) d
-  sum_stored w e = carried_more k a b (set words k x) c d (rw (take-set-le k words k x (omega arith)) w) (rw (get_or-set_same words k x 0 h) (sym e))
+  pub sum_stored : Carried k a b words c → x + bool_byte d * 2 ^ 64 ≡ get_or a k 0 + get_or b k 0 + bool_byte c → Carried (k + 1) a b (set words k x) d
+  sum_stored w e = carried_more k a b (set words k x) c d (rw (take-set-le k words k x (omega arith)) w) (rw (get_or-set_same words k x 0 h) (omega arith))
 
-  pub difference_stored : Carried k words b a c → x + get_or b k 0 + bool_byte c ≡ get_or a k 0 + 2 ^ 64 * bool_byte d → Carried (k + 1) (set words k x) b a d
-  difference_stored w e = carried_more k (set words k x) b a c d (rw (take-set-le k words k x (omega arith)) w) (rw (get_or-set_same words k x 0 h) e)
+  pub difference_stored : Carried k words b a c → x + get_or b k 0 + bool_byte c ≡ get_or a k 0 + bool_byte d * 2 ^ 64 → Carried (k + 1) (set words k x) b a d
+  difference_stored w e = carried_more k (set words k x) b a c d (rw (take-set-le k words k x (omega arith)) w) (rw (get_or-set_same words k x 0 h) (omega arith))
 
 pub carried_none : (v w u : List ℕ) → Carried 0 v w u false
 unfolding positional

@@ -1,7 +1,8 @@
 -- Whether words hold nothing, and half of what they hold. Assumes nothing.
-use Rattle.std.proofs.Common.{◌≡◌, ℕ, zero, suc, ◌+◌, ◌*◌, ◌/◌, ◌%◌, ◌^◌, ◌<◌, ◌≤◌, Bool, ◌&&◌, eqb, List, [], length, get_or, take, drop, set, sym, refl, ap, ◌∙◌, add-zero, mul_assoc, add_comm, mul-pos, pow-suc, mul-zero, mul-add, add-one, arith, drop_of_length-le, length-take, get_or-drop, get_or-take, get_or-set_same, drop-drop, drop-set-lt, eq-eqb, ne_eqb}
+use Rattle.std.proofs.Common.{◌≡◌, ℕ, zero, suc, ◌+◌, ◌*◌, ◌/◌, ◌%◌, ◌^◌, ◌<◌, ◌≤◌, Bool, ◌&&◌, eqb, List, [], length, get_or, take, drop, set, sym, refl, ap, ◌∙◌, add-zero, mul_assoc, mul-pos, pow-suc, mul-zero, mul-add, add-one, arith, drop_of_length-le, length-take, get_or-drop, get_or-take, get_or-set_same, drop-drop, drop-set-lt, eq-eqb, ne_eqb}
 use native.Mathlib.Nat.{one-le-pow, mul-mod_left}
-use lib.Arith.{digits_lt}
+use lib.Bits.{bit_and, bit_or, and_comm, and_shifted}
+use Rattle.std.proofs.lemmas.Nat.{or_disjoint}
 use lib.ListN.{get_or-eq_default}
 use lib.Pow.{shl-shr, mod-pow-add}
 use lib.Seq.{take-set-le}
@@ -28,13 +29,16 @@ zero_more l k =
 on_top : (x : ℕ) → x * 2 ^ 63 % 2 ^ 64 ≡ x % 2 * 2 ^ 63
 on_top x = mod-pow-add (x * 2 ^ 63) 1 63 ∙ rw (shl-shr x 63, mul-mod_left x (2 ^ 63), add-zero)
 
-pub turned_lt : (w : ℕ) → w < 2 ^ 64 → w / 2 + w * 2 ^ 63 % 2 ^ 64 < 2 ^ 64
-turned_lt w h = rw (on_top w, add_comm (w / 2)) (digits_lt {m = 2} (omega arith) (omega arith))
+-- a word turned by a bit: its half, with its own lowest bit on top
+turned : (w : ℕ) → w < 2 ^ 64 → bit_or (w / 2) (w * 2 ^ 63 % 2 ^ 64) ≡ w / 2 + w % 2 * 2 ^ 63
+turned w h =
+    let apart : bit_and (w / 2) (w % 2 * 2 ^ 63) ≡ 0 = and_comm (w / 2) (w % 2 * 2 ^ 63) ∙ and_shifted (w % 2) 63 (w / 2) (omega arith) in
+    rw (on_top w) (or_disjoint (w / 2) (w % 2 * 2 ^ 63) apart)
 
 -- the lowest bit of w stands on top of its half twice, which carries out of the word, and that of n once
-pub turned_half : (w n : ℕ) → w < 2 ^ 64 → (w / 2 + w * 2 ^ 63 % 2 ^ 64 + (w + n) % 2 ^ 64 * 2 ^ 63 % 2 ^ 64) % 2 ^ 64 ≡ w / 2 + n % 2 * 2 ^ 63
+pub turned_half : (w n : ℕ) → w < 2 ^ 64 → (bit_or (w / 2) (w * 2 ^ 63 % 2 ^ 64) + (w + n) % 2 ^ 64 * 2 ^ 63 % 2 ^ 64) % 2 ^ 64 ≡ w / 2 + n % 2 * 2 ^ 63
 turned_half w n h =
-    rw (on_top w, on_top ((w + n) % 2 ^ 64)) (both (w / 2) (w % 2) (n % 2) ((w + n) % 2 ^ 64 % 2) (omega arith) (omega arith) (omega arith) (omega arith))
+    rw (turned w h, on_top ((w + n) % 2 ^ 64)) (both (w / 2) (w % 2) (n % 2) ((w + n) % 2 ^ 64 % 2) (omega arith) (omega arith) (omega arith) (omega arith))
   where
     both : (a c d t : ℕ) → a < 2 ^ 63 → c < 2 → d < 2 → t ≡ (c + d) % 2 → (a + c * 2 ^ 63 + t * 2 ^ 63) % 2 ^ 64 ≡ a + d * 2 ^ 63
     both a c d t ha hc hd e = omega arith

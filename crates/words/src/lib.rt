@@ -1,4 +1,4 @@
-// Numbers as words, the least significant first: bits, zero, halving, sums and differences, and their bytes.
+// Numbers as words, the least significant first: bits, zero, halving, their bytes, and sums.
 #![tactic(auto)]
 
 ghost use Rattle.std.specs.Prelude.{◌≡◌, ◌+◌, ◌*◌, ◌/◌, ◌%◌, ◌^◌, ◌≤◌, ◌∷◌, ◌++◌, length, take, drop, ◌==◌, slice_index};
@@ -12,7 +12,7 @@ use rules::NUMBER_WORDS;
 pub fn word_in(words: &[u64], k: usize) -> u64
     ensures { result ≡ slice_index words.now k }
 {
-    if k < words.len() { words[k] } else { 0 }
+    words.get(k).copied().unwrap_or(0)
 }
 
 // The word below k: 0 below the lowest.
@@ -35,10 +35,8 @@ pub fn is_zero(words: &[u64]) -> bool
     ensures { result ≡ (words_value words.now == 0) }
 {
     let mut none = true;
-    let mut k = 0;
-    while k < words.len() {
-        none = none & (words[k] == 0);
-        k += 1;
+    for word in words {
+        none &= *word == 0;
     }
     none
 }
@@ -50,8 +48,8 @@ pub fn is_zero(words: &[u64]) -> bool
 fn half_word(word: u64, next: u64) -> u64
     ensures { result ≡ word / 2 + next % 2 * 2 ^ 63 }
 {
-    let turned = (word >> 1) + (word << 63);
-    std::num::wrapping_add_u64(turned, std::num::wrapping_add_u64(word, next) << 63)
+    let turned = word.rotate_right(1);
+    turned.wrapping_add(word.wrapping_add(next) << 63)
 }
 
 // Halves the number that the first NUMBER_WORDS words hold, rounded down. What stands above stays.
@@ -60,21 +58,18 @@ pub fn halve(words: &mut [u64])
     ensures value { words_value (take number_words words.new) ≡ words_value (take number_words words.old) / 2 }
     ensures rest { drop number_words words.new ≡ drop number_words words.old }
 {
-    let mut k = 0;
-    while k + 1 < NUMBER_WORDS {
+    for k in 0..NUMBER_WORDS - 1 {
         words[k] = half_word(words[k], words[k + 1]);
-        k += 1;
     }
-    words[k] = words[k] / 2;
+    words[NUMBER_WORDS - 1] /= 2;
 }
 
 // Half of the number that the words hold, rounded down.
-pub fn halved(words: [u64; NUMBER_WORDS]) -> [u64; NUMBER_WORDS]
+pub fn halved(mut words: [u64; NUMBER_WORDS]) -> [u64; NUMBER_WORDS]
     ensures { words_value result ≡ words_value words / 2 }
 {
-    let mut half = words;
-    halve(&mut half);
-    half
+    halve(&mut words);
+    words
 }
 
 // Writes the `count` low bytes of a word at `at`: zeros above its eight.
@@ -83,11 +78,9 @@ pub fn store_low(bytes: &mut [u8], at: usize, count: usize, word: u64)
     ensures { bytes.new ≡ take at bytes.old ++ (low_bytes count word ++ drop (at + count) bytes.old) }
 {
     let mut rest = word;
-    let mut i = 0;
-    while i < count {
+    for i in 0..count {
         bytes[at + i] = (rest % 256) as u8;
-        rest = rest / 256;
-        i += 1;
+        rest /= 256;
     }
 }
 
@@ -96,43 +89,15 @@ pub fn store_word(bytes: &mut [u8], at: usize, word: u64)
     requires { at + 8 ≤ length bytes.old }
     ensures { bytes.new ≡ take at bytes.old ++ (low_bytes 8 word ++ drop (at + 8) bytes.old) }
 {
-    store_low(bytes, at, 8, word)
+    bytes[at..at + 8].copy_from_slice(&word.to_le_bytes());
 }
 
-// A word of a sum, and whether it carries into the next.
-#[derive(Drop)]
-pub struct SumWord {
-    pub word: u64,
-    pub carry: bool,
-}
-
-// The sum of two words and a carry. A carry is seen because the sum has wrapped.
-pub fn add_with_carry(a: u64, b: u64, carry: bool) -> SumWord
-    ensures { result.word + 2 ^ 64 * bool_byte result.carry ≡ a + b + bool_byte carry }
+// A word of the sum of two words and a carry, and whether it carries into the next: as `u64::carrying_add`,
+// but of that the compiler makes no addition with carry, and `records::sum` took twice as long.
+pub fn add_with_carry(a: u64, b: u64, carry: bool) -> (u64, bool)
+    ensures { result.0 + bool_byte result.1 * 2 ^ 64 ≡ a + b + bool_byte carry }
 {
-    let half = std::num::wrapping_add_u64(a, b);
-    let word = std::num::wrapping_add_u64(half, carry as u64);
-    SumWord {
-        word,
-        carry: (half < a) | (word < half),
-    }
-}
-
-// A word of a difference, and whether it borrows from the next.
-#[derive(Drop)]
-pub struct DifferenceWord {
-    pub word: u64,
-    pub borrow: bool,
-}
-
-// The difference of two words, less a borrow.
-pub fn subtract_with_borrow(a: u64, b: u64, borrow: bool) -> DifferenceWord
-    ensures { result.word + b + bool_byte borrow ≡ a + 2 ^ 64 * bool_byte result.borrow }
-{
-    let less = borrow as u64;
-    let half = std::num::wrapping_sub_u64(a, b);
-    DifferenceWord {
-        word: std::num::wrapping_sub_u64(half, less),
-        borrow: (a < b) | (half < less),
-    }
+    let half = a.wrapping_add(b);
+    let word = half.wrapping_add(u64::from(carry));
+    (word, (half < a) | (word < half))
 }

@@ -18,11 +18,11 @@ pub loop-k-preserved : goal.loop-k-preserved
 loop-k-preserved c =
     let args = c.args in
     let f = word_at (part args.at value_bytes args.space.now) in
-    (search rules, search rules, rw (c.size_word.ensures, c.loop-k.invariant.2) (tabulate_more f (replicate value_words 0) c.loop-k.k (search rules)))
+    (search rules, rw (c.size_word.ensures, c.loop-k.invariant.1) (tabulate_more f (replicate value_words 0) c.loop-k.k (search rules)))
 
 pub returns : goal.returns
 unfolding size_words
 returns c =
     let args = c.args in
     let e : c.loop-k.k ≡ value_words = search rules in
-    rw (c.loop-k.invariant.2, e, append-nil) (words_are args.space.now args.at c.requires)
+    rw (c.loop-k.invariant.1, e, append-nil) (words_are args.space.now args.at c.requires)

@@ -11,7 +11,7 @@ use Rattle.records.proofs.same_size.Goals as goal
 
 pub loop-k-init : goal.loop-k-init
 unfolding positional
-loop-k-init c = (search rules, refl)
+loop-k-init c = refl
 
 pub loop-k-preserved : goal.loop-k-preserved
 loop-k-preserved c =
@@ -20,10 +20,10 @@ loop-k-preserved c =
     let more = same_more args.space.now args.a args.b bytes c.loop-k.k (search rules) in
     let x = c.size_word.result in
     let y = c.size_word-in-loop-k.result in
-    (search rules, none_differ c.loop-k.differing x y ∙ ap (λ (t : Bool). t && eqb x y) c.loop-k.invariant.1 ∙ rw (c.size_word.ensures, c.size_word-in-loop-k.ensures) more)
+    none_differ c.loop-k.differing x y ∙ ap (λ (t : Bool). t && eqb x y) c.loop-k.invariant ∙ rw (c.size_word.ensures, c.size_word-in-loop-k.ensures) more
 
 pub returns : goal.returns
 returns c =
     let args = c.args in
     let e : c.loop-k.k ≡ value_words = search rules in
-    c.loop-k.invariant.1 ∙ rw e (same_all args.space.now args.a args.b c.requires.value_bytes_in_bounds c.requires.value_bytes_in_bounds_2)
+    c.loop-k.invariant ∙ rw e (same_all args.space.now args.a args.b c.requires.value_bytes_in_bounds c.requires.value_bytes_in_bounds_2)

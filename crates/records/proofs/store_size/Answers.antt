@@ -18,14 +18,14 @@ pub loop-k-init : goal.loop-k-init
 unfolding low_bytes
 loop-k-init c =
     let args = c.args in
-    (search rules, refl, rw add-zero (sym (take-append-drop args.at args.space.now)))
+    (refl, rw add-zero (sym (take-append-drop args.at args.space.now)))
 
 pub loop-k-preserved : goal.loop-k-preserved
 loop-k-preserved c =
     let args = c.args in
     let words = args.words in
     let fits : Below (2 ^ 64) words = λ i. let f : Fits w64 (get_or words i 0) = search rules in f.fits in
-    (search rules, search rules, size_more args.space.now args.at c.loop-k.k words (search rules) fits c.loop-k.invariant.2 c.store_word.ensures)
+    (search rules, size_more args.space.now args.at c.loop-k.k words (search rules) fits c.loop-k.invariant.1 c.store_word.ensures)
 
 pub returns : goal.returns
 returns c =
@@ -33,4 +33,4 @@ returns c =
     let words = args.words in
     let fits : Below (2 ^ 64) words = λ i. let f : Fits w64 (get_or words i 0) = search rules in f.fits in
     let e : c.loop-k.k ≡ value_words - 1 = omega arith in
-    rw (top_byte, c.loop-k.invariant.2, e) (size_top args.space.now args.at (value_words - 1) words (search rules) fits)
+    rw (top_byte, c.loop-k.invariant.1, e) (size_top args.space.now args.at (value_words - 1) words (search rules) fits)

@@ -1,15 +1,11 @@
 -- `records::store_size` meets its contract: after k turns the bytes of the first k words stand. Assumes nothing.
 use mathlib.Core.Path.{◌≡◌}
-use Prim.Native.Nat.{◌≤◌, ◌-◌, ◌*◌}
+use Prim.Native.Nat.{◌*◌}
 use lib.ListN.{length}
-use Rattle.rules.specs.Limits.{value_words}
 use Rattle.integers.specs.Positional.{words_value}
 use Rattle.records.proofs.Sizes.{low_placed}
 use Rattle.records.proofs.store_size.Given as goal
 
 abbrev pub invariant-loop-k : goal.invariant-loop-k
 invariant-loop-k l =
-    (l.k ≤ value_words - 1) × (length l.space ≡ length l.initial.space) × (l.space ≡ low_placed l.initial.space l.at (8 * l.k) (words_value l.words))
-
-abbrev pub decreases-loop-k : goal.decreases-loop-k
-decreases-loop-k l = value_words - 1 - l.k
+    (length l.space ≡ length l.initial.space) × (l.space ≡ low_placed l.initial.space l.at (8 * l.k) (words_value l.words))

@@ -12,7 +12,7 @@ pub loop-k-init : goal.loop-k-init
 loop-k-init c =
     let args = c.args in
     let space = args.space.now in
-    (search rules, search rules, carried_none (replicate value_words 0) (size_words space args.b) (size_words space args.a))
+    (search rules, carried_none (replicate value_words 0) (size_words space args.b) (size_words space args.a))
 
 pub loop-k-preserved : goal.loop-k-preserved
 loop-k-preserved c =
@@ -22,9 +22,8 @@ loop-k-preserved c =
     let first = word_at_lem space args.a c.loop-k.k here in
     let second = word_at_lem space args.b c.loop-k.k here in (
       search rules,
-      search rules,
-      difference_stored c.loop-k.k (size_words space args.a) (size_words space args.b) c.loop-k.words c.subtract_with_borrow-next.result.word c.loop-k.borrow c.subtract_with_borrow-next.result.borrow (search rules) c.loop-k.invariant.2
-          (rw (first, second, ← c.size_word.ensures, ← c.size_word-in-loop-k.ensures) c.subtract_with_borrow-next.ensures),
+      difference_stored c.loop-k.k (size_words space args.a) (size_words space args.b) c.loop-k.word-items c.borrowing_sub.result.0 c.loop-k.borrow c.borrowing_sub.result.1 (search rules) c.loop-k.invariant.1
+          (rw (first, second, ← c.size_word.ensures, ← c.size_word-in-loop-k.ensures) c.borrowing_sub.ensures),
     )
 
 pub returns : goal.returns
@@ -32,5 +31,5 @@ returns c =
     let args = c.args in
     let space = args.space.now in
     let e : c.loop-k.k ≡ value_words = search rules in
-    let total = carried_all value_words c.loop-k.words (size_words space args.b) (size_words space args.a) c.loop-k.borrow c.loop-k.invariant.1 (length_words space args.b) (length_words space args.a) (rw e at c.loop-k.invariant.2) in
+    let total = carried_all value_words c.loop-k.word-items (size_words space args.b) (size_words space args.a) c.loop-k.borrow c.loop-k.invariant.0 (length_words space args.b) (length_words space args.a) (rw e at c.loop-k.invariant.1) in
     rw (words_are space args.a c.requires.value_bytes_in_bounds, words_are space args.b c.requires.value_bytes_in_bounds_2) at total

@@ -17,7 +17,7 @@ pub loop-k-init : goal.loop-k-init
 loop-k-init c =
     let args = c.args in
     let space = args.space.now in
-    (search rules, search rules, carried_none (size_words space args.a) (size_words space args.b) (replicate value_words 0))
+    (search rules, carried_none (size_words space args.a) (size_words space args.b) (replicate value_words 0))
 
 pub loop-k-preserved : goal.loop-k-preserved
 loop-k-preserved c =
@@ -27,9 +27,8 @@ loop-k-preserved c =
     let first = word_at_lem space args.a c.loop-k.k here in
     let second = word_at_lem space args.b c.loop-k.k here in (
       search rules,
-      search rules,
-      sum_stored c.loop-k.k (size_words space args.a) (size_words space args.b) c.loop-k.words c.add_with_carry-next.result.word c.loop-k.carry c.add_with_carry-next.result.carry (search rules) c.loop-k.invariant.2
-          (rw (first, second, ← c.size_word.ensures, ← c.size_word-in-loop-k.ensures) c.add_with_carry-next.ensures),
+      sum_stored c.loop-k.k (size_words space args.a) (size_words space args.b) c.loop-k.word-items c.add_with_carry.result.0 c.loop-k.carry c.add_with_carry.result.1 (search rules) c.loop-k.invariant.1
+          (rw (first, second, ← c.size_word.ensures, ← c.size_word-in-loop-k.ensures) c.add_with_carry.ensures),
     )
 
 pub returns : goal.returns
@@ -38,6 +37,6 @@ returns c =
     let space = args.space.now in
     let bytes : Below 256 space = λ i. (c.type_inv.space i).fits in
     let e : c.loop-k.k ≡ value_words = search rules in
-    let total = carried_all value_words (size_words space args.a) (size_words space args.b) c.loop-k.words c.loop-k.carry (length_words space args.a) (length_words space args.b) c.loop-k.invariant.1 (rw e at c.loop-k.invariant.2) in
-    no_carry (bytes_value (size_bytes space args.a)) (bytes_value (size_bytes space args.b)) (words_value c.loop-k.words) ((2 ^ 64) ^ value_words) value_bound c.loop-k.carry
+    let total = carried_all value_words (size_words space args.a) (size_words space args.b) c.loop-k.word-items c.loop-k.carry (length_words space args.a) (length_words space args.b) c.loop-k.invariant.0 (rw e at c.loop-k.invariant.1) in
+    no_carry (bytes_value (size_bytes space args.a)) (bytes_value (size_bytes space args.b)) (words_value c.loop-k.word-items) ((2 ^ 64) ^ value_words) value_bound c.loop-k.carry
     (size_below space args.a bytes) (size_below space args.b bytes) bound_twice (rw (words_are space args.a c.requires.value_bytes_in_bounds, words_are space args.b c.requires.value_bytes_in_bounds_2) at total)

@@ -1,5 +1,5 @@
 -- `words::store_low` meets its contract: after i turns the i low bytes stand. Assumes nothing.
-use Rattle.std.proofs.Common.{◌≡◌, ◌+◌, ◌/◌, ◌%◌, ◌^◌, sym, refl, ◌∙◌, add-zero, pow-suc, div-one, add-one, arith, take-append-drop, rules}
+use Rattle.std.proofs.Common.{◌≡◌, ◌+◌, ◌/◌, ◌%◌, ◌^◌, sym, refl, ◌∙◌, add-zero, pow-suc, div-one, add-one, take-append-drop, rules}
 use native.Mathlib.Nat.{div-div-eq-div-mul}
 use Rattle.integers.specs.Positional.{low_bytes}
 use Rattle.integers.proofs.Blocks.{place_one}
@@ -10,18 +10,13 @@ pub loop-i-init : goal.loop-i-init
 unfolding low_bytes
 loop-i-init c =
     let args = c.args in
-    (search rules, refl, sym (div-one args.word), rw add-zero (sym (take-append-drop args.at args.bytes.now)))
+    (refl, sym (div-one args.word), rw add-zero (sym (take-append-drop args.at args.bytes.now)))
 
 pub loop-i-preserved : goal.loop-i-preserved
 unfolding low_bytes
 loop-i-preserved c =
     let args = c.args in
     let bytes = args.bytes.now in
-    let less : c.loop-i.rest / 256 ≡ args.word / 256 ^ (c.loop-i.i + 1) = rw (c.loop-i.invariant.2, div-div-eq-div-mul, add-one, pow-suc) in
+    let less : c.loop-i.rest / 256 ≡ args.word / 256 ^ (c.loop-i.i + 1) = rw (c.loop-i.invariant.1, div-div-eq-div-mul, add-one, pow-suc) in
     let one = place_one bytes args.at c.loop-i.i (low_bytes c.loop-i.i args.word) (length_low c.loop-i.i args.word) (c.loop-i.rest % 256) (search rules) in
-    (search rules, search rules, less, rw c.loop-i.invariant.3 (one ∙ rw (c.loop-i.invariant.2, low_add c.loop-i.i 1 args.word)))
-
-pub returns : goal.returns
-returns c =
-    let e : c.loop-i.i ≡ c.args.count = omega arith in
-    rw e at c.loop-i.invariant.3
+    (search rules, less, rw c.loop-i.invariant.2 (one ∙ rw (c.loop-i.invariant.1, low_add c.loop-i.i 1 args.word)))

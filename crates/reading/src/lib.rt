@@ -26,8 +26,8 @@ pub fn read_of_width(digits: &[u8], width: Width, out: &mut [u8]) -> Result<Read
 {
     string_verdict(digits, width)?;
     let count = significant(digits);
-    let sign = sign_of(digits, count, width.bits());
-    let size = size_of(digits, count, width.bits(), sign);
+    let sign = sign_of(digits, count, width);
+    let size = size_of(digits, count, width, sign);
     let bytes = significant(&size);
     let length = put(&size[..bytes], out)?;
     Ok(ReadBack { sign, length })

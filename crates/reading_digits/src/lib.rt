@@ -6,13 +6,12 @@
 #![tactic(auto)]
 
 ghost use Rattle.std.specs.Prelude.{◌≡◌, ◌+◌, ◌*◌, ◌%◌, ◌<◌, ◌≤◌, nat_abs, length};
-ghost use Rattle.rules.specs.Limits.{least_width, largest_width};
 ghost use Rattle.integers.specs.Positional.{bytes_value, Significant};
 ghost use Rattle.integers.specs.Signed.{sign_of};
-ghost use Rattle.digit_strings.specs.Admission.{largest_digit, string_value, DigitString};
+ghost use Rattle.digit_strings.specs.Admission.{string_value, DigitString};
 ghost use Rattle.reading_digits.specs.Sums.{SizesUpTo, raised_sum, raised_zeros, by_sign, carry_zero};
 
-use rules::STRING_DIGITS;
+use rules::{STRING_DIGITS, Width};
 
 // Enough bytes for the size of every digit string within the limit: one for every eight digits, and
 // one for the carry above them. A load of eight bytes from that one on stays within.
@@ -21,14 +20,6 @@ pub const SIZE_BYTES: usize = STRING_DIGITS / 8 + 8;
 // A carry of zero. Carries are raised by this, which is above every digit, so that none is below
 // zero.
 const CARRY_ZERO: u64 = 128;
-
-// The largest digit of a width.
-fn largest_digit(width: usize) -> u64
-    requires { (least_width ≤ width) × (width ≤ largest_width) }
-    ensures { (result ≡ largest_digit width) × (result < carry_zero) }
-{
-    (1 << (width - 1)) - 1
-}
 
 // The digit of a byte, raised by the largest.
 fn raised_digit(byte: u8, largest: u64) -> u64
@@ -41,13 +32,12 @@ fn raised_digit(byte: u8, largest: u64) -> u64
 // The sign of a string of `count` significant digits, from the highest down. What these come to is
 // kept, raised by the largest digit. Where its size is not below the largest digit, the digits below
 // come to less, and it has the sign; at width 2 that is at the highest digit.
-pub fn sign_of(digits: &[u8], count: usize, width: usize) -> u8
+pub fn sign_of(digits: &[u8], count: usize, width: Width) -> u8
     requires digit_string { DigitString width digits.now }
-    requires least_width_le_width { (least_width ≤ width) × (width ≤ largest_width) }
     requires significant { Significant digits.now count }
     ensures { result ≡ sign_of (string_value digits.now) }
 {
-    let largest = largest_digit(width);
+    let largest = u64::from(width.largest_digit());
     let twice = 2 * largest;
     let mut value = largest;
     for digit in digits[..count].iter().rev() {
@@ -98,14 +88,13 @@ fn byte_of(digits: &[u8], largest: u64, sign: u8, carry: u64) -> u64
 
 // The size of a string of `count` significant digits. With the right sign the last carry is not
 // below zero, and is the highest byte.
-pub fn size_of(digits: &[u8], count: usize, width: usize, sign: u8) -> [u8; SIZE_BYTES]
+pub fn size_of(digits: &[u8], count: usize, width: Width, sign: u8) -> [u8; SIZE_BYTES]
     requires digit_string { DigitString width digits.now }
-    requires least_width_le_width { (least_width ≤ width) × (width ≤ largest_width) }
     requires significant { Significant digits.now count }
     requires sign_value { sign ≡ sign_of (string_value digits.now) }
     ensures { bytes_value result ≡ nat_abs (string_value digits.now) }
 {
-    let largest = largest_digit(width);
+    let largest = u64::from(width.largest_digit());
     let mut size = [0u8; SIZE_BYTES];
     let mut carry = CARRY_ZERO;
     let whole = count / 8;

@@ -1,5 +1,5 @@
 -- `reading_digits::size_of` meets its contract: after k turns the k low bytes stand. Assumes nothing.
-use mathlib.Core.Path.{◌≡◌, refl}
+use mathlib.Core.Path.{◌≡◌, refl, ◌∙◌}
 use Prim.Native.Nat.{ℕ, ◌-◌, ◌+◌, ◌*◌, ◌/◌, ◌%◌}
 use native.Mathlib.Omega.{arith}
 use lib.ListN.{set, length-set}
@@ -10,12 +10,12 @@ use Rattle.reading_digits.specs.Sums.{SizesUpTo}
 use Rattle.reading_digits.proofs.Raised.{sizes_up_to, part_sizes, part_byte}
 use Rattle.reading_digits.proofs.Size.{Subtracted, subtracted_none, subtracted_step, carry_left, subtracted_all}
 use borrow.Author.Rules.{rules}
-use Rattle.reading_digits.proofs.size_of.Goals.{After-byte_of-byte-2, After-largest_digit-largest}
+use Rattle.reading_digits.proofs.size_of.Goals.{After-byte_of-byte-2, After-from-largest}
 use Rattle.reading_digits.proofs.size_of.Goals as goal
 
-sizes : (c : After-largest_digit-largest) → SizesUpTo c.largest_digit-largest.result c.args.digits.now
+sizes : (c : After-from-largest) → SizesUpTo c.from-largest.result c.args.digits.now
 sizes c =
-    rw c.largest_digit-largest.ensures.0 (sizes_up_to c.args.width c.requires.least_width_le_width.1 c.args.digits.now c.requires.digit_string)
+    rw (c.from-largest.ensures ∙ c.largest_digit.ensures.value) (sizes_up_to c.args.width c.largest_digit.ensures.range.1 c.args.digits.now c.requires.digit_string)
 
 -- the digits above the last whole byte, and the carry
 last : (c : After-byte_of-byte-2)
@@ -27,18 +27,18 @@ last c =
     let whole : ℕ = args.count / 8 in
     let k : c.loop-k.k ≡ whole = omega arith in
     let e : 8 * whole + (args.count - 8 * whole) ≡ args.count = omega arith in
-    let value = part_byte c.largest_digit-largest.result args.digits.now (8 * whole) args.count (omega arith) c.requires.significant.within args.sign c.loop-k.carry c.byte_of-byte-2.result c.byte_of-byte-2.ensures.value in
-    let all = subtracted_step c.largest_digit-largest.result args.digits.now args.sign c.loop-k.size whole c.loop-k.carry (rw k at c.loop-k.invariant.2) (args.count - 8 * whole) c.byte_of-byte-2.result (search rules) (search rules) value in
-    rw (c.requires.sign_value, e, c.largest_digit-largest.ensures.0) at all
+    let value = part_byte c.from-largest.result args.digits.now (8 * whole) args.count (omega arith) c.requires.significant.within args.sign c.loop-k.carry c.byte_of-byte-2.result c.byte_of-byte-2.ensures.value in
+    let all = subtracted_step c.from-largest.result args.digits.now args.sign c.loop-k.size whole c.loop-k.carry (rw k at c.loop-k.invariant.2) (args.count - 8 * whole) c.byte_of-byte-2.result (search rules) (search rules) value in
+    rw (c.requires.sign_value, e, (c.from-largest.ensures ∙ c.largest_digit.ensures.value)) at all
 
 pub loop-k-init : goal.loop-k-init
 loop-k-init c =
     let args = c.args in
-    (search rules, refl, subtracted_none c.largest_digit-largest.result args.digits.now args.sign (string_digits / 8 + 8))
+    (search rules, refl, subtracted_none c.from-largest.result args.digits.now args.sign (string_digits / 8 + 8))
 
 pub byte_of-byte-requires-clause-sizes_up_to : goal.byte_of-byte-requires-clause-sizes_up_to
 byte_of-byte-requires-clause-sizes_up_to c =
-    part_sizes c.largest_digit-largest.result c.args.digits.now (8 * c.loop-k.k) (8 * c.loop-k.k + 8) (omega arith) (omega arith) (sizes (goal.at.byte_of-byte-requires-clause-sizes_up_to c).After-largest_digit-largest)
+    part_sizes c.from-largest.result c.args.digits.now (8 * c.loop-k.k) (8 * c.loop-k.k + 8) (omega arith) (omega arith) (sizes (goal.at.byte_of-byte-requires-clause-sizes_up_to c).After-from-largest)
 
 pub loop-k-preserved : goal.loop-k-preserved
 loop-k-preserved c =
@@ -46,23 +46,23 @@ loop-k-preserved c =
     let k : ℕ = c.loop-k.k in
     let e : 8 * (k + 1) ≡ 8 * k + 8 = omega arith in
     let eight : 8 * k + 8 - 8 * k ≡ 8 = omega arith in
-    let value = part_byte c.largest_digit-largest.result args.digits.now (8 * k) (8 * k + 8) (omega arith) (omega arith) args.sign c.loop-k.carry c.byte_of-byte.result c.byte_of-byte.ensures.value in (
+    let value = part_byte c.from-largest.result args.digits.now (8 * k) (8 * k + 8) (omega arith) (omega arith) args.sign c.loop-k.carry c.byte_of-byte.result c.byte_of-byte.ensures.value in (
       omega (arith, c.byte_of-byte.ensures.small),
       search rules,
-      rw e (subtracted_step c.largest_digit-largest.result args.digits.now args.sign c.loop-k.size k c.loop-k.carry c.loop-k.invariant.2 8 c.byte_of-byte.result (omega arith) (search rules) (rw eight at value)),
+      rw e (subtracted_step c.from-largest.result args.digits.now args.sign c.loop-k.size k c.loop-k.carry c.loop-k.invariant.2 8 c.byte_of-byte.result (omega arith) (search rules) (rw eight at value)),
     )
 
 pub byte_of-byte-requires-2-clause-sizes_up_to : goal.byte_of-byte-requires-2-clause-sizes_up_to
 byte_of-byte-requires-2-clause-sizes_up_to c =
-    part_sizes c.largest_digit-largest.result c.args.digits.now (8 * (c.args.count / 8)) c.args.count (omega arith) (omega arith) (sizes (goal.at.byte_of-byte-requires-2-clause-sizes_up_to c).After-largest_digit-largest)
+    part_sizes c.from-largest.result c.args.digits.now (8 * (c.args.count / 8)) c.args.count (omega arith) (omega arith) (sizes (goal.at.byte_of-byte-requires-2-clause-sizes_up_to c).After-from-largest)
 
 pub overflow_sub-size : goal.overflow_sub-size
 overflow_sub-size c =
-    omega (arith, carry_left c.args.width c.requires.least_width_le_width.1 c.args.digits.now c.args.count c.requires.digit_string c.requires.significant _ _ _ (last (goal.at.overflow_sub-size c).After-byte_of-byte-2))
+    omega (arith, carry_left c.args.width c.largest_digit.ensures.range.1 c.args.digits.now c.args.count c.requires.digit_string c.requires.significant _ _ _ (last (goal.at.overflow_sub-size c).After-byte_of-byte-2))
 
 pub overflow_cast-size-3 : goal.overflow_cast-size-3
 overflow_cast-size-3 c = omega (arith, c.byte_of-byte-2.ensures.small)
 
 pub returns : goal.returns
 returns c =
-    subtracted_all c.args.width c.requires.least_width_le_width.1 c.args.digits.now c.args.count c.requires.digit_string c.requires.significant _ _ _ (last (goal.at.returns c).After-byte_of-byte-2) (simp length-set (search rules))
+    subtracted_all c.args.width c.largest_digit.ensures.range.1 c.args.digits.now c.args.count c.requires.digit_string c.requires.significant _ _ _ (last (goal.at.returns c).After-byte_of-byte-2) (simp length-set (search rules))

@@ -2,7 +2,7 @@
 #![tactic(auto)]
 
 ghost use Rattle.std.specs.Prelude.{◌≡◌, cond, ◌++◌, ◌*◌, ◌-◌, ◌≤◌, eqb, nat_abs, length, drop};
-ghost use Rattle.rules.specs.Limits.{least_width, largest_width, step_bytes};
+ghost use Rattle.rules.specs.Limits.{step_bytes};
 ghost use Rattle.integers.specs.Positional.{bytes_value};
 ghost use Rattle.numbers.specs.Admission.{Positive};
 ghost use Rattle.signed_digits.specs.Bytes.{byte_digit};
@@ -13,7 +13,7 @@ ghost use Rattle.methods.specs.WideNaf.{wide_naf_steps};
 
 use plan_writing::Cursor;
 use plan_writing::tables::{position, table_counts, table_length, write_table};
-use rules::{Counts, NUMBER_BYTES};
+use rules::{Counts, NUMBER_BYTES, Width};
 use wide_digits::recoded;
 
 // A number has at most one digit more than bits.
@@ -31,23 +31,21 @@ fn position_of(digit: u8) -> usize
 }
 
 // How many steps of the table come first. With one digit, which is the number, it is cut there.
-fn table_steps(length: usize, top: usize, width: usize) -> usize
-    requires { (least_width ≤ width) × (width ≤ largest_width) }
+fn table_steps(length: usize, top: usize, width: Width) -> usize
     ensures { result ≡ cond (eqb length 1) top (table_length (width - 1)) }
 {
     if length == 1 {
         top
     } else {
-        table_length(width - 1)
+        table_length(width.bits() - 1)
     }
 }
 
 // The counts of the steps for a number above zero: those of the table, a doubling for each digit
 // below the top one, an addition for each of these that is above zero, and a subtraction for each
 // below. A digit is odd, or zero. In sums of 16 bits the compiler counts eight digits at once.
-pub fn counts(number: &[u8], width: usize) -> Counts
+pub fn counts(number: &[u8], width: Width) -> Counts
     requires positive { Positive number.now }
-    requires least_width_le_width { (least_width ≤ width) × (width ≤ largest_width) }
     ensures { result ≡ counts_of (wide_naf_steps (bytes_value number.now) width) }
 {
     let mut digits = [0u8; DIGIT_ROOM];
@@ -67,9 +65,8 @@ pub fn counts(number: &[u8], width: usize) -> Counts
 }
 
 // Writes the steps for a number above zero.
-pub fn write(number: &[u8], width: usize, out: &mut [u8])
+pub fn write(number: &[u8], width: Width, out: &mut [u8])
     requires positive { Positive number.now }
-    requires least_width_le_width { (least_width ≤ width) × (width ≤ largest_width) }
     requires width_in_bounds { step_bytes * length (wide_naf_steps (bytes_value number.now) width) ≤ length out.old }
     ensures { out.new ≡ plan_bytes_of (wide_naf_steps (bytes_value number.now) width) ++ drop (length (plan_bytes_of (wide_naf_steps (bytes_value number.now) width))) out.old }
 {

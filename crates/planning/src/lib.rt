@@ -12,7 +12,7 @@ ghost use Rattle.planning.specs.Plan.{forecast_answer, plan_answer, plan_buffer}
 
 use methods::Method;
 use requests::requested;
-use rules::{Counts, Refusal, STEP_BYTES};
+use rules::{Counts, Refusal, STEP_BYTES, Width};
 
 // The counts of the steps that a method gives for a number. A line a method.
 #[tactic(auto, using(methods::proofs::Every::fixed_widths, methods::proofs::Every::sliding_widths, methods::proofs::Every::wide_widths))]
@@ -26,7 +26,7 @@ fn counts(number: &[u8], method: Method) -> Counts
         Method::FixedWindows(d) => method_fixed_windows::counts(number, d),
         Method::SlidingWindows(d) => method_sliding_windows::counts(number, d),
         Method::Naf => method_naf::counts(number),
-        Method::WideNaf(w) => method_wide_naf::counts(number, w),
+        Method::WideNaf(w) => method_wide_naf::counts(number, Width { bits: w }),
         Method::ModifiedNaf => method_modified_naf::counts(number),
     }
 }
@@ -44,7 +44,7 @@ fn write(number: &[u8], method: Method, out: &mut [u8])
         Method::FixedWindows(d) => method_fixed_windows::write(number, d, out),
         Method::SlidingWindows(d) => method_sliding_windows::write(number, d, out),
         Method::Naf => method_naf::write(number, out),
-        Method::WideNaf(w) => method_wide_naf::write(number, w, out),
+        Method::WideNaf(w) => method_wide_naf::write(number, Width { bits: w }, out),
         Method::ModifiedNaf => method_modified_naf::write(number, out),
     }
 }

@@ -11,7 +11,7 @@ ghost use Rattle.wide_digits.specs.Form.{Blank, turned, FormIn};
 ghost use Rattle.wide_digits.specs.Internal.{left_at, nearest};
 
 use integers::{power_of_two, whole_word_at};
-use rules::{LARGEST_WIDTH, NUMBER_BYTES};
+use rules::{LARGEST_WIDTH, NUMBER_BYTES, Width};
 
 // Of eight bytes up to seven bits stand below a place.
 const LOAD_BITS: usize = 57;
@@ -46,14 +46,15 @@ fn digit_byte(remainder: u64, half: u64, sign: u8) -> u8
 
 // Writes the digits of a number of at most `bits` bits, or those of its opposite, into a buffer of
 // zeros; answers how many there are.
-pub fn write(bytes: &[u8], bits: usize, width: usize, sign: u8, out: &mut [u8]) -> usize
-    requires least_width_le_width { (least_width ≤ width) × (width ≤ largest_width) }
+pub fn write(bytes: &[u8], bits: usize, width: Width, sign: u8, out: &mut [u8]) -> usize
     requires bytes_bound { bytes_value bytes.now ≤ 2 ^ bits }
     requires bits_in_bounds { bits / 8 + 8 ≤ length bytes.now }
     requires bits_in_bounds_2 { bits < length out.old }
     requires blank { Blank out.old }
-    ensures { FormIn width (turned sign (pos (bytes_value bytes.now))) out.new result }
+    ensures form { FormIn width (turned sign (pos (bytes_value bytes.now))) out.new result }
+    ensures range { (least_width ≤ width) × (width ≤ largest_width) }
 {
+    let width = width.bits();
     let half = power_of_two(width - 1);
     let mut place = 0;
     let mut carry: u64 = 0;
@@ -80,12 +81,12 @@ pub fn write(bytes: &[u8], bits: usize, width: usize, sign: u8, out: &mut [u8]) 
 const PADDED_BYTES: usize = NUMBER_BYTES + 8;
 
 // Writes the digits of a number within the limit into a buffer of zeros; answers how many there are.
-pub fn recoded(number: &[u8], width: usize, out: &mut [u8]) -> usize
-    requires least_width_le_width { (least_width ≤ width) × (width ≤ largest_width) }
+pub fn recoded(number: &[u8], width: Width, out: &mut [u8]) -> usize
     requires number_len_bound { length number.now ≤ number_bytes }
     requires number_in_bounds { 8 * length number.now < length out.old }
     requires blank { Blank out.old }
-    ensures { FormIn width (pos (bytes_value number.now)) out.new result }
+    ensures form { FormIn width (pos (bytes_value number.now)) out.new result }
+    ensures range { (least_width ≤ width) × (width ≤ largest_width) }
 {
     let mut padded = [0u8; PADDED_BYTES];
     padded[..number.len()].copy_from_slice(number);

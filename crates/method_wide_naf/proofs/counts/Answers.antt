@@ -21,7 +21,7 @@ module _ (c : After-recoded-length) where
   e = bytes_value c.args.number.now
 
   held : Recoded e c.args.width c.recoded-length.new.out c.recoded-length.result
-  held = record { some = search rules; wide = search rules; narrow = search rules; form = c.recoded-length.ensures }
+  held = record { some = search rules; wide = search rules; narrow = search rules; form = c.recoded-length.ensures.form }
 
   number : Plannable e
   number = plannable c.args.number.now (λ i. (c.type_inv.number i).fits) c.requires.positive
@@ -58,7 +58,6 @@ module _ (c : After-table_counts-table) where
 
 pub recoded-length-requires : goal.recoded-length-requires
 recoded-length-requires c = record {
-  least_width_le_width = search rules;
   number_len_bound = search rules;
   number_in_bounds = search rules;
   blank = zeros_blank (8 * number_bytes + 1);

@@ -30,7 +30,7 @@ module _ (c : After-recoded-length) where
   lent = c.args.out.now
 
   held : Recoded e w c.recoded-length.new.out c.recoded-length.result
-  held = record { some = search rules; wide = search rules; narrow = search rules; form = c.recoded-length.ensures }
+  held = record { some = search rules; wide = search rules; narrow = search rules; form = c.recoded-length.ensures.form }
 
 -- what is written so far, as part of all steps
 module _ (c : At-loop-i) where
@@ -41,7 +41,6 @@ module _ (c : At-loop-i) where
 
 pub recoded-length-requires : goal.recoded-length-requires
 recoded-length-requires c = record {
-  least_width_le_width = search rules;
   number_len_bound = search rules;
   number_in_bounds = search rules;
   blank = zeros_blank (8 * number_bytes + 1);

@@ -15,4 +15,4 @@ use Rattle.method_wide_naf.proofs.write.Given as goal
 
 abbrev pub invariant-loop-i : goal.invariant-loop-i
 invariant-loop-i l =
-    (length l.out ≡ length l.initial.out) × (l.i + 1 ≤ l.length) × ((lent : List ℕ) → Writing lent l.initial.out l.initial.c (at_top (wide_table (bytes_value l.number) l.width) (naf l.width (pos (bytes_value l.number)))) → Underway lent l.out l.c (at_place (bytes_value l.number) l.width) l.i (wide_naf_steps (bytes_value l.number) l.width))
+    (length l.out ≡ length l.initial.out) × (l.i + 1 ≤ l.length) × ((lent : List ℕ) → Writing lent l.initial.out l.initial.c (at_top (wide_table (bytes_value l.number) l.fn.width) (naf l.fn.width (pos (bytes_value l.number)))) → Underway lent l.out l.c (at_place (bytes_value l.number) l.fn.width) l.i (wide_naf_steps (bytes_value l.number) l.fn.width))

@@ -7,5 +7,5 @@ use Rattle.wide_digits.proofs.recoded.Goals as goal
 pub write-requires-clause-bytes_bound : goal.write-requires-clause-bytes_bound
 write-requires-clause-bytes_bound c = rw (c.copy_from_slice.ensures.after, zeros_above c.args.number.now (number_bytes + 8)) (bytes_bits c.args.number.now (λ i. (c.type_inv.number i).fits))
 
-pub returns : goal.returns
-returns c = rw (c.copy_from_slice.ensures.after, zeros_above c.args.number.now (number_bytes + 8)) at c.write.ensures
+pub returns-clause-form : goal.returns-clause-form
+returns-clause-form c = rw (c.copy_from_slice.ensures.after, zeros_above c.args.number.now (number_bytes + 8)) at c.write.ensures.form

@@ -16,18 +16,18 @@ half_fits c = rw c.power_of_two-half.ensures (pow_pos _, pow_mono {j = 7} (omega
 
 -- the digit past the trailing zeros
 taken : (c : Else-left-eq0)
-    → Taken c.args.width c.requires.least_width_le_width.0 c.requires.least_width_le_width.1 c.args.sign (bytes_value c.args.bytes.now) c.args.bits c.requires.bytes_bound c.loop-place.place c.loop-place.out
+    → Taken c.bits-width.result c.bits-width.ensures.range.0 c.bits-width.ensures.range.1 c.args.sign (bytes_value c.args.bytes.now) c.args.bits c.requires.bytes_bound c.loop-place.place c.loop-place.out
     (count_trailing_zeros 64 c.left_at-left.result) c.power_of_two-half.result (c.left_at-left.result / 2 ^ count_trailing_zeros 64 c.left_at-left.result % (2 * c.power_of_two-half.result))
 taken c =
-    digit_taken c.args.width c.requires.least_width_le_width.0 c.requires.least_width_le_width.1 c.args.sign (bytes_value c.args.bytes.now) c.args.bits c.requires.bytes_bound c.loop-place.place c.loop-place.carry c.loop-place.length c.loop-place.out c.loop-place.invariant.3 (omega arith) c.left_at-left.result c.power_of_two-half.result c.left_at-left.ensures c.if-left-eq0.false c.power_of_two-half.ensures
+    digit_taken c.bits-width.result c.bits-width.ensures.range.0 c.bits-width.ensures.range.1 c.args.sign (bytes_value c.args.bytes.now) c.args.bits c.requires.bytes_bound c.loop-place.place c.loop-place.carry c.loop-place.length c.loop-place.out c.loop-place.invariant.3 (omega arith) c.left_at-left.result c.power_of_two-half.result c.left_at-left.ensures c.if-left-eq0.false c.power_of_two-half.ensures
 
 pub loop-place-init : goal.loop-place-init
 loop-place-init c =
-    (search rules, search rules, refl, scanned_none c.args.width c.args.sign (bytes_value c.args.bytes.now) c.args.out.now c.requires.blank)
+    (search rules, search rules, refl, scanned_none c.bits-width.result c.args.sign (bytes_value c.args.bytes.now) c.args.out.now c.requires.blank)
 
 pub loop-place-preserved-then-left-eq0 : goal.loop-place-preserved-then-left-eq0
 loop-place-preserved-then-left-eq0 c =
-    (search rules, search rules, search rules, scanned_blank c.args.width c.requires.least_width_le_width.0 c.requires.least_width_le_width.1 c.args.sign (bytes_value c.args.bytes.now) c.loop-place.place c.loop-place.carry c.loop-place.length c.loop-place.out c.loop-place.invariant.3 blank_places (omega arith) (rw c.left_at-left.ensures at c.if-left-eq0.true))
+    (search rules, search rules, search rules, scanned_blank c.bits-width.result c.bits-width.ensures.range.0 c.bits-width.ensures.range.1 c.args.sign (bytes_value c.args.bytes.now) c.loop-place.place c.loop-place.carry c.loop-place.length c.loop-place.out c.loop-place.invariant.3 blank_places (omega arith) (rw c.left_at-left.ensures at c.if-left-eq0.true))
 
 pub overflow_cast-zeros : goal.overflow_cast-zeros
 overflow_cast-zeros c = omega (arith, (taken (goal.at.overflow_cast-zeros c).Else-left-eq0).few)
@@ -71,6 +71,7 @@ loop-place-preserved c =
     let t = taken (goal.at.loop-place-preserved c).Else-left-eq0 in
     (omega (arith, t.within), t.scanned.small, search rules, rw c.digit_byte.ensures t.scanned)
 
-pub returns : goal.returns
-returns c =
-    scanned_all c.args.width c.requires.least_width_le_width.0 c.requires.least_width_le_width.1 c.args.sign (bytes_value c.args.bytes.now) c.args.bits c.requires.bytes_bound c.loop-place.place c.loop-place.carry c.loop-place.length c.loop-place.out c.loop-place.invariant.3 (search rules) (omega arith)
+pub returns-clause-form : goal.returns-clause-form
+returns-clause-form c =
+    rw (← c.bits-width.ensures.value)
+    (scanned_all c.bits-width.result c.bits-width.ensures.range.0 c.bits-width.ensures.range.1 c.args.sign (bytes_value c.args.bytes.now) c.args.bits c.requires.bytes_bound c.loop-place.place c.loop-place.carry c.loop-place.length c.loop-place.out c.loop-place.invariant.3 (search rules) (omega arith))

@@ -3,13 +3,13 @@
 #![tactic(auto)]
 
 ghost use Rattle.std.specs.Prelude.{◌≡◌};
-ghost use Rattle.c_answers.specs.Answers.{refused_fields, started_fields, written_fields, read_fields, counted_fields, accepted_fields, checked_fields, limit_fields, hexadecimal_fields, decimal_fields};
+ghost use Rattle.c_answers.specs.Answers.{started_fields, written_fields, read_fields, counted_fields, checked_fields, limit_fields, hexadecimal_fields, decimal_fields};
 
+use decimal::NotDecimal;
 use reading::ReadBack;
-use rules::{Accepted, Counts, Refusal};
-use taking::Start;
+use rules::Refusal;
 
-// What the start of taking answers.
+// The refusal alone, as the start of taking answers it.
 #[repr(C)]
 #[derive(Drop)]
 pub struct Started {
@@ -81,163 +81,144 @@ pub struct Limits {
     pub record_bytes: usize,
 }
 
-pub fn of_limits(limits: rules::Limits) -> Limits
-    ensures { result ≡ limit_fields limits }
-{
-    Limits {
-        number_bytes: limits.number_bytes,
-        string_digits: limits.string_digits,
-        step_bytes: limits.step_bytes,
-        plan_steps: limits.plan_steps,
-        value_bytes: limits.value_bytes,
-        record_bytes: limits.record_bytes,
-    }
-}
+// What stands beside a refusal.
+const NO_COUNTS: rules::Counts = rules::Counts {
+    doublings: 0,
+    additions: 0,
+    subtractions: 0,
+};
 
-// A refusal, by its number and place.
-fn refused(refusal: Refusal) -> Started
-    ensures { result ≡ refused_fields refusal }
-{
-    Started {
-        refusal: refusal.number() as usize,
-        place: refusal.place(),
-    }
-}
+// The refusal of any answer. Those below take it from here.
+impl<T: Drop> From<Result<T, Refusal>> for Started {
+    ghost from_gives = { λ answer fields. fields ≡ started_fields answer };
 
-pub fn of_start(answer: Start) -> Started
-    ensures { result ≡ started_fields answer }
-{
-    match answer {
-        Start::Ready => Started {
-            refusal: 0,
-            place: 0,
-        },
-        Start::Refused(refusal) => refused(refusal),
-    }
-}
-
-pub fn of_written(answer: Written) -> Length
-    ensures { result ≡ written_fields answer }
-{
-    match answer {
-        Ok(length) => Length {
-            refusal: 0,
-            place: 0,
-            length,
-        },
-        Err(refusal) => {
-            let given = refused(refusal);
-            Length {
-                refusal: given.refusal,
-                place: given.place,
-                length: 0,
-            }
+    fn from(answer: Result<T, Refusal>) -> Self {
+        match answer {
+            Ok(_) => Started {
+                refusal: 0,
+                place: 0,
+            },
+            Err(refusal) => Started {
+                refusal: usize::from(refusal.number()),
+                place: refusal.place(),
+            },
         }
     }
 }
 
-pub fn of_read_back(answer: ReadBack) -> Value
-    ensures { result ≡ read_fields answer }
-{
-    match answer {
-        ReadBack::Value { sign, length } => Value {
-            refusal: 0,
-            place: 0,
-            sign: sign as usize,
-            length,
-        },
-        Err(refusal) => {
-            let given = refused(refusal);
-            Value {
-                refusal: given.refusal,
-                place: given.place,
-                sign: 0,
-                length: 0,
-            }
+impl From<Result<usize, Refusal>> for Length {
+    ghost from_gives = { λ answer fields. fields ≡ written_fields answer };
+
+    fn from(answer: Result<usize, Refusal>) -> Self {
+        let Started { refusal, place } = Started::from(answer);
+        Length {
+            refusal,
+            place,
+            length: answer.unwrap_or(0),
         }
     }
 }
 
-pub fn of_counted(answer: Counted) -> Counts
-    ensures { result ≡ counted_fields answer }
-{
-    match answer {
-        Ok(counts) => Counts {
-            refusal: 0,
-            place: 0,
+impl From<Result<ReadBack, Refusal>> for Value {
+    ghost from_gives = { λ answer fields. fields ≡ read_fields answer };
+
+    fn from(answer: Result<ReadBack, Refusal>) -> Self {
+        let Started { refusal, place } = Started::from(answer);
+        let value = answer.unwrap_or(ReadBack { sign: 0, length: 0 });
+        Value {
+            refusal,
+            place,
+            sign: usize::from(value.sign),
+            length: value.length,
+        }
+    }
+}
+
+impl From<Result<rules::Counts, Refusal>> for Counts {
+    ghost from_gives = { λ answer fields. fields ≡ counted_fields answer };
+
+    fn from(answer: Result<rules::Counts, Refusal>) -> Self {
+        let Started { refusal, place } = Started::from(answer);
+        let counts = answer.unwrap_or(NO_COUNTS);
+        Counts {
+            refusal,
+            place,
             doublings: counts.doublings,
             additions: counts.additions,
             subtractions: counts.subtractions,
-        },
-        Err(refusal) => {
-            let given = refused(refusal);
-            Counts {
-                refusal: given.refusal,
-                place: given.place,
-                doublings: 0,
-                additions: 0,
-                subtractions: 0,
-            }
         }
     }
 }
 
-// The counts or the refusal, with the bits that go with them.
-fn with_bits(counted: Counts, largest_bits: usize) -> Accepted
-    ensures { result ≡ accepted_fields counted largest_bits }
-{
-    Accepted {
-        refusal: counted.refusal,
-        place: counted.place,
-        doublings: counted.doublings,
-        additions: counted.additions,
-        subtractions: counted.subtractions,
-        largest_bits,
-    }
-}
+impl From<Result<rules::Accepted, Refusal>> for Accepted {
+    ghost from_gives = { λ answer fields. fields ≡ checked_fields answer };
 
-pub fn of_checked(answer: Checked) -> Accepted
-    ensures { result ≡ checked_fields answer }
-{
-    match answer {
-        Checked::Accepted {
-            counts,
-            largest_bits,
-        } => with_bits(of_counted(Ok(counts)), largest_bits),
-        Err(refusal) => with_bits(of_counted(Err(refusal)), 0),
-    }
-}
-
-pub fn of_hexadecimal(answer: hexadecimal::Parsed) -> Parsed
-    ensures { result ≡ hexadecimal_fields answer }
-{
-    match answer {
-        hexadecimal::Parsed::Bytes(length) => Parsed {
-            is_number: 1,
-            place: 0,
-            length,
-        },
-        hexadecimal::Parsed::NotHex => Parsed {
-            is_number: 0,
-            place: 0,
-            length: 0,
-        },
-    }
-}
-
-pub fn of_decimal(answer: decimal::Parsed) -> Parsed
-    ensures { result ≡ decimal_fields answer }
-{
-    match answer {
-        decimal::Parsed::Bytes(length) => Parsed {
-            is_number: 1,
-            place: 0,
-            length,
-        },
-        decimal::Parsed::NotDecimal(place) => Parsed {
-            is_number: 0,
+    fn from(answer: Result<rules::Accepted, Refusal>) -> Self {
+        let Started { refusal, place } = Started::from(answer);
+        let accepted = answer.unwrap_or(rules::Accepted {
+            counts: NO_COUNTS,
+            largest_bits: 0,
+        });
+        Accepted {
+            refusal,
             place,
-            length: 0,
-        },
+            doublings: accepted.counts.doublings,
+            additions: accepted.counts.additions,
+            subtractions: accepted.counts.subtractions,
+            largest_bits: accepted.largest_bits,
+        }
+    }
+}
+
+impl From<Option<usize>> for Parsed {
+    ghost from_gives = { λ answer fields. fields ≡ hexadecimal_fields answer };
+
+    fn from(answer: Option<usize>) -> Self {
+        match answer {
+            Some(length) => Parsed {
+                is_number: 1,
+                place: 0,
+                length,
+            },
+            None => Parsed {
+                is_number: 0,
+                place: 0,
+                length: 0,
+            },
+        }
+    }
+}
+
+impl From<Result<usize, NotDecimal>> for Parsed {
+    ghost from_gives = { λ answer fields. fields ≡ decimal_fields answer };
+
+    fn from(answer: Result<usize, NotDecimal>) -> Self {
+        match answer {
+            Ok(length) => Parsed {
+                is_number: 1,
+                place: 0,
+                length,
+            },
+            Err(NotDecimal { digits }) => Parsed {
+                is_number: 0,
+                place: digits,
+                length: 0,
+            },
+        }
+    }
+}
+
+impl From<rules::Limits> for Limits {
+    ghost from_gives = { λ limits fields. fields ≡ limit_fields limits };
+
+    fn from(limits: rules::Limits) -> Self {
+        Limits {
+            number_bytes: limits.number_bytes,
+            string_digits: limits.string_digits,
+            step_bytes: limits.step_bytes,
+            plan_steps: limits.plan_steps,
+            value_bytes: limits.value_bytes,
+            record_bytes: limits.record_bytes,
+        }
     }
 }

@@ -31,7 +31,7 @@ pub fn lesmutka_recode(number: &[u8], out: &mut [u8]) -> Length
     ensures answer { result ≡ written_fields (recode_answer number.now (length out.old)) }
     ensures buffer { out.new ≡ recode_buffer number.now out.old }
 {
-    c_answers::of_written(recoding::recode(number, out))
+    Length::from(recoding::recode(number, out))
 }
 
 // The same by words.
@@ -39,7 +39,7 @@ pub fn lesmutka_recode_words(number: &[u8], out: &mut [u8]) -> Length
     ensures answer { result ≡ written_fields (recode_answer number.now (length out.old)) }
     ensures buffer { out.new ≡ recode_buffer number.now out.old }
 {
-    c_answers::of_written(recoding_words::recode_words(number, out))
+    Length::from(recoding_words::recode_words(number, out))
 }
 
 // Writes the modified form of a number.
@@ -47,7 +47,7 @@ pub fn lesmutka_recode_modified(number: &[u8], out: &mut [u8]) -> Length
     ensures answer { result ≡ written_fields (recode_modified_answer number.now (length out.old)) }
     ensures buffer { out.new ≡ recode_modified_buffer number.now out.old }
 {
-    c_answers::of_written(recoding_modified::recode_modified(number, out))
+    Length::from(recoding_modified::recode_modified(number, out))
 }
 
 // Starts taking the digits of a number, in a recoder that the caller keeps.
@@ -57,8 +57,7 @@ pub fn lesmutka_start(number: &[u8], recoder: &mut [u64; KEPT_WORDS]) -> Started
 {
     let started = Recoder::start(number);
     *recoder = kept_of(started.recoder);
-    let answer = started.answer;
-    c_answers::of_start(answer)
+    Started::from(started.answer)
 }
 
 // Takes the lowest digit that is left.
@@ -73,7 +72,7 @@ pub fn lesmutka_clean(digits: &[u8], out: &mut [u8]) -> Length
     ensures answer { result ≡ written_fields (clean_answer digits.now (length out.old)) }
     ensures buffer { out.new ≡ clean_buffer digits.now out.old }
 {
-    c_answers::of_written(cleaning::clean(digits, out))
+    Length::from(cleaning::clean(digits, out))
 }
 
 // Writes the size of a digit string's value.
@@ -81,7 +80,7 @@ pub fn lesmutka_read_back(digits: &[u8], out: &mut [u8]) -> Value
     ensures answer { result ≡ read_fields (read_back_answer digits.now (length out.old)) }
     ensures buffer { out.new ≡ read_back_buffer digits.now out.old }
 {
-    c_answers::of_read_back(reading::read_back(digits, out))
+    Value::from(reading::read_back(digits, out))
 }
 
 // The same three for digits of a width.
@@ -89,21 +88,21 @@ pub fn lesmutka_recode_wide(number: &[u8], width: u32, out: &mut [u8]) -> Length
     ensures answer { result ≡ written_fields (recode_wide_answer width number.now (length out.old)) }
     ensures buffer { out.new ≡ recode_wide_buffer width number.now out.old }
 {
-    c_answers::of_written(recoding_wide::recode_wide(number, width, out))
+    Length::from(recoding_wide::recode_wide(number, width, out))
 }
 
 pub fn lesmutka_clean_wide(digits: &[u8], width: u32, out: &mut [u8]) -> Length
     ensures answer { result ≡ written_fields (clean_wide_answer width digits.now (length out.old)) }
     ensures buffer { out.new ≡ clean_wide_buffer width digits.now out.old }
 {
-    c_answers::of_written(cleaning_wide::clean_wide(digits, width, out))
+    Length::from(cleaning_wide::clean_wide(digits, width, out))
 }
 
 pub fn lesmutka_read_back_wide(digits: &[u8], width: u32, out: &mut [u8]) -> Value
     ensures answer { result ≡ read_fields (read_back_wide_answer width digits.now (length out.old)) }
     ensures buffer { out.new ≡ read_back_wide_buffer width digits.now out.old }
 {
-    c_answers::of_read_back(reading_wide::read_back_wide(digits, width, out))
+    Value::from(reading_wide::read_back_wide(digits, width, out))
 }
 
 // Writes the plan for a number by a method.
@@ -111,14 +110,14 @@ pub fn lesmutka_plan(number: &[u8], method: u32, width: u32, out: &mut [u8]) -> 
     ensures answer { result ≡ counted_fields (plan_answer number.now method width (length out.old)) }
     ensures buffer { out.new ≡ plan_buffer number.now method width out.old }
 {
-    c_answers::of_counted(planning::plan(number, method, width, out))
+    Counts::from(planning::plan(number, method, width, out))
 }
 
 // The counts of that plan's steps.
 pub fn lesmutka_forecast(number: &[u8], method: u32, width: u32) -> Counts
     ensures { result ≡ counted_fields (forecast_answer number.now method width) }
 {
-    c_answers::of_counted(planning::forecast(number, method, width))
+    Counts::from(planning::forecast(number, method, width))
 }
 
 // Checks a plan for a number, in a lent work space.
@@ -126,14 +125,14 @@ pub fn lesmutka_check(number: &[u8], plan: &[u8], space: &mut [u8]) -> Accepted
     ensures answer { result ≡ checked_fields (check_answer number.now plan.now (length space.old)) }
     ensures space { space.new ≡ check_space number.now plan.now space.old }
 {
-    c_answers::of_checked(checking::check(number, plan, space))
+    Accepted::from(checking::check(number, plan, space))
 }
 
 // The limits that the library keeps.
 pub fn lesmutka_limits() -> Limits
     ensures { result ≡ limit_fields documented }
 {
-    c_answers::of_limits(rules::current())
+    Limits::from(rules::current())
 }
 
 // Writes the number of a hexadecimal text.
@@ -141,7 +140,7 @@ pub fn lesmutka_hexadecimal(text: &[u8], out: &mut [u8]) -> Parsed
     ensures answer { result ≡ hexadecimal_fields (hexadecimal_text.parsed (hexadecimal_text.without_prefix text.now) (length out.old)) }
     ensures buffer { out.new ≡ hexadecimal_text.parsed_buffer (hexadecimal_text.without_prefix text.now) out.old }
 {
-    c_answers::of_hexadecimal(hexadecimal::parse(text, out))
+    Parsed::from(hexadecimal::parse(text, out))
 }
 
 // Writes the number of a decimal text.
@@ -149,7 +148,7 @@ pub fn lesmutka_decimal(text: &[u8], out: &mut [u8]) -> Parsed
     ensures answer { result ≡ decimal_fields (decimal_text.parsed text.now (length out.old)) }
     ensures buffer { out.new ≡ decimal_text.parsed_buffer text.now out.old }
 {
-    c_answers::of_decimal(decimal::parse(text, out))
+    Parsed::from(decimal::parse(text, out))
 }
 
 // The version of the library.
@@ -164,7 +163,7 @@ pub fn lesmutka_write_words(refusal: usize, out: &mut [u8]) -> Length
     ensures answer { result ≡ written_fields (words_answer refusal (length out.old)) }
     ensures buffer { out.new ≡ words_buffer refusal out.old }
 {
-    c_answers::of_written(refusal_words::write_words(refusal, out))
+    Length::from(refusal_words::write_words(refusal, out))
 }
 
 // Writes the digits of a text.
@@ -172,7 +171,7 @@ pub fn lesmutka_read_digits(text: &[u8], out: &mut [u8]) -> Length
     ensures answer { result ≡ written_fields (digits_answer text.now (length out.old)) }
     ensures buffer { out.new ≡ digits_buffer text.now out.old }
 {
-    c_answers::of_written(digit_text::read_digits(text, out))
+    Length::from(digit_text::read_digits(text, out))
 }
 
 // Writes the plan of a text, a word for each step.
@@ -180,5 +179,5 @@ pub fn lesmutka_read_steps(text: &[u8], out: &mut [u8]) -> Length
     ensures answer { result ≡ written_fields (steps_answer text.now (length out.old)) }
     ensures buffer { out.new ≡ steps_buffer text.now out.old }
 {
-    c_answers::of_written(step_text::read_steps(text, out))
+    Length::from(step_text::read_steps(text, out))
 }

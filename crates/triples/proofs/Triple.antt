@@ -1,31 +1,9 @@
 -- Three times a number, by words. Assumes nothing.
-use Rattle.std.proofs.Common.{◌≡◌, ℕ, suc, ◌+◌, ◌*◌, ◌/◌, ◌%◌, ◌^◌, ◌<◌, ◌≤◌, ltb, List, length, get_or, take, set, sym, refl, pow-suc, mul_left_comm, add-one, arith, length-set, take_all, get_or-set_same}
+use Rattle.std.proofs.Common.{◌≡◌, ℕ, suc, ◌+◌, ◌*◌, ◌^◌, ◌<◌, ◌≤◌, List, length, get_or, take, set, sym, refl, pow-suc, mul_left_comm, add-one, arith, length-set, take_all, get_or-set_same}
 use lib.Seq.{take-set-le}
-use mir.Val.{bool_byte}
 use Rattle.integers.specs.Positional.{positional, words_value}
 use Rattle.integers.proofs.Positional.{positional_take}
-use Rattle.integers.proofs.Bits.{bool_small}
-use Rattle.words.proofs.Carry.{wrapped, one_more}
-
--- whether either sum has wrapped
-pub tests_small : (w both sum : ℕ) → (bool_byte (ltb both w) ≤ 1) × (bool_byte (ltb sum both) ≤ 1)
-tests_small w both sum = (bool_small (ltb both w), bool_small (ltb sum both))
-
--- the word of 2 e, and what is shifted out of it
-doubled : (w : ℕ) → w < 2 ^ 64 → w * 2 ^ 1 % 2 ^ 64 + 2 ^ 64 * (w / 2 ^ 63) ≡ 2 * w
-doubled w h = omega arith
-
--- what a word carries: what is shifted out, and one for each sum that has wrapped
-summed : (w c d both sum h p q : ℕ) → d + 2 ^ 64 * h ≡ 2 * w → both + 2 ^ 64 * p ≡ w + d → sum + 2 ^ 64 * q ≡ both + c
-    → sum + 2 ^ 64 * (h + p + q) ≡ 3 * w + c
-summed w c d both sum h p q ed eb es = omega arith
-
-pub word_law : (w c both sum : ℕ) → w < 2 ^ 64 → c ≤ 2 → both ≡ (w + w * 2 ^ 1 % 2 ^ 64) % 2 ^ 64 → sum ≡ (both + c) % 2 ^ 64
-    → sum + 2 ^ 64 * (w / 2 ^ 63 + bool_byte (ltb both w) + bool_byte (ltb sum both)) ≡ 3 * w + c
-word_law w c both sum hw hc eb es =
-    let d : ℕ = w * 2 ^ 1 % 2 ^ 64 in
-    summed w c d both sum (w / 2 ^ 63) (bool_byte (ltb both w)) (bool_byte (ltb sum both)) (doubled w hw) (wrapped w d both hw (omega arith) eb)
-    (wrapped both c sum (omega arith) (omega arith) es)
+use Rattle.words.proofs.Carry.{one_more}
 
 -- a word carries no more than is carried to it
 pub carry_small : (w c t next : ℕ) → w < 2 ^ 64 → c ≤ 2 → t + 2 ^ 64 * next ≡ 3 * w + c → next ≤ 2

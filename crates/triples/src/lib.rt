@@ -29,11 +29,11 @@ pub fn triple_word(word: u64, carry: u64) -> TripleWord
     requires { carry ≤ 2 }
     ensures { result.word + 2 ^ 64 * result.carry ≡ 3 * word + carry }
 {
-    let both = std::num::wrapping_add_u64(word, word << 1);
-    let sum = std::num::wrapping_add_u64(both, carry);
+    let both = word.wrapping_add(word << 1);
+    let sum = both.wrapping_add(carry);
     TripleWord {
         word: sum,
-        carry: (word >> 63) + (both < word) as u64 + (sum < both) as u64,
+        carry: (word >> 63) + u64::from(both < word) + u64::from(sum < both),
     }
 }
 
@@ -41,18 +41,14 @@ pub fn triple_word(word: u64, carry: u64) -> TripleWord
 pub fn tripled(words: &[u64; NUMBER_WORDS]) -> [u64; TRIPLE_WORDS]
     ensures { words_value result ≡ 3 * words_value words.now }
 {
-    // As a slice, of which the proof knows that each word fits.
-    let slice: &[u64] = words;
     let mut triple = [0u64; TRIPLE_WORDS];
-    let mut carry: u64 = 0;
-    let mut k = 0;
-    while k < NUMBER_WORDS {
-        let next = triple_word(slice[k], carry);
+    let mut carry = 0;
+    for (k, word) in words.iter().enumerate() {
+        let next = triple_word(*word, carry);
         triple[k] = next.word;
         carry = next.carry;
-        k += 1;
     }
-    triple[k] = carry;
+    triple[NUMBER_WORDS] = carry;
     triple
 }
 
@@ -73,5 +69,5 @@ pub fn count(number: &[u8], triple: &[u64]) -> usize
 pub fn saved(triple: &[u64], count: usize) -> usize
     ensures { (e : ℕ) → words_value triple.now ≡ 3 * e → count ≡ length (canonical (pos e)) → result ≡ saved e }
 {
-    (bits_down(triple, count) >> 61 == 4) as usize
+    usize::from(bits_down(triple, count) >> 61 == 4)
 }

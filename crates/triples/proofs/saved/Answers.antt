@@ -4,4 +4,4 @@ use Rattle.triples.proofs.Digits.{saved_is}
 use Rattle.triples.proofs.saved.Goals as goal
 
 pub returns : goal.returns
-returns c = λ e whole count. saved_is e _ _ count (c.bits_down.ensures ∙ rw whole)
+returns c = λ e whole count. c.from.ensures ∙ saved_is e _ _ count (c.bits_down.ensures ∙ rw whole)

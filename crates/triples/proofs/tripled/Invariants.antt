@@ -1,12 +1,9 @@
 -- `triples::tripled` meets its contract: the words below k are those of 3 e. Assumes nothing.
-use Rattle.std.proofs.Common.{◌≡◌, ◌+◌, ◌-◌, ◌≤◌, length}
+use Rattle.std.proofs.Common.{◌≡◌, ◌+◌, ◌≤◌, length}
 use Rattle.rules.specs.Limits.{number_words}
 use Rattle.triples.proofs.Triple.{Tripled}
 use Rattle.triples.proofs.tripled.Given as goal
 
 abbrev pub invariant-loop-k : goal.invariant-loop-k
 invariant-loop-k l =
-    (l.k ≤ number_words) × (length l.triple ≡ number_words + 1) × (l.carry ≤ 2) × Tripled l.k l.words l.triple l.carry
-
-abbrev pub decreases-loop-k : goal.decreases-loop-k
-decreases-loop-k l = number_words - l.k
+    (length l.triple ≡ number_words + 1) × (l.carry ≤ 2) × Tripled l.k l.words l.triple l.carry

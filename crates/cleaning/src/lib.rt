@@ -6,10 +6,10 @@ ghost use Rattle.cleaning.specs.Clean.{clean_answer, clean_buffer};
 
 use cleaning_digits::{count, write};
 use digit_strings::string_verdict;
-use rules::Refusal;
+use rules::{Refusal, Width};
 
 // Writes the canonical string of a digit string's value, lowest digit first.
-#[tactic(auto, using(crate::proofs::Outcomes::string_within, crate::proofs::Outcomes::string_digit, crate::proofs::Outcomes::refused_room, crate::proofs::Outcomes::enough_room, crate::proofs::Outcomes::cleaning_written))]
+#[tactic(auto, using(digit_strings::proofs::Tests::digit_string_is, rules::proofs::Fitted::too_small, rules::proofs::Fitted::fits, crate::proofs::Outcomes::length_cleaning, crate::proofs::Outcomes::cleaning_written))]
 pub fn clean(digits: &[u8], out: &mut [u8]) -> Result<usize, Refusal>
     ensures answer { result ≡ clean_answer digits.now (length out.old) }
     ensures buffer { out.new ≡ clean_buffer digits.now out.old }

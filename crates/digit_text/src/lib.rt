@@ -33,7 +33,7 @@ pub fn read_digits(text: &[u8], out: &mut [u8]) -> Result<usize, Refusal>
     if out.len() < n {
         return Err(Refusal::RoomTooSmall(n));
     }
-    for (place, word) in (0..n).rev().zip(TextWords { text }) {
+    for (place, word) in (0..n).rev().zip(TextWords(text)) {
         out[place] = digit_of(word);
     }
     Ok(n)

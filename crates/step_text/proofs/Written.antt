@@ -3,7 +3,7 @@ use Rattle.rules.specs.declared.Refusal.{Refusal}
 use Rattle.std.specs.Prelude.{Result, Ok, Err}
 use mathlib.Core.Path.{◌≡◌, refl, sym, ap, ◌∙◌}
 use mathlib.Core.List.{List, [], ◌∷◌, ◌++◌, map, append_assoc, append-nil}
-use Prim.Native.Nat.{ℕ, ◌+◌, ◌-◌, ◌*◌, ◌<◌, ◌≤◌}
+use Prim.Native.Nat.{ℕ, ◌+◌, ◌*◌, ◌<◌, ◌≤◌}
 use native.Mathlib.Decide.{dec_lt}
 use native.Mathlib.Omega.{arith}
 use borrow.Author.Tests.{lt-ltb, le-ltb}
@@ -13,8 +13,7 @@ use Rattle.rules.specs.Limits.{step_bytes, plan_steps}
 use Rattle.rules.specs.declared.Refusal.TheVariants.{PlanLength}
 use Rattle.chains.specs.Steps.{Step, step_bytes_of, plan_bytes_of}
 use Rattle.chains.proofs.Bytes.{length_plan}
-use Rattle.text_words.specs.Words.{ended, text_words}
-use Rattle.text_words.proofs.Words.{next_is_first}
+use Rattle.text_words.specs.Words.{text_words}
 use Rattle.step_words.specs.Word.{word_step}
 use Rattle.step_text.specs.Steps.{text_steps, count_test}
 
@@ -50,57 +49,48 @@ unfolding text_steps plan_bytes_of
 first_step text word rest e = ap (λ (words : List (List ℕ)). plan_bytes_of (map word_step words)) e
 
 -- what is written of the first n words, and what is left to read
-pub record Underway (text lent : List ℕ) (from n : ℕ) (out : List ℕ) : Type 0 where
-  pub within : from ≤ length text
+pub record Underway (text lent rest : List ℕ) (n : ℕ) (out : List ℕ) : Type 0 where
   pub long : length out ≡ length lent
   pub room : step_bytes * length (text_words text) ≤ length lent
-  pub words : n + length (text_words (drop from text)) ≡ length (text_words text)
-  pub bytes : take (step_bytes * n) out ++ text_steps (drop from text) ≡ text_steps text
+  pub words : n + length (text_words rest) ≡ length (text_words text)
+  pub bytes : take (step_bytes * n) out ++ text_steps rest ≡ text_steps text
   pub above : drop (step_bytes * n) out ≡ drop (step_bytes * n) lent
 
-pub start : (text out : List ℕ) → step_bytes * length (text_words text) ≤ length out → Underway text out 0 0 out
-start text out h = record {
-  within = omega arith;
-  long = refl;
-  room = h;
-  words = omega arith;
-  bytes = refl;
-  above = refl;
-}
+pub start : (text out : List ℕ) → step_bytes * length (text_words text) ≤ length out → Underway text out text 0 out
+start text out h = record { long = refl; room = h; words = omega arith; bytes = refl; above = refl }
 
-module _ (text lent : List ℕ) (from n : ℕ) (out : List ℕ) (u : Underway text lent from n out) where
+module _ (text lent rest : List ℕ) (n : ℕ) (out : List ℕ) (u : Underway text lent rest n out) where
   -- at the end all are written
-  pub finish : n ≡ length (text_words text) → out ≡ text_steps text ++ drop (step_bytes * n) lent
+  pub finish : length (text_words rest) ≡ 0 → out ≡ text_steps text ++ drop (step_bytes * length (text_words text)) lent
   finish e =
-      let none : text_steps (drop from text) ≡ [] = no_bytes (text_steps (drop from text)) (omega (arith, length_steps (drop from text), u.words)) in
+      let none : text_steps rest ≡ [] = no_bytes (text_steps rest) (omega (arith, length_steps rest)) in
       let all : take (step_bytes * n) out ≡ text_steps text = sym (append-nil (take (step_bytes * n) out)) ∙ (rw none at u.bytes) in
-      sym (take-append-drop (step_bytes * n) out) ∙ rw (all, u.above)
+      let whole : length (text_words text) ≡ n = omega (arith, u.words) in
+      rw whole (sym (take-append-drop (step_bytes * n) out) ∙ rw (all, u.above))
     where
       no_bytes : (l : List ℕ) → length l ≡ 0 → l ≡ []
       no_bytes [] h = refl
       no_bytes (x ∷ l) h = absurd (omega arith)
 
   -- one word more
-  module _ (less : n < length (text_words text)) (first last : ℕ) (ordered : first ≤ last) (inside : last ≤ length text)
-      (next : text_words (drop from text) ≡ ended (take (last - first) (drop first text)) ++ text_words (drop last text)) (empty : first ≡ last → last ≡ length text) where
-    found : text_words (drop from text) ≡ take (last - first) (drop first text) ∷ text_words (drop last text)
-    found = next_is_first text from first last ordered inside empty next (omega (arith, u.words))
+  module _ (word after : List ℕ) (next : text_words rest ≡ word ∷ text_words after) where
+    pub room_more : step_bytes * n + step_bytes ≤ length out
+    room_more = omega (arith, u.room, u.long, u.words, ap length next)
 
-    pub step_more : (s : Step) → s ≡ word_step (take (last - first) (drop first text)) → {out' : List ℕ} → out' ≡ take (step_bytes * n) out ++ (step_bytes_of s ++ drop (step_bytes * n + step_bytes) out)
-        → Underway text lent last (n + 1) out'
+    pub step_more : (s : Step) → s ≡ word_step word → {out' : List ℕ} → out' ≡ take (step_bytes * n) out ++ (step_bytes_of s ++ drop (step_bytes * n + step_bytes) out)
+        → Underway text lent after (n + 1) out'
     step_more s e {out' = out'} p =
         let m : ℕ = step_bytes * n in
         let front : List ℕ = take m out ++ step_bytes_of s in
         let above : List ℕ = drop (m + step_bytes) out in
         let next_place : step_bytes * (n + 1) ≡ m + step_bytes = omega arith in
-        let fits : m + step_bytes ≤ length out = omega (arith, u.room, u.long) in
+        let fits : m + step_bytes ≤ length out = room_more in
         let size : length front ≡ m + step_bytes = rw (length-append (take m out) (step_bytes_of s), length-take-le m out (omega arith), length_step s) in
         let made : out' ≡ front ++ above = p ∙ sym (append_assoc (take m out) (step_bytes_of s) above) in
         record {
-          within = inside;
           long = ap length made ∙ length-append front above ∙ omega (arith, size, length-drop (m + step_bytes) out, u.long);
           room = u.room;
-          words = omega (arith, u.words, ap length found);
-          bytes = rw (made, next_place, take_at front above (m + step_bytes) size, append_assoc (take m out) (step_bytes_of s) (text_steps (drop last text)), e, ← first_step (drop from text) (take (last - first) (drop first text)) (drop last text) found) u.bytes;
+          words = omega (arith, u.words, ap length next);
+          bytes = rw (made, next_place, take_at front above (m + step_bytes) size, append_assoc (take m out) (step_bytes_of s) (text_steps after), e, ← first_step rest word after next) u.bytes;
           above = rw (made, next_place, drop_at front above (m + step_bytes) size, ← drop-drop step_bytes m out, u.above) (drop-drop step_bytes m lent);
         }

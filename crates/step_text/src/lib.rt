@@ -7,7 +7,7 @@ ghost use Rattle.step_text.specs.Steps.{steps_answer, steps_buffer};
 use plan_writing::put;
 use rules::{PLAN_STEPS, Refusal, STEP_BYTES};
 use step_words::step_of;
-use text_words::{next_word, word_count};
+use text_words::{TextWords, word_count};
 
 // The most words of a text: each is a step of a plan.
 const MOST_WORDS: usize = PLAN_STEPS;
@@ -24,15 +24,9 @@ pub fn read_steps(text: &[u8], out: &mut [u8]) -> Result<usize, Refusal>
     if out.len() < STEP_BYTES * words {
         return Err(Refusal::RoomTooSmall(STEP_BYTES * words));
     }
-    let mut from = 0;
-    let mut n = 0;
-    while n < words {
-        let word = next_word(text, from);
-        let start = word.start;
-        from = word.end;
-        let step = step_of(&text[start..from]);
+    for (n, word) in TextWords(text).enumerate() {
+        let step = step_of(word);
         put(out, n, step.operation, step.first, step.second);
-        n += 1;
     }
     Ok(STEP_BYTES * words)
 }

@@ -29,22 +29,20 @@ fn first_blank(text: &[u8]) -> Option<usize>
 
 // The words of a text, in order.
 #[derive(Drop)]
-pub struct TextWords<'a> {
-    pub text: &'a [u8],
-}
+pub struct TextWords<'a>(pub &'a [u8]);
 
 impl<'a> Iterator for TextWords<'a> {
     type Item = &'a [u8];
 
-    ghost next_gives = { YieldsFirstRef (λ words. text_words words.text.now) };
+    ghost next_gives = { YieldsFirstRef (λ words. text_words words.0.now) };
 
-    ghost remaining = { item_count (λ words. text_words words.text.now) };
+    ghost remaining = { item_count (λ words. text_words words.0.now) };
 
     fn next(&mut self) -> Option<&'a [u8]> {
-        let start = first_letter(self.text)?;
-        let text = &self.text[start..];
+        let start = first_letter(self.0)?;
+        let text = &self.0[start..];
         let end = first_blank(text).unwrap_or(text.len());
-        self.text = &text[end..];
+        self.0 = &text[end..];
         Some(&text[..end])
     }
 }
@@ -54,5 +52,5 @@ impl<'a> Iterator for TextWords<'a> {
 pub fn word_count(text: &[u8]) -> usize
     ensures { result ≡ length (text_words text.now) }
 {
-    TextWords { text }.count()
+    TextWords(text).count()
 }

@@ -49,12 +49,12 @@ loop-place-preserved c =
     let within : place < length (text_digits text) = omega arith in
     let low = rw one at c.loop-place.invariant.low in
     let high = rw one at c.loop-place.invariant.high in
-    let digit = c.digit_of.ensures ∙ here text now.b.text.now next.b.text.now place c.in-Some.word.now steps.1 low within in
+    let digit = c.digit_of.ensures ∙ here text now.b.0.now next.b.0.now place c.in-Some.word.now steps.1 low within in
     rw (← here_is) (record {
       first = omega arith;
       most = omega arith;
       long = search rules;
-      low = low_fewer text now.b.text.now next.b.text.now place c.in-Some.word.now steps.1 low within;
+      low = low_fewer text now.b.0.now next.b.0.now place c.in-Some.word.now steps.1 low within;
       high = ap (λ (l : List ℕ). set l place c.digit_of.result) high ∙ fill_more (text_digits text) c.args.out.now place c.digit_of.result within (omega arith) digit;
     })
 
@@ -64,7 +64,7 @@ returns c =
     let text = args.text.now in
     let all : c.word_count-n.result ≡ length (text_digits text) = c.word_count-n.ensures ∙ sym (as_many text) in
     let left = c.loop-place.place-iterator.a.iter.end in
-    let rest = c.loop-place.place-iterator.b.text.now in
+    let rest = c.loop-place.place-iterator.b.0.now in
     let words = some_left text rest left c.loop-place.invariant.low (omega arith) in
     let done : left ≡ 0 = elim c.in-None.ensures.steps [ inl h ↦ omega (arith, h.1) | inr h ↦ omega (arith, words, ap length h.1.0) ] in
     let all = returns_written (λ w. w) {tests = (Ok tt)} (text_digits text) args.out.now refl all (search rules) (rw all (rw done at c.loop-place.invariant.high)) in

@@ -11,6 +11,6 @@ invariant-loop-place l = record {
   first : l.place-iterator.a.iter.start ≡ 0;
   most : l.place-iterator.a.iter.end ≤ l.n;
   long : length l.out ≡ length l.initial.out;
-  low : text_digits l.place-iterator.b.text.now ≡ take l.place-iterator.a.iter.end (text_digits l.text);
+  low : text_digits l.place-iterator.b.0.now ≡ take l.place-iterator.a.iter.end (text_digits l.text);
   high : l.out ≡ filled (text_digits l.text) l.initial.out l.place-iterator.a.iter.end;
 }

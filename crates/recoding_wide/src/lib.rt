@@ -8,20 +8,20 @@ use numbers::number_verdict;
 use output::put;
 use rules::{NUMBER_BYTES, Refusal};
 use wide_digits::recoded;
-use widths::width_verdict;
+use widths::width_of;
 
 // Room for the digits of every number: one more than bits.
 const DIGIT_ROOM: usize = 8 * NUMBER_BYTES + 1;
 
 // Writes the form of a number, lowest digit first, one byte a digit.
+#[tactic(auto, using(numbers::proofs::Tests::admitted_is, wide_digits::proofs::Form::form_bytes), unfolding(recoding::specs::Recode::recoding_of))]
 pub fn recode_wide(number: &[u8], width: u32, out: &mut [u8]) -> Result<usize, Refusal>
     ensures answer { result ≡ recode_wide_answer width number.now (length out.old) }
     ensures buffer { out.new ≡ recode_wide_buffer width number.now out.old }
 {
     number_verdict(number)?;
-    width_verdict(width)?;
+    let width = width_of(width)?;
     let mut digits = [0u8; DIGIT_ROOM];
-    let w = width as usize;
-    let length = recoded(number, w, &mut digits);
+    let length = recoded(number, width, &mut digits);
     put(&digits[..length], out)
 }

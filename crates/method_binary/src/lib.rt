@@ -48,8 +48,9 @@ pub fn write(number: &[u8], out: &mut [u8])
     requires number_in_bounds { step_bytes * length (binary_steps (bytes_value number.now)) ≤ length out.old }
     ensures { out.new ≡ plan_bytes_of (binary_steps (bytes_value number.now)) ++ drop (length (plan_bytes_of (binary_steps (bytes_value number.now)))) out.old }
 {
+    let top = bit_length(number) - 1;
     let mut c = Cursor::first();
-    for i in (0..bit_length(number) - 1).rev() {
+    for i in (0..top).rev() {
         c = at_bit(c, out, bit_at(number, i));
     }
 }

@@ -12,15 +12,15 @@ use Rattle.plan_writing.proofs.Underway.{Underway, down_one, nothing_written, un
 use borrow.Author.Rules.{rules}
 use Rattle.method_binary.proofs.write.Goals as goal
 
-pub overflow_step-i : goal.overflow_step-i
-overflow_step-i c = omega (arith, c.bit_length-i.ensures, some_bits (bytes_value c.args.number.now) (search rules))
+pub overflow_sub-top : goal.overflow_sub-top
+overflow_sub-top c = omega (arith, c.bit_length-top.ensures, some_bits (bytes_value c.args.number.now) (search rules))
 
 pub loop-i-init : goal.loop-i-init
 unfolding binary_steps
 loop-i-init c =
     let args = c.args in
     let e : ℕ = bytes_value args.number.now in
-    let n = c.bit_length-i.ensures in
+    let n = c.bit_length-top.ensures in
     (omega (arith, n, some_bits e (search rules)), refl, record { partial = none; writing = nothing_written args.out.now c.first-c.result c.first-c.ensures.0 c.first-c.ensures.1; rest = rw n })
 
 pub at_bit-c-requires : goal.at_bit-c-requires

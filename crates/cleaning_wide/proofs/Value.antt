@@ -1,6 +1,6 @@
 -- What clean wide reads of a digit string, its sign and its size, and what it writes. Assumes nothing.
 use Rattle.std.specs.Prelude.{Result, Ok, Err}
-use mathlib.Core.Path.{◌≡◌, refl, ◌∙◌}
+use mathlib.Core.Path.{◌≡◌, refl, ap, ◌∙◌}
 use mathlib.Core.List.{List}
 use Prim.Native.Nat.{ℕ, ◌+◌, ◌/◌, ◌≤◌}
 use native.Mathlib.Omega.{arith}
@@ -12,9 +12,11 @@ use Rattle.rules.proofs.Fitted.{fits}
 use Rattle.integers.specs.Positional.{bytes_value}
 use Rattle.integers.specs.Signed.{sign_of}
 use Rattle.integers.proofs.Shortest.{bytes_value_lem}
-use Rattle.digit_strings.specs.Admission.{string_verdict, string_value}
+use Rattle.digit_strings.specs.Admission.{string_verdict, string_value, DigitString}
 use Rattle.digit_strings.proofs.Tests.{digit_string_is}
-use Rattle.widths.specs.Width.{AllowedWidth}
+use Rattle.widths.specs.Width.{width_verdict}
+use Rattle.widths.proofs.Tests.{allowed_is}
+use Rattle.reading.specs.declared.ReadBack.{ReadBack}
 use Rattle.reading.specs.ReadBack.{size_bytes, read_answer_of, read_buffer_of}
 use Rattle.reading_wide.proofs.Size.{bytes_room}
 use Rattle.cleaning.specs.Clean.{cleaning_of}
@@ -26,31 +28,38 @@ use Rattle.wide_digits.proofs.Padded.{padded_value}
 abbrev size_room : ℕ
 size_room = string_digits / 8 + 8
 
-module _ (w : ℕ) (allowed : AllowedWidth w) (s : List ℕ) where
+module _ (w : ℕ) (passed : width_verdict w ≡ Ok tt) (s : List ℕ) where
   has_room : string_verdict w s ≡ Ok tt → length (size_bytes s) ≤ size_room
-  has_room e = omega (arith, bytes_room w allowed s ((digit_string_is w s).0 e))
+  has_room e = omega (arith, bytes_room w ((allowed_is w).0 passed) s ((digit_string_is w s).0 e))
 
-  answer : string_verdict w s ≡ Ok tt → read_answer_of w s size_room ≡ READVALUE (sign_of (string_value s)) (length (size_bytes s))
+  answer : string_verdict w s ≡ Ok tt → read_answer_of w s size_room ≡ Ok (record { sign = sign_of (string_value s); length = length (size_bytes s) })
   answer e = rw (e, fits (size_bytes s) size_room (has_room e))
 
   -- a refusal of the reading is one of the string
-  pub read_refused : {r : Refusal} → read_answer_of w s size_room ≡ Err r → string_verdict w s ≡ Err r
+  pub read_refused : {r : Refusal} → Err r ≡ read_answer_of w s size_room → string_verdict w s ≡ Err r
   read_refused {r} e = go (string_verdict w s) refl
     where
       go : (v : Result Unit Refusal) → string_verdict w s ≡ v → string_verdict w s ≡ Err r
       go (Err q) f = let g : read_answer_of w s size_room ≡ Err q = rw f in f ∙ cc
-      go (Ok tt) f = let g = answer f in absurd (let z : ◌≡◌ {A = ℕ} 0 1 = cc in omega arith)
+      go (Ok _) f = let g = answer f in absurd cc
 
-  -- otherwise the sign and the size are read
-  pub read_value : {sign n : ℕ} → read_answer_of w s size_room ≡ READVALUE sign n
-      → (string_verdict w s ≡ Ok tt) × (sign ≡ sign_of (string_value s)) × (bytes_value (read_buffer_of w s (replicate size_room 0)) ≡ nat_abs (string_value s))
+  -- otherwise the string is one of digits, and its sign and its size are read
+  pub record Read (sign : ℕ) (size : List ℕ) : Type 0 where
+    pub string : DigitString w s
+    pub sign_is : sign ≡ sign_of (string_value s)
+    pub size_is : bytes_value size ≡ nat_abs (string_value s)
+
+  pub read_value : {read : ReadBack} → Ok read ≡ read_answer_of w s size_room → {size : List ℕ} → size ≡ read_buffer_of w s (replicate size_room 0) → Read read.sign size
   unfolding size_bytes
-  read_value {sign} {n} e = go (string_verdict w s) refl
+  read_value {read} e {size} b = go (string_verdict w s) refl
     where
-      go : (v : Result Unit Refusal) → string_verdict w s ≡ v
-          → (string_verdict w s ≡ Ok tt) × (sign ≡ sign_of (string_value s)) × (bytes_value (read_buffer_of w s (replicate size_room 0)) ≡ nat_abs (string_value s))
-      go (Err q) f = let g : read_answer_of w s size_room ≡ Err q = rw f in absurd (let z : ◌≡◌ {A = ℕ} 0 1 = cc in omega arith)
-      go (Ok tt) f = let g = answer f in (f, cc, rw f (padded_value (size_bytes s) size_room (has_room f) ∙ bytes_value_lem (nat_abs (string_value s))))
+      go : (v : Result Unit Refusal) → string_verdict w s ≡ v → Read read.sign size
+      go (Err q) f = let g : read_answer_of w s size_room ≡ Err q = rw f in absurd cc
+      go (Ok _) f = let g = answer f in record {
+        string = (digit_string_is w s).0 f;
+        sign_is = let r : read ≡ record { sign = sign_of (string_value s); length = length (size_bytes s) } = cc in ap (λ (r : ReadBack). r.sign) r;
+        size_is = rw (b, f) (padded_value (size_bytes s) size_room (has_room f) ∙ bytes_value_lem (nat_abs (string_value s)));
+      }
 
 -- ---- the form by sign and size
 

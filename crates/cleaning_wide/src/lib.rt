@@ -10,7 +10,7 @@ use reading::{ReadBack, read_of_width};
 use reading_digits::SIZE_BYTES;
 use rules::{LARGEST_WIDTH, Refusal, STRING_DIGITS};
 use wide_digits::write;
-use widths::width_verdict;
+use widths::width_of;
 
 // Room for every form: as many digits more than the string has as the largest width.
 const DIGIT_ROOM: usize = STRING_DIGITS + LARGEST_WIDTH;
@@ -20,15 +20,11 @@ pub fn clean_wide(digits: &[u8], width: u32, out: &mut [u8]) -> Result<usize, Re
     ensures answer { result ≡ clean_wide_answer width digits.now (length out.old) }
     ensures buffer { out.new ≡ clean_wide_buffer width digits.now out.old }
 {
-    width_verdict(width)?;
-    let w = width as usize;
+    let width = width_of(width)?;
     let mut size = [0u8; SIZE_BYTES];
-    match read_of_width(digits, w, &mut size) {
-        Err(refusal) => Err(refusal),
-        ReadBack::Value { sign, length: _ } => {
-            let mut form = [0u8; DIGIT_ROOM];
-            let length = write(&size, digits.len() + (w - 1), w, sign, &mut form);
-            put(&form[..length], out)
-        }
-    }
+    let ReadBack { sign, .. } = read_of_width(digits, width, &mut size)?;
+    let mut form = [0u8; DIGIT_ROOM];
+    let bits = digits.len() + (width.bits() - 1);
+    let length = write(&size, bits, width, sign, &mut form);
+    put(&form[..length], out)
 }

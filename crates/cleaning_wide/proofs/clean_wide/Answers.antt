@@ -1,80 +1,58 @@
--- `cleaning_wide::clean_wide` meets its contract: at each return the tests that led there say which outcome holds. Assumes nothing.
+-- `cleaning_wide::clean_wide` meets its contract: what is written is the form of the sign and the size that are read. Assumes nothing.
 use Rattle.std.specs.Prelude.{Ok}
-use mathlib.Core.Path.{◌≡◌, sym, ap, ◌∙◌}
-use mathlib.Core.List.{List}
-use Prim.Native.Nat.{ℕ, ◌+◌}
+use mathlib.Core.Path.{◌≡◌}
+use Prim.Native.Nat.{◌+◌}
 use native.Mathlib.Omega.{arith}
-use lib.IntN.{nat_abs}
-use lib.Seq.{length-take-le}
+use lib.ListN.{take}
+use Rattle.std.proofs.lemmas.Result.{err_from_is_err_and}
 use Rattle.rules.specs.Limits.{string_digits, largest_width}
-use Rattle.integers.specs.Positional.{bytes_value}
-use Rattle.integers.specs.Signed.{sign_of}
-use Rattle.digit_strings.specs.Admission.{string_verdict, string_value}
 use Rattle.digit_strings.proofs.Tests.{digit_string_is}
 use Rattle.digit_strings.proofs.Sizes.{string_bits}
-use Rattle.widths.specs.Width.{AllowedWidth, width_verdict}
-use Rattle.widths.proofs.Tests.{allowed_is}
+use Rattle.widths.specs.Width.{width_verdict}
 use Rattle.wide_digits.proofs.Padded.{zeros_blank}
-use Rattle.cleaning_wide.proofs.Value.{read_refused, read_value, cleaned}
-use Rattle.cleaning_wide.proofs.clean_wide.Goals.{After-read_of_width, In-Value, In_default}
+use Rattle.cleaning.specs.Clean.{cleaning_of}
+use Rattle.cleaning_wide.proofs.Value.{Read, read_refused, read_value, cleaned}
+use Rattle.cleaning_wide.proofs.clean_wide.Goals.{In_ok-width, In_ok-sign, After-write-length}
 use Rattle.cleaning_wide.proofs.clean_wide.Goals as goal
 
 -- past refusal 3
-width_passed : (c : In_default) → width_verdict c.args.width ≡ Ok tt
-width_passed c = sym c.width_verdict.ensures ∙ c.in_default.is
-
-width : (c : In_default) → AllowedWidth c.args.width
-width c = (allowed_is _).0 (width_passed c)
+passed : (c : In_ok-width) → width_verdict c.in_ok-width.width ≡ Ok tt
+passed c = rw c.in_ok-width.ensures.1 c.in_ok-width.ensures.0
 
 -- what is read
-abbrev width_of : After-read_of_width → ℕ
-width_of c = c.args.width
+read : (c : In_ok-sign) → Read c.in_ok-width.width (passed (goal.at.In_ok-sign c).In_ok-width) c.args.digits.now c.in_ok-sign.field-0.sign c.read_of_width.new.out
+read c = read_value c.in_ok-width.width (passed (goal.at.In_ok-sign c).In_ok-width) c.args.digits.now c.in_ok-sign.ensures.answer c.in_ok-sign.ensures.buffer
 
-abbrev digits_of : After-read_of_width → List ℕ
-digits_of c = c.args.digits.now
+-- and what is written
+written : (c : After-write-length) → take c.write-length.result c.write-length.new.out ≡ cleaning_of c.in_ok-width.width c.args.digits.now
+written c =
+    let r = read (goal.at.After-write-length c).In_ok-sign in
+    cleaned c.in_ok-width.width c.args.digits.now _ _ _ _ r.sign_is r.size_is c.write-length.ensures.form
 
-read : (c : In-Value)
-    → (string_verdict (width_of (goal.at.In-Value c).After-read_of_width) (digits_of (goal.at.In-Value c).After-read_of_width) ≡ Ok tt) × (c.in-Value.sign ≡ sign_of (string_value (digits_of (goal.at.In-Value c).After-read_of_width))) × (bytes_value c.read_of_width.new.out ≡ nat_abs (string_value (digits_of (goal.at.In-Value c).After-read_of_width)))
-read c =
-    let v = read_value (width_of (goal.at.In-Value c).After-read_of_width) (width (goal.at.In-Value c).In_default) (digits_of (goal.at.In-Value c).After-read_of_width) (sym c.read_of_width.ensures.answer ∙ c.in-Value.is) in
-    (v.0, v.1, ap bytes_value c.read_of_width.ensures.buffer ∙ v.2)
-
-pub returns-in-Failed : goal.returns-in-Failed
-returns-in-Failed c =
-    let e = sym c.width_verdict.ensures ∙ c.in-Failed.is in
-    record { answer = rw e; buffer = rw e }
-
-pub read_of_width-requires : goal.read_of_width-requires
-read_of_width-requires c = let a = width (goal.at.read_of_width-requires c).In_default in (a.least, a.most)
-
-pub overflow_sub-w : goal.overflow_sub-w
-overflow_sub-w c = omega (arith, (width (goal.at.overflow_sub-w c).In_default).least)
+pub returns-in_err-sign : goal.returns-in_err-sign
+returns-in_err-sign c =
+    let p = passed (goal.at.returns-in_err-sign c).In_ok-width in
+    let e = read_refused c.in_ok-width.width p c.args.digits.now c.in_err-sign.ensures.answer in
+    let exit = err_from_is_err_and c.from_residual-in_err-sign.result c.from_residual-in_err-sign.ensures.1 in
+    record { answer = rw (exit.1, exit.2, ← c.in_ok-width.ensures.1, p, e); buffer = rw (← c.in_ok-width.ensures.1, p, e) }
 
 pub write-length-requires : goal.write-length-requires
 write-length-requires c =
-    let a = width (goal.at.write-length-requires c).In_default in
-    let string = (digit_string_is _ _).0 (read (goal.at.write-length-requires c).In-Value).0 in
-    let within = string.within in
+    let r = read (goal.at.write-length-requires c).In_ok-sign in
+    let within = r.string.within in
     record {
-      least_width_le_width = (a.least, a.most);
-      bytes_bound = rw (read (goal.at.write-length-requires c).In-Value).2 (string_bits _ _ string);
-      bits_in_bounds = omega (arith, a.most);
-      bits_in_bounds_2 = omega (arith, a.most);
+      bytes_bound = rw (c.bits.ensures.value, r.size_is) (string_bits _ _ r.string);
+      bits_in_bounds = omega arith;
+      bits_in_bounds_2 = omega arith;
       blank = zeros_blank (string_digits + largest_width);
     }
 
-pub slice_bounds-put-end : goal.slice_bounds-put-end
-slice_bounds-put-end c = sym (length-take-le c.write-length.result _ c.write-length.ensures.within)
-
-pub returns-in-Refused : goal.returns-in-Refused
-returns-in-Refused c =
-    let n = width_passed (goal.at.returns-in-Refused c).In_default in
-    let e = read_refused (width_of (goal.at.returns-in-Refused c).After-read_of_width) (width (goal.at.returns-in-Refused c).In_default) (digits_of (goal.at.returns-in-Refused c).After-read_of_width) (sym c.read_of_width.ensures.answer ∙ c.in-Refused.is) in
-    record { answer = rw (n, e); buffer = rw (n, e) }
-
-pub returns-in-Value : goal.returns-in-Value
-returns-in-Value c =
-    let n = width_passed (goal.at.returns-in-Value c).In_default in
-    let s = read (goal.at.returns-in-Value c).In-Value in
-    let e = cleaned (width_of (goal.at.returns-in-Value c).After-read_of_width) (digits_of (goal.at.returns-in-Value c).After-read_of_width) c.in-Value.sign (bytes_value c.read_of_width.new.out) _ c.write-length.result s.1 s.2 c.write-length.ensures in
-    record { answer = c.put.ensures.answer ∙ rw (n, s.0, e); buffer = c.put.ensures.buffer ∙ rw (n, s.0, e) }
+pub returns : goal.returns
+returns c =
+    let p = passed (goal.at.returns c).In_ok-width in
+    let s = (digit_string_is _ _).1 (read (goal.at.returns c).In_ok-sign).string in
+    let e = written (goal.at.returns c).After-write-length in
+    record {
+      answer = rw (← c.in_ok-width.ensures.1, p, s, ← e) c.put.ensures.answer;
+      buffer = rw (← c.in_ok-width.ensures.1, p, s, ← e) c.put.ensures.buffer;
+    }

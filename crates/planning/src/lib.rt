@@ -4,23 +4,23 @@
 ghost use Rattle.std.specs.Prelude.{◌≡◌, ◌++◌, ◌*◌, ◌≤◌, length, drop};
 ghost use Rattle.rules.specs.Limits.{step_bytes};
 ghost use Rattle.integers.specs.Positional.{bytes_value};
-ghost use Rattle.numbers.specs.Admission.{Positive};
 ghost use Rattle.chains.specs.Steps.{plan_bytes_of};
 ghost use Rattle.chains.specs.Counts.{counts_of};
 ghost use Rattle.methods.specs.Method.{Allowed, steps_by};
 ghost use Rattle.planning.specs.Plan.{forecast_answer, plan_answer, plan_buffer};
 
 use methods::Method;
-use requests::requested;
+use numbers::PositiveNumber;
+use requests::{Request, requested};
 use rules::{Counts, Refusal, STEP_BYTES, Width};
 
 // The counts of the steps that a method gives for a number. A line a method.
 #[tactic(auto, using(methods::proofs::Every::fixed_widths, methods::proofs::Every::sliding_widths, methods::proofs::Every::wide_widths))]
-fn counts(number: &[u8], method: Method) -> Counts
-    requires positive { Positive number.now }
-    requires allowed { Allowed method }
+fn counts(number: &PositiveNumber, method: Method) -> Counts
+    requires { Allowed method }
     ensures { result ≡ counts_of (steps_by method (bytes_value number.now)) }
 {
+    let number = number.bytes();
     match method {
         Method::Binary => method_binary::counts(number),
         Method::FixedWindows(d) => method_fixed_windows::counts(number, d),
@@ -33,12 +33,12 @@ fn counts(number: &[u8], method: Method) -> Counts
 
 // Writes those steps. A line a method.
 #[tactic(auto, using(methods::proofs::Every::fixed_widths, methods::proofs::Every::sliding_widths, methods::proofs::Every::wide_widths))]
-fn write(number: &[u8], method: Method, out: &mut [u8])
-    requires positive { Positive number.now }
+fn write(number: &PositiveNumber, method: Method, out: &mut [u8])
     requires allowed { Allowed method }
     requires number_in_bounds { step_bytes * length (steps_by method (bytes_value number.now)) ≤ length out.old }
     ensures { out.new ≡ plan_bytes_of (steps_by method (bytes_value number.now)) ++ drop (length (plan_bytes_of (steps_by method (bytes_value number.now)))) out.old }
 {
+    let number = number.bytes();
     match method {
         Method::Binary => method_binary::write(number, out),
         Method::FixedWindows(d) => method_fixed_windows::write(number, d, out),
@@ -55,10 +55,10 @@ fn write(number: &[u8], method: Method, out: &mut [u8])
 pub fn forecast(number: &[u8], method: u32, width: u32) -> Result<Counts, Refusal>
     ensures { result ≡ forecast_answer number.now method width }
 {
-    let method = requested(number, method, width)?;
+    let Request { number, method } = requested(number, method, width)?;
     match method {
-        Method::Binary => Ok(method_binary::counts(number)),
-        _ => Ok(counts(number, method)),
+        Method::Binary => Ok(method_binary::counts(number.bytes())),
+        _ => Ok(counts(&number, method)),
     }
 }
 
@@ -68,12 +68,12 @@ pub fn plan(number: &[u8], method: u32, width: u32, out: &mut [u8]) -> Result<Co
     ensures answer { result ≡ plan_answer number.now method width (length out.old) }
     ensures buffer { out.new ≡ plan_buffer number.now method width out.old }
 {
-    let method = requested(number, method, width)?;
-    let steps = counts(number, method);
+    let Request { number, method } = requested(number, method, width)?;
+    let steps = counts(&number, method);
     let needed = STEP_BYTES * (steps.doublings + steps.additions + steps.subtractions);
     if out.len() < needed {
         return Err(Refusal::RoomTooSmall(needed));
     }
-    write(number, method, out);
+    write(&number, method, out);
     Ok(steps)
 }

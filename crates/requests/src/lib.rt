@@ -1,12 +1,12 @@
 // What is asked for by number, method and width: refusals 1, 13, 2 and 3, in this order.
 #![tactic(auto)]
 
-ghost use Rattle.std.specs.Prelude.{◌≡◌};
+ghost use Rattle.std.specs.Prelude.{◌≡◌, Ok, Err, MatchResult};
 ghost use Rattle.methods.specs.Method.{method_of};
 ghost use Rattle.requests.specs.Request.{request};
 
 use methods::{FIXED_WINDOW_BITS, Method, SLIDING_WINDOW_BITS};
-use numbers::positive_verdict;
+use numbers::PositiveNumber;
 use rules::{LARGEST_WIDTH, LEAST_WIDTH, Refusal};
 
 // The method that the two numbers ask for, at a width that it allows; else refusal 3. A line a method.
@@ -26,11 +26,19 @@ fn method_of(method: u32, width: u32) -> Result<Method, Refusal>
     }
 }
 
-// The same, after refusals 1, 13 and 2.
+// What is granted: a number that is not zero, and a method.
+#[derive(Drop)]
+pub struct Request<'a> {
+    pub number: PositiveNumber<'a>,
+    pub method: Method,
+}
+
+// What the three ask for, after refusals 1, 13 and 2.
 #[tactic(auto, unfolding(crate::specs::Request::request))]
-pub fn requested(number: &[u8], method: u32, width: u32) -> Result<Method, Refusal>
-    ensures { result ≡ request number.now method width }
+pub fn requested<'a>(number: &'a [u8], method: u32, width: u32) -> Result<Request<'a>, Refusal>
+    ensures { MatchResult result (λ r. (request number.now method width ≡ Ok r.method) × (r.number ≡ number.now)) (λ r. request number.now method width ≡ Err r) }
 {
-    positive_verdict(number)?;
-    method_of(method, width)
+    let number = PositiveNumber::new(number)?;
+    let method = method_of(method, width)?;
+    Ok(Request { number, method })
 }

@@ -1,11 +1,11 @@
 -- Counting the steps of a plan one after the other. Assumes nothing.
 use mathlib.Core.Path.{◌≡◌, refl, sym, ap, ◌∙◌}
-use mathlib.Core.Bool.{Bool, true, false}
+use mathlib.Core.Bool.{Bool, true, false, ◌||◌}
 use mathlib.Core.List.{List, [], ◌∷◌}
 use Prim.Native.Nat.{ℕ, zero, suc, ◌+◌, ◌-◌, ◌*◌, ◌/◌, ◌<◌, ◌≤◌}
 use native.Mathlib.Numerals.{add-one}
 use native.Mathlib.Omega.{arith}
-use lib.Bits.{bit_or}
+use lib.Dec.{eqb}
 use lib.ListN.{length, take, drop}
 use lib.Seq.{length-take-le, take_all, take-suc}
 use mir.Val.{bool_byte}
@@ -42,7 +42,7 @@ module _ (plan : List ℕ) where
 
     -- one step more
     pub holding_more : (s : Step) (d : Bool) → n < length plan / step_bytes → s ≡ read_step (drop (step_bytes * n) plan) → s.operation ≤ subtracting → d ≡ is_doubling (values_of (steps_of plan)) s
-        → Holding (counts_to (n + 1)) (doublings + bool_byte d) (not-additions + bit_or (bool_byte d) s.operation)
+        → Holding (counts_to (n + 1)) (doublings + bool_byte d) (not-additions + bool_byte (d || eqb s.operation subtracting))
     unfolding sum_counts
     holding_more s d l read known e =
         let same : step_at (steps_of plan) n ≡ s = step_at_lem plan n l ∙ sym read in
@@ -51,12 +51,12 @@ module _ (plan : List ℕ) where
         let one = one_held s d known in
         rw more (record { doubled = omega (arith, h.doubled, one.0); all = omega (arith, h.all, one.1) })
       where
-        one_held : (s : Step) (d : Bool) → s.operation ≤ subtracting → (bool_byte d ≡ (one_step d s).doublings) × (bit_or (bool_byte d) s.operation ≡ (one_step d s).doublings + (one_step d s).subtractions)
+        one_held : (s : Step) (d : Bool) → s.operation ≤ subtracting → (bool_byte d ≡ (one_step d s).doublings) × (bool_byte (d || eqb s.operation subtracting) ≡ (one_step d s).doublings + (one_step d s).subtractions)
         one_held s d known = go s.operation known d
           where
             go : (o : ℕ) → o ≤ subtracting → (d : Bool)
                 → (bool_byte d ≡ (one_step d (record { operation = o; first = 0; second = 0 })).doublings)
-                × (bit_or (bool_byte d) o ≡ (one_step d (record { operation = o; first = 0; second = 0 })).doublings + (one_step d (record { operation = o; first = 0; second = 0 })).subtractions)
+                × (bool_byte (d || eqb o subtracting) ≡ (one_step d (record { operation = o; first = 0; second = 0 })).doublings + (one_step d (record { operation = o; first = 0; second = 0 })).subtractions)
             go zero h true = (refl, refl)
             go zero h false = (refl, refl)
             go (suc zero) h true = (refl, refl)

@@ -1,17 +1,17 @@
 -- Where the loop over the steps of a plan stands at each turn. Assumes nothing.
 use Rattle.std.specs.Prelude.{Result, Ok, Err}
 use mathlib.Core.Path.{◌≡◌, sym}
-use mathlib.Core.Bool.{Bool, cond}
+use mathlib.Core.Bool.{Bool, cond, ◌||◌}
 use mathlib.Core.List.{List}
 use Prim.Native.Nat.{ℕ, ◌+◌, ◌-◌, ◌*◌, ◌/◌, ◌<◌, ◌≤◌}
 use native.Mathlib.Omega.{arith}
-use lib.Bits.{bit_or}
+use lib.Dec.{eqb}
 use lib.ListN.{length, drop}
 use mir.Val.{bool_byte}
 use Rattle.rules.specs.Limits.{step_bytes, value_bytes}
 use Rattle.rules.specs.declared.Accepted.{Accepted}
 use Rattle.rules.specs.declared.Refusal.{Refusal}
-use Rattle.chains.specs.Steps.{Step, read_step, steps_of}
+use Rattle.chains.specs.Steps.{Step, subtracting, read_step, steps_of}
 use Rattle.chains.specs.Values.{start}
 use Rattle.chains.proofs.Largest.{bits_after, bits_start}
 use Rattle.records.specs.Recording.{Recording}
@@ -48,15 +48,15 @@ module _ (number plan first here lent : List ℕ) (n doublings not-additions bit
     turn_refused e = underway_stop plan lent here n (t.underway lent begun) h s read r next checked number e
 
     module _ {d : Bool} (e : r ≡ Ok d) where
-      turn_held : Holding (counts_to plan (n + 1)) (doublings + bool_byte d) (not-additions + bit_or (bool_byte d) s.operation)
+      turn_held : Holding (counts_to plan (n + 1)) (doublings + bool_byte d) (not-additions + bool_byte (d || eqb s.operation subtracting))
       turn_held =
           let known = underway_counted plan lent here n (t.underway lent begun) h s read r next checked e in
           holding_more plan n doublings not-additions t.held s d h read known.0 known.1
 
-      pub turn_counted : (doublings + bool_byte d ≤ n + 1) × (not-additions + bit_or (bool_byte d) s.operation ≤ n + 1)
+      pub turn_counted : (doublings + bool_byte d ≤ n + 1) × (not-additions + bool_byte (d || eqb s.operation subtracting) ≤ n + 1)
       turn_counted = let few = holding_few plan (n + 1) _ _ turn_held (omega arith) in (omega (arith, few.0, few.1), few.1)
 
-      pub turn_more : (more : ℕ) → IsGrown (n + 1) bits next more → Turn plan first next (n + 1) (doublings + bool_byte d) (not-additions + bit_or (bool_byte d) s.operation) more
+      pub turn_more : (more : ℕ) → IsGrown (n + 1) bits next more → Turn plan first next (n + 1) (doublings + bool_byte d) (not-additions + bool_byte (d || eqb s.operation subtracting)) more
       turn_more more grown =
           let on : (lent : List ℕ) → Recording lent first start → Underway plan lent next (n + 1) =
           λ lent w. underway_next plan lent here n (t.underway lent w) h s read r next checked e in

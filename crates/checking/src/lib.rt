@@ -25,9 +25,9 @@ pub fn check(number: &[u8], plan: &[u8], space: &mut [u8]) -> Result<Accepted, R
     let mut largest_bits = 1;
     for n in 0..steps {
         let step = read_step(plan, n);
-        let doubling = usize::from(check_step(step, space, n)?);
-        doublings += doubling;
-        not_additions += doubling | usize::from(step.operation);
+        let doubling = check_step(step, space, n)?;
+        doublings += usize::from(doubling);
+        not_additions += usize::from(doubling | (step.operation == 1));
         largest_bits = grown_bits(space, n + 1, largest_bits);
     }
     if !ends_at(&number, space, steps) {

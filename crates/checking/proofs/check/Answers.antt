@@ -1,10 +1,11 @@
 -- `checking::check` meets its contract: n steps are checked and counted. Assumes nothing.
 use Rattle.std.specs.Prelude.{Ok, Err}
 use mathlib.Core.Path.{◌≡◌, ap, ◌∙◌}
-use mathlib.Core.Bool.{cond}
+use mathlib.Core.Bool.{cond, ◌||◌}
 use Prim.Native.Nat.{◌+◌, ◌/◌, ◌≤◌}
 use native.Mathlib.Omega.{arith}
-use lib.Bits.{bit_or}
+use lib.Dec.{eqb}
+use Rattle.chains.specs.Steps.{subtracting}
 use lib.ListN.{length}
 use mir.Val.{bool_byte}
 use Rattle.std.proofs.lemmas.Grind.{common_steps}
@@ -15,7 +16,7 @@ use Rattle.check_admission.specs.Admission.{room_for, admission}
 use Rattle.check_admission.proofs.Admission.{Checkable, checkable_is}
 use Rattle.checking.proofs.Underway.{Done, done_answer, done_space}
 use Rattle.checking.proofs.Turn.{turn_none, turn_few, turn_refused, turn_counted, turn_more, turn_few_counts, turn_done, turn_accepted}
-use Rattle.checking.proofs.check.Goals.{In_ok-number, At-loop-n, In_err-check_step, After-from-doubling, After-loop-n, After-ends_at}
+use Rattle.checking.proofs.check.Goals.{In_ok-number, At-loop-n, In_err-doubling, In_ok-doubling, After-loop-n, After-ends_at}
 use Rattle.checking.proofs.check.Goals as goal
 
 -- past refusals 1, 13, 2, 7 and 8
@@ -38,31 +39,31 @@ room c = rw (c.loop-n.auto.space, c.begin.auto.space) (admitted (goal.at.At-loop
 pub check_step-requires : goal.check_step-requires
 check_step-requires c = omega (arith, room (goal.at.check_step-requires c).At-loop-n)
 
-refused : (c : In_err-check_step) → let args = c.args in Done args.number.now args.plan.now args.space.now c.check_step.new.space (Err c.in_err-check_step.field-0.0)
+refused : (c : In_err-doubling) → let args = c.args in Done args.number.now args.plan.now args.space.now c.check_step.new.space (Err c.in_err-doubling.field-0.0)
 refused c =
     let args = c.args in
-    turn_refused args.number.now args.plan.now c.begin.new.space c.loop-n.space args.space.now c.loop-n.n _ _ _ c.loop-n.invariant c.begin.ensures (omega arith) (as_step c.read_step-step.result) c.read_step-step.ensures c.check_step.result c.check_step.new.space c.check_step.ensures c.in_err-check_step.was
+    turn_refused args.number.now args.plan.now c.begin.new.space c.loop-n.space args.space.now c.loop-n.n _ _ _ c.loop-n.invariant c.begin.ensures (omega arith) (as_step c.read_step-step.result) c.read_step-step.ensures c.check_step.result c.check_step.new.space c.check_step.ensures c.in_err-doubling.was
 
-pub returns-in_err-check_step-clause-answer : goal.returns-in_err-check_step-clause-answer
-returns-in_err-check_step-clause-answer c =
-    let e : c.from_residual-in_err-check_step.result ≡ Err c.in_err-check_step.field-0.0 = grind (arith, common_steps) in
-    e ∙ done_answer (passed (goal.at.returns-in_err-check_step-clause-answer c).In_ok-number) (refused (goal.at.returns-in_err-check_step-clause-answer c).In_err-check_step)
+pub returns-in_err-doubling-clause-answer : goal.returns-in_err-doubling-clause-answer
+returns-in_err-doubling-clause-answer c =
+    let e : c.from_residual-in_err-doubling.result ≡ Err c.in_err-doubling.field-0.0 = grind (arith, common_steps) in
+    e ∙ done_answer (passed (goal.at.returns-in_err-doubling-clause-answer c).In_ok-number) (refused (goal.at.returns-in_err-doubling-clause-answer c).In_err-doubling)
 
-pub returns-in_err-check_step-clause-space : goal.returns-in_err-check_step-clause-space
-returns-in_err-check_step-clause-space c = done_space (passed (goal.at.returns-in_err-check_step-clause-space c).In_ok-number) (refused (goal.at.returns-in_err-check_step-clause-space c).In_err-check_step)
+pub returns-in_err-doubling-clause-space : goal.returns-in_err-doubling-clause-space
+returns-in_err-doubling-clause-space c = done_space (passed (goal.at.returns-in_err-doubling-clause-space c).In_ok-number) (refused (goal.at.returns-in_err-doubling-clause-space c).In_err-doubling)
 
 -- a step that passes is counted
-counted : (c : After-from-doubling)
-    → (c.loop-n.doublings + bool_byte c.in_ok-check_step.field-0 ≤ c.loop-n.n + 1) × (c.loop-n.not_additions + bit_or (bool_byte c.in_ok-check_step.field-0) c.read_step-step.result.operation ≤ c.loop-n.n + 1)
+counted : (c : In_ok-doubling)
+    → (c.loop-n.doublings + bool_byte c.in_ok-doubling.doubling ≤ c.loop-n.n + 1) × (c.loop-n.not_additions + bool_byte (c.in_ok-doubling.doubling || eqb c.read_step-step.result.operation subtracting) ≤ c.loop-n.n + 1)
 counted c =
     let args = c.args in
-    turn_counted args.number.now args.plan.now c.begin.new.space c.loop-n.space args.space.now c.loop-n.n _ _ _ c.loop-n.invariant c.begin.ensures (omega arith) (as_step c.read_step-step.result) c.read_step-step.ensures c.check_step.result c.check_step.new.space c.check_step.ensures c.in_ok-check_step.was
+    turn_counted args.number.now args.plan.now c.begin.new.space c.loop-n.space args.space.now c.loop-n.n _ _ _ c.loop-n.invariant c.begin.ensures (omega arith) (as_step c.read_step-step.result) c.read_step-step.ensures c.check_step.result c.check_step.new.space c.check_step.ensures c.in_ok-doubling.was
 
 pub overflow_add-doublings : goal.overflow_add-doublings
-overflow_add-doublings c = rw c.from-doubling.ensures (omega (arith, counted (goal.at.overflow_add-doublings c).After-from-doubling))
+overflow_add-doublings c = rw c.from-doublings.ensures (omega (arith, counted (goal.at.overflow_add-doublings c).In_ok-doubling))
 
 pub overflow_add-not_additions : goal.overflow_add-not_additions
-overflow_add-not_additions c = rw (c.from-doubling.ensures, c.from.ensures) (omega (arith, counted (goal.at.overflow_add-not_additions c).After-from-doubling))
+overflow_add-not_additions c = rw c.from-not_additions.ensures (omega (arith, counted (goal.at.overflow_add-not_additions c).In_ok-doubling))
 
 pub grown_bits-largest_bits-requires : goal.grown_bits-largest_bits-requires
 grown_bits-largest_bits-requires c =
@@ -75,8 +76,8 @@ grown_bits-largest_bits-requires c =
 pub loop-n-preserved : goal.loop-n-preserved
 loop-n-preserved c =
     let args = c.args in
-    rw (c.from-doubling.ensures, c.from.ensures)
-    (turn_more args.number.now args.plan.now c.begin.new.space c.loop-n.space args.space.now c.loop-n.n _ _ _ c.loop-n.invariant c.begin.ensures (omega arith) (as_step c.read_step-step.result) c.read_step-step.ensures c.check_step.result c.check_step.new.space c.check_step.ensures c.in_ok-check_step.was c.grown_bits-largest_bits.result c.grown_bits-largest_bits.ensures)
+    rw (c.from-doublings.ensures, c.from-not_additions.ensures)
+    (turn_more args.number.now args.plan.now c.begin.new.space c.loop-n.space args.space.now c.loop-n.n _ _ _ c.loop-n.invariant c.begin.ensures (omega arith) (as_step c.read_step-step.result) c.read_step-step.ensures c.check_step.result c.check_step.new.space c.check_step.ensures c.in_ok-doubling.was c.grown_bits-largest_bits.result c.grown_bits-largest_bits.ensures)
 
 pub ends_at-requires : goal.ends_at-requires
 ends_at-requires c = omega (arith, room (goal.at.ends_at-requires c).At-loop-n)

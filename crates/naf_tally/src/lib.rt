@@ -12,33 +12,11 @@ ghost use Rattle.naf_tally.specs.Tally.{only_in, length_to, length_above, Within
 
 use integers::words_of;
 
-const HALF: u64 = 0x1_0000_0000;
-
-// A word of 3 e, and what it carries into the next.
-#[derive(Drop)]
-struct TripleWord {
-    word: u64,
-    carry: u64,
-}
-
-// Half a word at a time, so that nothing is lost.
-fn tripled(word: u64, carry: u64) -> TripleWord
-    requires { carry ≤ 2 }
-    ensures { result.word + 2 ^ 64 * result.carry ≡ 3 * word + carry }
-{
-    let low = 3 * (word % HALF) + carry;
-    let high = 3 * (word / HALF) + low / HALF;
-    TripleWord {
-        word: high % HALF * HALF + low % HALF,
-        carry: high / HALF,
-    }
-}
-
 // How many places hold 1 in a and 0 in b.
 fn only_in(a: u64, b: u64) -> usize
     ensures { (result ≡ only_in a b) × (result ≤ 64) }
 {
-    u64::count_ones(a - (a & b)) as usize
+    (a - (a & b)).count_ones() as usize
 }
 
 // The highest word of a number that is not 0, and how many places are beneath it; 0 and 0 if there is
@@ -69,7 +47,7 @@ impl Top {
         requires { self.under ≤ 8 * number_bytes + 64 }
         ensures { result ≡ length_to self }
     {
-        self.under + (64 - u64::leading_zeros(self.word) as usize)
+        self.under + (64 - self.word.leading_zeros() as usize)
     }
 }
 
@@ -91,13 +69,13 @@ impl Tally {
         requires within { Within self }
         ensures { (result.places ≡ self.places + 64) × Within result × (result.carry ≡ (3 * word + self.carry) / 2 ^ 64) × ((e rest : ℕ) → Tallied e (rest * 2 ^ 64 + word) self → Tallied e rest result) }
     {
-        let triple = tripled(word, self.carry);
+        let (triple, carry) = word.carrying_mul(3, self.carry);
         Tally {
             places: self.places + 64,
-            plus: self.plus + only_in(triple.word, word),
-            minus: self.minus + only_in(word, triple.word),
-            top: self.top.with_word(self.places, triple.word),
-            carry: triple.carry,
+            plus: self.plus + only_in(triple, word),
+            minus: self.minus + only_in(word, triple),
+            top: self.top.with_word(self.places, triple),
+            carry,
         }
     }
 }
@@ -124,10 +102,8 @@ pub fn tally_of(number: &[u8]) -> Digits
         top: Top { under: 0, word: 0 },
         carry: 0,
     };
-    let mut k = 0;
-    while below.places < 8 * number.len() {
-        below = below.with_word(words[k]);
-        k += 1;
+    for word in &words[..number.len().div_ceil(8)] {
+        below = below.with_word(*word);
     }
     let all = below.with_word(0);
     Digits {

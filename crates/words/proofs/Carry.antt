@@ -1,35 +1,9 @@
--- Sums and differences of words, and what they carry or borrow: of a sum of two words, which wraps, and of a number, word by word. Assumes nothing.
-use Rattle.std.proofs.Common.{◌≡◌, ℕ, ◌+◌, ◌*◌, ◌%◌, ◌^◌, ◌<◌, ◌≤◌, Bool, true, false, ◌||◌, ltb, List, length, get_or, take, set, refl, ap, mul_assoc, pow-suc, mul-add, add-one, arith, take_all, get_or-set_same, ltb-false, ltb-true}
+-- Sums and differences of numbers, word by word from the lowest, and what they carry or borrow. Assumes nothing.
+use Rattle.std.proofs.Common.{◌≡◌, ℕ, ◌+◌, ◌*◌, ◌^◌, ◌<◌, Bool, false, List, length, get_or, take, set, refl, ap, mul_assoc, pow-suc, mul-add, add-one, arith, take_all, get_or-set_same}
 use lib.Seq.{take-set-le}
 use mir.Val.{bool_byte}
 use Rattle.integers.specs.Positional.{positional, words_value}
 use Rattle.integers.proofs.Positional.{positional_take}
-use Rattle.integers.proofs.Bits.{bool_small}
-
--- a sum has wrapped if it is below its first part
-pub wrapped : (a b s : ℕ) → a < 2 ^ 64 → b < 2 ^ 64 → s ≡ (a + b) % 2 ^ 64 → s + 2 ^ 64 * bool_byte (ltb s a) ≡ a + b
-wrapped a b s ha hb e = go (ltb s a) refl
-  where
-    go : (t : Bool) → ltb s a ≡ t → s + 2 ^ 64 * bool_byte t ≡ a + b
-    go true l = omega (arith, ltb-true s a l)
-    go false l = omega (arith, ltb-false s a l)
-
--- of two that are not both true, either
-either : (p q : Bool) → bool_byte p + bool_byte q ≤ 1 → bool_byte (p || q) ≡ bool_byte p + bool_byte q
-either true true h = absurd (omega arith)
-either true false h = refl
-either false q h = omega arith
-
--- a word of a sum carries if either of its two additions has wrapped
-pub sum_law : (a b : ℕ) (k : Bool) (s t : ℕ) → a < 2 ^ 64 → b < 2 ^ 64 → s ≡ (a + b) % 2 ^ 64 → t ≡ (s + bool_byte k) % 2 ^ 64
-    → t + bool_byte (ltb s a || ltb t s) * 2 ^ 64 ≡ a + b + bool_byte k
-sum_law a b k s t ha hb hs ht =
-    let small = bool_small k in
-    let e = wrapped a b s ha hb hs in
-    let f = wrapped s (bool_byte k) t (omega arith) (omega arith) ht in
-    omega (arith, either (ltb s a) (ltb t s) (omega arith))
-
--- ---- word by word, from the lowest
 
 -- the k low words of v and w add up to those of u and what is carried into the next; where w is taken from u and leaves v, it is borrowed
 abbrev pub Carried : ℕ → List ℕ → List ℕ → List ℕ → Bool → Type 0

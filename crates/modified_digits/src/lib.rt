@@ -48,7 +48,8 @@ pub fn write_form(words: &[u64], triple: &[u64], out: &mut [u8], form: Shape)
     }
 }
 
-// Writes them one place up, as `write_raised` does: the digit at place i is byte i + 1.
+// Writes them one place up, as `write_raised` does: the digit at place i is byte i + 1. One function for
+// both would be no plainer: they share a test and two stores, and promise different things of the rest.
 pub fn write_form_raised(words: &[u64], triple: &[u64], out: &mut [u8], form: Shape)
     requires triple_value { words_value triple.now ≡ 3 * words_value words.now }
     requires shape_of { ShapeOf (words_value words.now) form }

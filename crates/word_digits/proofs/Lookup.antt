@@ -101,9 +101,6 @@ module _ (more less : ℕ) where
       let t = tabulate_same (λ j. other j + 2 * negatives j) (index_byte more less) 8 (λ j l. index_is j) in
       rw (twice, others_are) (value_add other (λ j. 2 * negatives j) 8 ∙ ap bytes_value t)
 
-  pub indices_fit : others + 2 * negative < 2 ^ 64
-  indices_fit = rw indices_are (value_small (index_byte more less) 8 index_small)
-
   -- what is looked up for byte j
   pub index_at : (word j : ℕ) → word ≡ bytes_value (tabulate (index_byte more less) 8) → j < 8 → word / 2 ^ (8 * j) % 256 ≡ index_byte more less j
   index_at word j e l =

@@ -29,9 +29,3 @@ loop-i-preserved c =
     let r : c.rest_of-sum.result ≡ rest 2 (c.loop-i.sum + 2 * c.raised_at.result) = c.rest_of-sum.ensures.0 in
     let high = rw (← c.loop-i.invariant.1) at (highest_more s args.from c.loop-i.i c.loop-i.length c.loop-i.invariant.2 (search rules)) in
     (search rules, rw (r, c.loop-i.invariant.1, a, add-one c.loop-i.i), rw c.top-length.ensures high)
-
-pub returns : goal.returns
-returns c =
-    let args = c.args in
-    let e : c.loop-i.i ≡ args.n + 1 = omega arith in
-    rw e at c.loop-i.invariant.2

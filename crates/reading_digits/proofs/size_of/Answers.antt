@@ -60,9 +60,6 @@ pub overflow_sub-size : goal.overflow_sub-size
 overflow_sub-size c =
     omega (arith, carry_left c.args.width c.largest_digit.ensures.range.1 c.args.digits.now c.args.count c.requires.digit_string c.requires.significant _ _ _ (last (goal.at.overflow_sub-size c).After-byte_of-byte-2))
 
-pub overflow_cast-size-3 : goal.overflow_cast-size-3
-overflow_cast-size-3 c = omega (arith, c.byte_of-byte-2.ensures.small)
-
 pub returns : goal.returns
 returns c =
     subtracted_all c.args.width c.largest_digit.ensures.range.1 c.args.digits.now c.args.count c.requires.digit_string c.requires.significant _ _ _ (last (goal.at.returns c).After-byte_of-byte-2) (simp length-set (search rules))

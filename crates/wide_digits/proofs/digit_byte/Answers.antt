@@ -1,6 +1,5 @@
 -- `wide_digits::digit_byte` meets its contract. Assumes nothing.
 use Prim.Native.Nat.{◌*◌, ◌/◌}
-use native.Mathlib.Omega.{arith}
 use borrow.Author.Tests.{eq-eqb, ne_eqb}
 use Rattle.wide_digits.proofs.Digit.{Bytes, digit_bytes_lem}
 use borrow.Author.Rules.{rules}
@@ -9,15 +8,6 @@ use Rattle.wide_digits.proofs.digit_byte.Goals as goal
 
 bytes : (c : Start) → Bytes c.args.half c.args.remainder (c.args.remainder / c.args.half * (2 * c.args.half))
 bytes c = digit_bytes_lem c.args.half c.args.remainder (search rules) (search rules) (search rules)
-
-pub overflow_mul-carried-2 : goal.overflow_mul-carried-2
-overflow_mul-carried-2 c = omega (arith, (bytes (goal.at.overflow_mul-carried-2 c).Start).most)
-
-pub overflow_sub-result : goal.overflow_sub-result
-overflow_sub-result c = omega (arith, (bytes (goal.at.overflow_sub-result c).Start).most)
-
-pub overflow_add-result-else-sign-eq0 : goal.overflow_add-result-else-sign-eq0
-overflow_add-result-else-sign-eq0 c = omega (arith, (bytes (goal.at.overflow_add-result-else-sign-eq0 c).Start).most)
 
 pub returns-then-sign-eq0 : goal.returns-then-sign-eq0
 returns-then-sign-eq0 c = rw (eq-eqb c.args.sign 0 c.if-sign-eq0.true) (bytes (goal.at.returns-then-sign-eq0 c).Start).own

@@ -29,21 +29,6 @@ pub loop-place-preserved-then-left-eq0 : goal.loop-place-preserved-then-left-eq0
 loop-place-preserved-then-left-eq0 c =
     (search rules, search rules, search rules, scanned_blank c.bits-width.result c.bits-width.ensures.range.0 c.bits-width.ensures.range.1 c.args.sign (bytes_value c.args.bytes.now) c.loop-place.place c.loop-place.carry c.loop-place.length c.loop-place.out c.loop-place.invariant.3 blank_places (omega arith) (rw c.left_at-left.ensures at c.if-left-eq0.true))
 
-pub overflow_cast-zeros : goal.overflow_cast-zeros
-overflow_cast-zeros c = omega (arith, (taken (goal.at.overflow_cast-zeros c).Else-left-eq0).few)
-
-pub overflow_shr-remainder : goal.overflow_shr-remainder
-overflow_shr-remainder c = omega (arith, (taken (goal.at.overflow_shr-remainder c).Else-left-eq0).few)
-
-pub overflow_mul-remainder : goal.overflow_mul-remainder
-overflow_mul-remainder c = omega (arith, half_fits (goal.at.overflow_mul-remainder c).Else-left-eq0)
-
-pub nonzero_rem-remainder : goal.nonzero_rem-remainder
-nonzero_rem-remainder c = omega (arith, half_fits (goal.at.nonzero_rem-remainder c).Else-left-eq0)
-
-pub overflow_add-place-in-loop-place : goal.overflow_add-place-in-loop-place
-overflow_add-place-in-loop-place c = omega (arith, (taken (goal.at.overflow_add-place-in-loop-place c).Else-left-eq0).few)
-
 pub digit_byte-requires : goal.digit_byte-requires
 digit_byte-requires c = record {
   le_half = half_fits (goal.at.digit_byte-requires c).Else-left-eq0;
@@ -53,18 +38,6 @@ digit_byte-requires c = record {
 
 pub bounds-out-place : goal.bounds-out-place
 bounds-out-place c = omega (arith, (taken (goal.at.bounds-out-place c).Else-left-eq0).within)
-
-pub nonzero_div-carry : goal.nonzero_div-carry
-nonzero_div-carry c = omega (arith, half_fits (goal.at.nonzero_div-carry c).Else-left-eq0)
-
-pub overflow_add-length : goal.overflow_add-length
-overflow_add-length c = omega (arith, (taken (goal.at.overflow_add-length c).Else-left-eq0).within)
-
-pub overflow_add-place-in-loop-place-2 : goal.overflow_add-place-in-loop-place-2
-overflow_add-place-in-loop-place-2 c = omega (arith, (taken (goal.at.overflow_add-place-in-loop-place-2 c).Else-left-eq0).within)
-
-pub loop-place-smaller : goal.loop-place-smaller
-loop-place-smaller c = omega (arith, (taken (goal.at.loop-place-smaller c).Else-left-eq0).within)
 
 pub loop-place-preserved : goal.loop-place-preserved
 loop-place-preserved c =

@@ -4,25 +4,23 @@
 ghost use Rattle.std.specs.Prelude.{◌≡◌, ◌++◌, ◌*◌, ◌≤◌, length, drop};
 ghost use Rattle.rules.specs.Limits.{step_bytes};
 ghost use Rattle.integers.specs.Positional.{bytes_value};
-ghost use Rattle.numbers.specs.Admission.{Positive};
 ghost use Rattle.chains.specs.Steps.{plan_bytes_of};
 ghost use Rattle.chains.specs.Counts.{counts_of};
 ghost use Rattle.methods.specs.ModifiedNaf.{modified_naf_steps};
 
 use digit_plans::{DIGIT_ROOM, write_steps};
-use integers::words_of;
 use modified_digits::{shape_of, write_form_raised};
+use numbers::PositiveNumber;
 use rules::Counts;
 use triples::{saved, tripled};
 
 // The counts of the steps for a number above zero: those of method 4, but where 1 0 -1 become 1 1, a
 // doubling and a subtraction fewer and an addition more. Method 4 doubles for each digit but one.
-pub fn counts(number: &[u8]) -> Counts
-    requires { Positive number.now }
+pub fn counts(number: &PositiveNumber) -> Counts
     ensures { result ≡ counts_of (modified_naf_steps (bytes_value number.now)) }
 {
+    let triple = tripled(&number.words());
     let plain = method_naf::counts(number);
-    let triple = tripled(&words_of(number));
     let fewer = saved(&triple, plain.doublings + 1);
     let doublings = plain.doublings - fewer;
     let additions = plain.additions + fewer;
@@ -35,14 +33,13 @@ pub fn counts(number: &[u8]) -> Counts
 }
 
 // Writes the steps for a number above zero.
-pub fn write(number: &[u8], out: &mut [u8])
-    requires positive { Positive number.now }
-    requires number_in_bounds { step_bytes * length (modified_naf_steps (bytes_value number.now)) ≤ length out.old }
+pub fn write(number: &PositiveNumber, out: &mut [u8])
+    requires { step_bytes * length (modified_naf_steps (bytes_value number.now)) ≤ length out.old }
     ensures { out.new ≡ plan_bytes_of (modified_naf_steps (bytes_value number.now)) ++ drop (length (plan_bytes_of (modified_naf_steps (bytes_value number.now)))) out.old }
 {
-    let words = words_of(number);
+    let words = number.words();
     let triple = tripled(&words);
-    let form = shape_of(number, &triple);
+    let form = shape_of(&number.number(), &triple);
     let mut digits = [0u8; DIGIT_ROOM];
     write_form_raised(&words, &triple, &mut digits, form);
     write_steps(&digits[1..form.length + 1], out);

@@ -4,14 +4,13 @@
 ghost use Rattle.std.specs.Prelude.{◌≡◌, ◌++◌, ◌*◌, ◌≤◌, length, drop};
 ghost use Rattle.rules.specs.Limits.{step_bytes};
 ghost use Rattle.integers.specs.Positional.{bytes_value};
-ghost use Rattle.numbers.specs.Admission.{Positive};
 ghost use Rattle.chains.specs.Steps.{plan_bytes_of};
 ghost use Rattle.chains.specs.Counts.{counts_of};
 ghost use Rattle.methods.specs.NonAdjacentForm.{naf_steps};
 
 use digit_plans::{DIGIT_ROOM, write_steps};
-use integers::words_of;
 use naf_tally::tally_of;
+use numbers::PositiveNumber;
 use recoding_words_digits::write_raised;
 use rules::Counts;
 use triples::{count, tripled};
@@ -19,11 +18,10 @@ use triples::{count, tripled};
 // The counts of the steps for a number above zero: a doubling for each digit below the top one, which
 // is 1, an addition for each of these that is 1, and a subtraction for each -1. The digits are one
 // fewer than the bits of 3 e.
-pub fn counts(number: &[u8]) -> Counts
-    requires { Positive number.now }
+pub fn counts(number: &PositiveNumber) -> Counts
     ensures { result ≡ counts_of (naf_steps (bytes_value number.now)) }
 {
-    let digits = tally_of(number);
+    let digits = tally_of(number.bytes());
     Counts {
         doublings: digits.length - 2,
         additions: digits.plus - 1,
@@ -32,14 +30,13 @@ pub fn counts(number: &[u8]) -> Counts
 }
 
 // Writes the steps for a number above zero.
-pub fn write(number: &[u8], out: &mut [u8])
-    requires positive { Positive number.now }
-    requires number_in_bounds { step_bytes * length (naf_steps (bytes_value number.now)) ≤ length out.old }
+pub fn write(number: &PositiveNumber, out: &mut [u8])
+    requires { step_bytes * length (naf_steps (bytes_value number.now)) ≤ length out.old }
     ensures { out.new ≡ plan_bytes_of (naf_steps (bytes_value number.now)) ++ drop (length (plan_bytes_of (naf_steps (bytes_value number.now)))) out.old }
 {
-    let words = words_of(number);
+    let words = number.words();
     let triple = tripled(&words);
-    let length = count(number, &triple);
+    let length = count(&number.number(), &triple);
     let mut digits = [0u8; DIGIT_ROOM];
     write_raised(&words, &triple, &mut digits, length);
     write_steps(&digits[1..length + 1], out);

@@ -4,12 +4,12 @@
 
 ghost use Rattle.std.specs.Prelude.{◌≡◌, ◌++◌, ℕ, ◌+◌, ◌*◌, ◌/◌, ◌<◌, ◌≤◌, length, drop, get_or};
 ghost use Rattle.integers.specs.Positional.{bytes_value, words_value};
-ghost use Rattle.numbers.specs.Admission.{Admitted};
 ghost use Rattle.signed_digits.specs.Modified.{modified};
 ghost use Rattle.signed_digits.specs.Bytes.{digit_bytes};
 ghost use Rattle.digit_strings.specs.Places.{place_byte};
 ghost use Rattle.modified_digits.specs.Form.{ShapeOf};
 
+use numbers::Number;
 use recoding_words_digits::{write, write_raised};
 use triples::{count, saved};
 
@@ -21,9 +21,8 @@ pub struct Shape {
     pub kept: usize,
 }
 
-pub fn shape_of(number: &[u8], triple: &[u64]) -> Shape
-    requires admitted { Admitted number.now }
-    requires triple_value { words_value triple.now ≡ 3 * bytes_value number.now }
+pub fn shape_of(number: &Number, triple: &[u64]) -> Shape
+    requires { words_value triple.now ≡ 3 * bytes_value number.now }
     ensures { ShapeOf (bytes_value number.now) result }
 {
     let plain = count(number, triple);

@@ -1,10 +1,12 @@
 // The tests that every call makes of the number that it is handed (docs/RULES.md, "Numbers").
 #![tactic(auto)]
 
-ghost use Rattle.std.specs.Prelude.{◌≡◌, Ok, Err, MatchResult};
+ghost use Rattle.std.specs.Prelude.{◌≡◌, ◌<◌, ℕ, Ok, Err, MatchResult, slice_index};
+ghost use Rattle.integers.specs.Positional.{bytes_value, words_value};
 ghost use Rattle.numbers.specs.Admission.{is_padded, number_verdict, positive_verdict, Admitted, Positive};
 
-use rules::{NUMBER_BYTES, Refusal};
+use integers::words_of;
+use rules::{NUMBER_BYTES, NUMBER_WORDS, Refusal};
 use std::marker::Model;
 
 // Whether the highest byte is zero. The empty number has none.
@@ -48,14 +50,14 @@ pub struct Number<'a> {
 }
 
 impl<'a> Model for Number<'a> {
-    ghost use Rattle.std.specs.Prelude.{ℕ, List};
+    ghost use Rattle.std.specs.Prelude.{ℕ, ◌<◌, List, slice_index};
     ghost use Rattle.numbers.specs.Admission.{Admitted};
 
     ghost Value = { List ℕ };
 
     ghost view = { λ n. n.bytes.now };
 
-    ghost invariant = { λ n. Admitted n.bytes.now };
+    ghost invariant = { λ n. Admitted n.bytes.now × ((i : ℕ) → slice_index n.bytes.now i < 256) };
 }
 
 impl<'a> Number<'a> {
@@ -70,9 +72,18 @@ impl<'a> Number<'a> {
 
     pub fn bytes(&self) -> &'a [u8]
         ensures value { result.now ≡ self.now }
+        ensures small { (i : ℕ) → slice_index self.now i < 256 }
         ensures admitted { Admitted self.now }
     {
         self.bytes
+    }
+
+    // The words of its value.
+    #[tactic(auto, using(crate::proofs::Tests::admitted_value))]
+    pub fn words(&self) -> [u64; NUMBER_WORDS]
+        ensures { words_value result ≡ bytes_value self.now }
+    {
+        words_of(self.bytes)
     }
 }
 
@@ -83,14 +94,14 @@ pub struct PositiveNumber<'a> {
 }
 
 impl<'a> Model for PositiveNumber<'a> {
-    ghost use Rattle.std.specs.Prelude.{ℕ, List};
+    ghost use Rattle.std.specs.Prelude.{ℕ, ◌<◌, List, slice_index};
     ghost use Rattle.numbers.specs.Admission.{Positive};
 
     ghost Value = { List ℕ };
 
     ghost view = { λ n. n.bytes.now };
 
-    ghost invariant = { λ n. Positive n.bytes.now };
+    ghost invariant = { λ n. Positive n.bytes.now × ((i : ℕ) → slice_index n.bytes.now i < 256) };
 }
 
 impl<'a> PositiveNumber<'a> {
@@ -105,14 +116,24 @@ impl<'a> PositiveNumber<'a> {
 
     pub fn bytes(&self) -> &'a [u8]
         ensures value { result.now ≡ self.now }
+        ensures small { (i : ℕ) → slice_index self.now i < 256 }
         ensures positive { Positive self.now }
     {
         self.number().bytes()
     }
 
+    pub fn words(&self) -> [u64; NUMBER_WORDS]
+        ensures value { words_value result ≡ bytes_value self.now }
+        ensures small { (i : ℕ) → slice_index self.now i < 256 }
+        ensures positive { Positive self.now }
+    {
+        self.number().words()
+    }
+
     // The same as a number that may be zero.
     pub fn number(&self) -> Number<'a>
         ensures value { result ≡ self.now }
+        ensures small { (i : ℕ) → slice_index self.now i < 256 }
         ensures positive { Positive self.now }
     {
         Number { bytes: self.bytes }

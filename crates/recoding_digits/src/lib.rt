@@ -7,12 +7,12 @@ ghost use Rattle.std.specs.Prelude.{◌≡◌, ◌++◌, ◌+◌, ◌*◌, ◌�
 ghost use Rattle.integers.specs.Bits.{bit};
 ghost use Rattle.integers.specs.Positional.{bytes_value};
 ghost use Rattle.integers.specs.Tabulate.{tabulate};
-ghost use Rattle.numbers.specs.Admission.{Admitted};
 ghost use Rattle.signed_digits.specs.Naf.{canonical};
 ghost use Rattle.digit_strings.specs.Places.{place_byte};
 ghost use Rattle.recoding_digits.specs.Internal.{triple_carry, difference};
 
 use integers::byte_at;
+use numbers::Number;
 
 // What three times a number carries into the byte above its own.
 fn carry_above(low: &[u8]) -> u64
@@ -27,11 +27,11 @@ fn carry_above(low: &[u8]) -> u64
 
 // How many digits the canonical string has: one fewer than the bits of three times the number.
 // The number's highest byte is not zero, so the top bit of three times it comes from there.
-pub fn count(number: &[u8]) -> usize
-    requires { Admitted number.now }
+pub fn count(number: &Number) -> usize
     ensures { result ≡ length (canonical (pos (bytes_value number.now))) }
 {
-    let Some((highest, low)) = number.split_last() else {
+    let bytes = number.bytes();
+    let Some((highest, low)) = bytes.split_last() else {
         return 0;
     };
     let top = 3 * u64::from(*highest) + carry_above(low);

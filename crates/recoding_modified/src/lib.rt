@@ -5,22 +5,21 @@
 ghost use Rattle.std.specs.Prelude.{◌≡◌, length};
 ghost use Rattle.recoding_modified.specs.RecodeModified.{recode_modified_answer, recode_modified_buffer};
 
-use integers::words_of;
 use modified_digits::{shape_of, write_form};
-use numbers::number_verdict;
+use numbers::Number;
 use rules::Refusal;
 use triples::tripled;
 
 // Writes the modified form of a number, lowest digit first, one byte a digit.
-#[tactic(auto, using(numbers::proofs::Tests::admitted_is, numbers::proofs::Tests::admitted_value, rules::proofs::Fitted::too_small, rules::proofs::Fitted::fits, crate::proofs::Outcomes::length_recoding), unfolding(crate::specs::RecodeModified::modified_recoding))]
+#[tactic(auto, using(rules::proofs::Fitted::too_small, rules::proofs::Fitted::fits, crate::proofs::Outcomes::length_recoding), unfolding(crate::specs::RecodeModified::modified_recoding))]
 pub fn recode_modified(number: &[u8], out: &mut [u8]) -> Result<usize, Refusal>
     ensures answer { result ≡ recode_modified_answer number.now (length out.old) }
     ensures buffer { out.new ≡ recode_modified_buffer number.now out.old }
 {
-    number_verdict(number)?;
-    let words = words_of(number);
+    let number = Number::new(number)?;
+    let words = number.words();
     let triple = tripled(&words);
-    let form = shape_of(number, &triple);
+    let form = shape_of(&number, &triple);
     let length = form.length;
     if out.len() < length {
         return Err(Refusal::RoomTooSmall(length));

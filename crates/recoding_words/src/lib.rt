@@ -4,22 +4,21 @@
 ghost use Rattle.std.specs.Prelude.{◌≡◌, length};
 ghost use Rattle.recoding.specs.Recode.{recode_answer, recode_buffer};
 
-use integers::words_of;
-use numbers::number_verdict;
+use numbers::Number;
 use recoding_words_digits::write;
 use rules::Refusal;
 use triples::{count, tripled};
 
 // Writes the canonical string of a number, lowest digit first, one byte a digit.
-#[tactic(auto, using(numbers::proofs::Tests::admitted_is, numbers::proofs::Tests::admitted_value, rules::proofs::Fitted::too_small, rules::proofs::Fitted::fits, recoding::proofs::Outcomes::length_recoding, recoding::proofs::Outcomes::recoding_written))]
+#[tactic(auto, using(rules::proofs::Fitted::too_small, rules::proofs::Fitted::fits, recoding::proofs::Outcomes::length_recoding, recoding::proofs::Outcomes::recoding_written))]
 pub fn recode_words(number: &[u8], out: &mut [u8]) -> Result<usize, Refusal>
     ensures answer { result ≡ recode_answer number.now (length out.old) }
     ensures buffer { out.new ≡ recode_buffer number.now out.old }
 {
-    number_verdict(number)?;
-    let words = words_of(number);
+    let number = Number::new(number)?;
+    let words = number.words();
     let triple = tripled(&words);
-    let length = count(number, &triple);
+    let length = count(&number, &triple);
     if out.len() < length {
         return Err(Refusal::RoomTooSmall(length));
     }

@@ -5,11 +5,11 @@
 
 ghost use Rattle.std.specs.Prelude.{◌≡◌, ℕ, ◌+◌, ◌*◌, ◌^◌, ◌≤◌, length, pos};
 ghost use Rattle.integers.specs.Positional.{bytes_value, words_value};
-ghost use Rattle.numbers.specs.Admission.{Admitted};
 ghost use Rattle.signed_digits.specs.Naf.{canonical};
 ghost use Rattle.signed_digits.specs.Modified.{saved};
 
 use integers::bit_length;
+use numbers::Number;
 use rules::NUMBER_WORDS;
 use words::{bits_down, word_in};
 
@@ -54,12 +54,12 @@ pub fn tripled(words: &[u64; NUMBER_WORDS]) -> [u64; TRIPLE_WORDS]
 
 // How many canonical digits a number has: as many as bits, or one more where 3 e has a bit above those
 // of 2 e.
-pub fn count(number: &[u8], triple: &[u64]) -> usize
-    requires admitted { Admitted number.now }
-    requires triple_value { words_value triple.now ≡ 3 * bytes_value number.now }
+pub fn count(number: &Number, triple: &[u64]) -> usize
+    requires { words_value triple.now ≡ 3 * bytes_value number.now }
     ensures { result ≡ length (canonical (pos (bytes_value number.now))) }
 {
-    let bits = bit_length(number);
+    let bytes = number.bytes();
+    let bits = bit_length(bytes);
     let top = bits + 1;
     bits + ((word_in(triple, top / 64) >> (top % 64)) % 2) as usize
 }

@@ -8,7 +8,6 @@ use lib.ListN.{length}
 use Rattle.integers.specs.Positional.{bytes_value}
 use Rattle.rules.specs.Limits.{plan_steps}
 use Rattle.rules.specs.declared.Counts.{Counts}
-use Rattle.numbers.proofs.Tests.{admitted_value}
 use Rattle.signed_digits.specs.Naf.{canonical}
 use Rattle.signed_digits.specs.Modified.{saved}
 use Rattle.signed_digits.proofs.Left.{some_digits}
@@ -32,7 +31,7 @@ module _ (c : After-counts-plain) where
   e = bytes_value number
 
   possible : Plannable e
-  possible = plannable number (λ i. (c.type_inv.number i).fits) c.requires
+  possible = plannable number c.words.ensures.small c.words.ensures.positive
 
   plain : c.counts-plain.result ≡ counts_of (naf_steps e)
   plain = c.counts-plain.ensures
@@ -50,8 +49,7 @@ module _ (c : After-counts-plain) where
 -- the digits saved
 fewer : (c : After-saved-fewer) → c.saved-fewer.result ≡ saved (bytes_value c.args.number.now)
 fewer c =
-    let held = c.words_of.ensures ∙ admitted_value (number (goal.at.After-saved-fewer c).After-counts-plain) c.requires.admitted in
-    c.saved-fewer.ensures (e (goal.at.After-saved-fewer c).After-counts-plain) (c.tripled-triple.ensures ∙ rw held) (ap (λ (c : Counts). c.doublings + 1) (plain (goal.at.After-saved-fewer c).After-counts-plain) ∙ digits (goal.at.After-saved-fewer c).After-counts-plain)
+    c.saved-fewer.ensures (e (goal.at.After-saved-fewer c).After-counts-plain) (c.tripled-triple.ensures ∙ rw c.words.ensures.value) (ap (λ (c : Counts). c.doublings + 1) (plain (goal.at.After-saved-fewer c).After-counts-plain) ∙ digits (goal.at.After-saved-fewer c).After-counts-plain)
 
 same : (c : Counts) {d a s : ℕ} → d ≡ c.doublings → a ≡ c.additions → s ≡ c.subtractions → counts d a s ≡ c
 same c p q r = rw (p, q, r)

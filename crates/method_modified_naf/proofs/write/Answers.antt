@@ -1,11 +1,11 @@
 -- `method_modified_naf::write` meets its contract. Assumes nothing.
-use mathlib.Core.Path.{◌≡◌, ◌∙◌}
+use mathlib.Core.Path.{◌≡◌, sym, ap, ◌∙◌}
 use Prim.Native.Nat.{ℕ, ◌+◌, ◌-◌, ◌*◌, ◌≤◌}
 use native.Mathlib.Omega.{arith}
 use lib.ListN.{take, drop}
 use Rattle.rules.specs.Limits.{number_bytes}
-use Rattle.integers.specs.Positional.{bytes_value, words_value}
-use Rattle.numbers.proofs.Tests.{admitted_value}
+use Rattle.integers.specs.Positional.{bytes_value}
+use Rattle.modified_digits.specs.Form.{ShapeOf}
 use Rattle.signed_digits.specs.Modified.{modified}
 use Rattle.signed_digits.specs.Bytes.{string_of}
 use Rattle.signed_digits.proofs.Modified.{modified_bits, modified_top, modified_size}
@@ -13,35 +13,32 @@ use Rattle.recoding_digits.proofs.TopByte.{most_digits_lem}
 use Rattle.methods.specs.ModifiedNaf.{modified_naf_steps}
 use Rattle.digit_plans.proofs.Digits.{raised}
 use borrow.Author.Rules.{rules}
-use Rattle.method_modified_naf.proofs.write.Goals.{After-words_of-words, After-shape_of-form, After-write_form_raised}
+use Rattle.method_modified_naf.proofs.write.Goals.{After-shape_of-form, After-write_form_raised}
 use Rattle.method_modified_naf.proofs.write.Goals as goal
 
--- the words hold the number
-held : (c : After-words_of-words) → words_value c.words_of-words.result ≡ bytes_value c.args.number.now
-held c = c.words_of-words.ensures ∙ admitted_value c.args.number.now c.requires.positive.admitted
+shaped : (c : After-shape_of-form) → ShapeOf (bytes_value c.args.number.now) c.shape_of-form.result
+shaped c = rw (← c.number.ensures.value) c.shape_of-form.ensures
 
 -- the digits fit, one place up, in whole words
 few : (c : After-shape_of-form) → c.shape_of-form.result.length ≤ 8 * number_bytes + 1
 few c =
     let number = c.args.number.now in
-    omega (arith, c.shape_of-form.ensures.digits, modified_size (bytes_value number), most_digits_lem number (λ i. (c.type_inv.number i).fits), c.requires.positive.admitted.short)
+    omega (arith, (shaped c).digits, modified_size (bytes_value number), most_digits_lem number c.number.ensures.small, c.number.ensures.positive.admitted.short)
 
 there : (c : After-write_form_raised) → string_of (take (c.shape_of-form.result.length + 1 - 1) (drop 1 c.write_form_raised.new.out)) ≡ modified (bytes_value c.args.number.now)
 there c =
     let e : ℕ = bytes_value c.args.number.now in
-    raised (modified e) c.write_form_raised.new.out c.shape_of-form.result.length c.shape_of-form.ensures.digits (omega (arith, few (goal.at.After-write_form_raised c).After-shape_of-form)) (modified_bits e)
-    (λ i l. rw (held (goal.at.After-write_form_raised c).After-words_of-words) at (c.write_form_raised.ensures i l))
+    let shape = shaped (goal.at.After-write_form_raised c).After-shape_of-form in
+    raised (modified e) c.write_form_raised.new.out c.shape_of-form.result.length shape.digits (omega (arith, few (goal.at.After-write_form_raised c).After-shape_of-form)) (modified_bits e)
+    (λ i l. rw c.words-words.ensures.value at (c.write_form_raised.ensures i l))
 
 pub shape_of-form-requires : goal.shape_of-form-requires
-shape_of-form-requires c = record {
-  admitted = c.requires.positive.admitted;
-  triple_value = c.tripled-triple.ensures ∙ rw (held (goal.at.shape_of-form-requires c).After-words_of-words);
-}
+shape_of-form-requires c = c.tripled-triple.ensures ∙ ap (λ v. 3 * v) (c.words-words.ensures.value ∙ ap bytes_value (sym c.number.ensures.value))
 
 pub write_form_raised-requires : goal.write_form_raised-requires
 write_form_raised-requires c = record {
   triple_value = c.tripled-triple.ensures;
-  shape_of = rw (held (goal.at.write_form_raised-requires c).After-words_of-words) c.shape_of-form.ensures;
+  shape_of = rw c.words-words.ensures.value (shaped (goal.at.write_form_raised-requires c).After-shape_of-form);
   length_in_bounds = omega (arith, few (goal.at.write_form_raised-requires c).After-shape_of-form);
 }
 
@@ -58,7 +55,7 @@ write_steps-requires c =
     let digits = there (goal.at.write_steps-requires c).After-write_form_raised in
     record {
       bits = rw digits (modified_bits e);
-      top = rw digits (modified_top e (search rules));
+      top = rw digits (modified_top e (omega (arith, c.number.ensures.positive.nonzero)));
       steps_in_bounds = rw digits (search rules);
     }
 

@@ -1,7 +1,7 @@
 -- `method_naf::counts` meets its contract. Assumes nothing.
 use mathlib.Core.Path.{◌≡◌, sym}
 use mathlib.Core.List.{List}
-use Prim.Native.Nat.{ℕ, ◌-◌}
+use Prim.Native.Nat.{ℕ, ◌-◌, ◌<◌}
 use native.Mathlib.Omega.{arith}
 use lib.IntN.{ℤ, pos}
 use lib.ListN.{length}
@@ -15,19 +15,29 @@ use Rattle.method_naf.proofs.Signs.{plus_digits_lem, minus_digits_lem}
 use borrow.Author.Rules.{rules}
 use Rattle.method_naf.proofs.counts.Goals as goal
 
+pub tally_of-digits-requires : goal.tally_of-digits-requires
+tally_of-digits-requires c = rw c.bytes.ensures.value c.bytes.ensures.positive.admitted
+
 pub overflow_sub-result : goal.overflow_sub-result
 overflow_sub-result c =
     let e : ℕ = bytes_value c.args.number.now in
-    omega (arith, c.tally_of-digits.ensures.2, digit_count e (search rules), some_digits 2 (omega arith) e (search rules))
+    let digits = rw c.bytes.ensures.value at c.tally_of-digits.ensures in
+    let nonzero = c.bytes.ensures.positive.nonzero in
+    let above : 0 < e = omega (arith, nonzero) in
+    omega (arith, digits.2, digit_count e above, some_digits 2 (omega arith) e above)
 
 pub overflow_sub-result-2 : goal.overflow_sub-result-2
 overflow_sub-result-2 c =
     let e : ℕ = bytes_value c.args.number.now in
-    omega (arith, c.tally_of-digits.ensures.0, plus_digits_lem e, wide_plus e 2 (search rules) (omega arith))
+    let digits = rw c.bytes.ensures.value at c.tally_of-digits.ensures in
+    omega (arith, digits.0, plus_digits_lem e, wide_plus e 2 (omega (arith, c.bytes.ensures.positive.nonzero)) (omega arith))
 
 pub returns : goal.returns
 returns c =
     let e : ℕ = bytes_value c.args.number.now in
     let ds : List ℤ = canonical (pos e) in
-    let below : c.tally_of-digits.result.length - 2 ≡ length ds - 1 = omega (arith, c.tally_of-digits.ensures.2, digit_count e (search rules)) in
-    rw (below, c.tally_of-digits.ensures.0, c.tally_of-digits.ensures.1, ← plus_digits_lem e, ← minus_digits_lem e) (sym (naf_counts e (search rules)))
+    let digits = rw c.bytes.ensures.value at c.tally_of-digits.ensures in
+    let nonzero = c.bytes.ensures.positive.nonzero in
+    let above : 0 < e = omega (arith, nonzero) in
+    let below : c.tally_of-digits.result.length - 2 ≡ length ds - 1 = omega (arith, digits.2, digit_count e above) in
+    rw (below, digits.0, digits.1, ← plus_digits_lem e, ← minus_digits_lem e) (sym (naf_counts e above))

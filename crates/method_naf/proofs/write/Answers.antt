@@ -1,12 +1,11 @@
 -- `method_naf::write` meets its contract. Assumes nothing.
-use mathlib.Core.Path.{◌≡◌, ◌∙◌}
+use mathlib.Core.Path.{◌≡◌, sym, ap, ◌∙◌}
 use Prim.Native.Nat.{ℕ, ◌+◌, ◌-◌, ◌*◌, ◌≤◌}
 use native.Mathlib.Omega.{arith}
 use lib.IntN.{pos}
-use lib.ListN.{take, drop}
+use lib.ListN.{length, take, drop}
 use Rattle.rules.specs.Limits.{number_bytes}
-use Rattle.integers.specs.Positional.{bytes_value, words_value}
-use Rattle.numbers.proofs.Tests.{admitted_value}
+use Rattle.integers.specs.Positional.{bytes_value}
 use Rattle.signed_digits.specs.Naf.{canonical}
 use Rattle.signed_digits.specs.Bytes.{string_of}
 use Rattle.signed_digits.proofs.Canonical.{canonical_form}
@@ -15,28 +14,25 @@ use Rattle.recoding_digits.proofs.TopByte.{most_digits_lem}
 use Rattle.methods.specs.NonAdjacentForm.{naf_steps}
 use Rattle.digit_plans.proofs.Digits.{raised}
 use borrow.Author.Rules.{rules}
-use Rattle.method_naf.proofs.write.Goals.{After-words_of-words, After-count-length, After-write_raised}
+use Rattle.method_naf.proofs.write.Goals.{After-count-length, After-write_raised}
 use Rattle.method_naf.proofs.write.Goals as goal
 
--- the words hold the number
-held : (c : After-words_of-words) → words_value c.words_of-words.result ≡ bytes_value c.args.number.now
-held c = c.words_of-words.ensures ∙ admitted_value c.args.number.now c.requires.positive.admitted
+counted : (c : After-count-length) → c.count-length.result ≡ length (canonical (pos (bytes_value c.args.number.now)))
+counted c = c.count-length.ensures ∙ ap (λ l. length (canonical (pos (bytes_value l)))) c.number.ensures.value
 
 -- the digits fit, one place up, in whole words
 few : (c : After-count-length) → c.count-length.result ≤ 8 * number_bytes + 1
-few c = omega (arith, c.count-length.ensures, most_digits_lem c.args.number.now (λ i. (c.type_inv.number i).fits), c.requires.positive.admitted.short)
+few c = omega (arith, counted c, most_digits_lem c.args.number.now c.number.ensures.small, c.number.ensures.positive.admitted.short)
 
 there : (c : After-write_raised) → string_of (take (c.count-length.result + 1 - 1) (drop 1 c.write_raised.new.out)) ≡ canonical (pos (bytes_value c.args.number.now))
 there c =
     let e : ℕ = bytes_value c.args.number.now in
-    raised (canonical (pos e)) c.write_raised.new.out c.count-length.result c.count-length.ensures (omega (arith, few (goal.at.After-write_raised c).After-count-length)) (canonical_form (pos e)).digits
-    (λ i l. rw (held (goal.at.After-write_raised c).After-words_of-words) at (c.write_raised.ensures i l))
+    let n = counted (goal.at.After-write_raised c).After-count-length in
+    raised (canonical (pos e)) c.write_raised.new.out c.count-length.result n (omega (arith, few (goal.at.After-write_raised c).After-count-length)) (canonical_form (pos e)).digits
+    (λ i l. rw c.words-words.ensures.value at (c.write_raised.ensures i l))
 
 pub count-length-requires : goal.count-length-requires
-count-length-requires c = record {
-  admitted = c.requires.positive.admitted;
-  triple_value = c.tripled-triple.ensures ∙ rw (held (goal.at.count-length-requires c).After-words_of-words);
-}
+count-length-requires c = c.tripled-triple.ensures ∙ ap (λ v. 3 * v) (c.words-words.ensures.value ∙ ap bytes_value (sym c.number.ensures.value))
 
 pub write_raised-requires : goal.write_raised-requires
 write_raised-requires c = record {
@@ -57,7 +53,7 @@ write_steps-requires c =
     let digits = there (goal.at.write_steps-requires c).After-write_raised in
     record {
       bits = rw digits (canonical_form (pos e)).digits;
-      top = rw digits (canonical_top e (search rules));
+      top = rw digits (canonical_top e (omega (arith, c.number.ensures.positive.nonzero)));
       steps_in_bounds = rw digits (search rules);
     }
 

@@ -14,7 +14,7 @@ module _ (c : After-saved-fewer) where
   e = bytes_value c.args.number.now
 
   fewer : c.saved-fewer.result ≡ saved e
-  fewer = c.saved-fewer.ensures e c.requires.triple_value c.count-plain.ensures
+  fewer = c.saved-fewer.ensures e c.requires c.count-plain.ensures
 
 pub overflow_sub-length : goal.overflow_sub-length
 overflow_sub-length c = omega (arith, fewer (goal.at.overflow_sub-length c).After-saved-fewer, c.count-plain.ensures, saved_fits (e (goal.at.overflow_sub-length c).After-saved-fewer))

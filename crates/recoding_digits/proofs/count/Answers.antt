@@ -1,5 +1,6 @@
 -- `recoding_digits::count` meets its contract. Assumes nothing.
-use mathlib.Core.Path.{◌≡◌, sym}
+use mathlib.Core.Path.{◌≡◌, sym, ap, ◌∙◌}
+use mathlib.Core.List.{◌∷◌, ◌++◌, []}
 use Prim.Native.Nat.{ℕ, ◌+◌, ◌*◌, ◌-◌, ◌≤◌}
 use native.Mathlib.Omega.{arith}
 use lib.Count.{count_leading_zeros}
@@ -13,23 +14,28 @@ use Rattle.recoding_digits.proofs.TopByte.{highest_fits, count_is, count_zero}
 use Rattle.recoding_digits.proofs.count.Goals.{After-carry_above}
 use Rattle.recoding_digits.proofs.count.Goals as goal
 
--- the count is right, and the subtraction in it does not wrap
-counted : (c : After-carry_above)
-    → let top : ℕ = 3 * c.from.result + c.carry_above.result in
-    (count_leading_zeros 64 top ≤ 62) × (8 * length c.in-Some.low.now + (63 - count_leading_zeros 64 top) ≡ length (canonical (pos (bytes_value c.args.number.now))))
-counted c =
-    let number = c.args.number.now in
-    let low = c.in-Some.low.now in
-    let top : ℕ = 3 * c.from.result + c.carry_above.result in
-    count_is number low c.in-Some.highest.now c.in-Some.ensures.cases.0 (λ i. (c.type_inv.number i).fits) c.requires.top top (rw (c.from.ensures, c.carry_above.ensures))
+module _ (c : After-carry_above) where
+  parts : c.args.number.now ≡ c.in-Some.low.now ++ (c.in-Some.highest.now ∷ [])
+  parts = sym c.bytes-bytes.ensures.value ∙ c.in-Some.ensures.cases.0
+
+  -- the count is right, and the subtraction in it does not wrap
+  counted :
+      let top : ℕ = 3 * c.from.result + c.carry_above.result in
+      (count_leading_zeros 64 top ≤ 62) × (8 * length c.in-Some.low.now + (63 - count_leading_zeros 64 top) ≡ length (canonical (pos (bytes_value c.args.number.now))))
+  counted =
+      let top : ℕ = 3 * c.from.result + c.carry_above.result in
+      count_is c.args.number.now c.in-Some.low.now c.in-Some.highest.now parts c.bytes-bytes.ensures.small c.bytes-bytes.ensures.admitted.top top (rw (c.from.ensures, c.carry_above.ensures))
 
 pub returns-in_default : goal.returns-in_default
-returns-in_default c = sym (count_zero c.args.number.now (zero_if_empty c.args.number.now c.in_default.ensures.cases))
+returns-in_default c =
+    let e : length c.args.number.now ≡ 0 = ap length (sym c.bytes-bytes.ensures.value) ∙ c.in_default.ensures.cases in
+    sym (count_zero c.args.number.now (zero_if_empty c.args.number.now e))
 
 pub overflow_add-top : goal.overflow_add-top
 overflow_add-top c =
     let low = c.in-Some.low.now in
-    let fits = highest_fits c.args.number.now low c.in-Some.highest.now c.in-Some.ensures.cases.0 (λ i. (c.type_inv.number i).fits) c.requires.top in
+    let p = sym c.bytes-bytes.ensures.value ∙ c.in-Some.ensures.cases.0 in
+    let fits = highest_fits c.args.number.now low c.in-Some.highest.now p c.bytes-bytes.ensures.small c.bytes-bytes.ensures.admitted.top in
     omega (arith, fits, carry_small (bytes_value low) (length low), c.from.ensures, c.carry_above.ensures)
 
 pub overflow_sub-result : goal.overflow_sub-result

@@ -20,13 +20,13 @@ fn counts(number: &PositiveNumber, method: Method) -> Counts
     requires { Allowed method }
     ensures { result ≡ counts_of (steps_by method (bytes_value number.now)) }
 {
-    let number = number.bytes();
+    let bytes = number.bytes();
     match method {
-        Method::Binary => method_binary::counts(number),
-        Method::FixedWindows(d) => method_fixed_windows::counts(number, d),
-        Method::SlidingWindows(d) => method_sliding_windows::counts(number, d),
+        Method::Binary => method_binary::counts(bytes),
+        Method::FixedWindows(d) => method_fixed_windows::counts(bytes, d),
+        Method::SlidingWindows(d) => method_sliding_windows::counts(bytes, d),
         Method::Naf => method_naf::counts(number),
-        Method::WideNaf(w) => method_wide_naf::counts(number, Width { bits: w }),
+        Method::WideNaf(w) => method_wide_naf::counts(bytes, Width { bits: w }),
         Method::ModifiedNaf => method_modified_naf::counts(number),
     }
 }
@@ -38,13 +38,13 @@ fn write(number: &PositiveNumber, method: Method, out: &mut [u8])
     requires number_in_bounds { step_bytes * length (steps_by method (bytes_value number.now)) ≤ length out.old }
     ensures { out.new ≡ plan_bytes_of (steps_by method (bytes_value number.now)) ++ drop (length (plan_bytes_of (steps_by method (bytes_value number.now)))) out.old }
 {
-    let number = number.bytes();
+    let bytes = number.bytes();
     match method {
-        Method::Binary => method_binary::write(number, out),
-        Method::FixedWindows(d) => method_fixed_windows::write(number, d, out),
-        Method::SlidingWindows(d) => method_sliding_windows::write(number, d, out),
+        Method::Binary => method_binary::write(bytes, out),
+        Method::FixedWindows(d) => method_fixed_windows::write(bytes, d, out),
+        Method::SlidingWindows(d) => method_sliding_windows::write(bytes, d, out),
         Method::Naf => method_naf::write(number, out),
-        Method::WideNaf(w) => method_wide_naf::write(number, Width { bits: w }, out),
+        Method::WideNaf(w) => method_wide_naf::write(bytes, Width { bits: w }, out),
         Method::ModifiedNaf => method_modified_naf::write(number, out),
     }
 }

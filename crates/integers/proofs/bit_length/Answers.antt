@@ -1,7 +1,5 @@
 -- `integers::bit_length` meets its contract. Assumes nothing.
 use mathlib.Core.Path.{sym}
-use native.Mathlib.Omega.{arith}
-use lib.Count.{leading_le}
 use lib.ListN.{length}
 use Rattle.integers.proofs.Positional.{zero_if_empty, all_significant}
 use Rattle.integers.proofs.Bits.{zero_length, length_by_top}
@@ -10,12 +8,6 @@ use Rattle.integers.proofs.bit_length.Goals as goal
 
 pub returns-then-n-eq0 : goal.returns-then-n-eq0
 returns-then-n-eq0 c = let number = c.args.number.now in sym (zero_length number (zero_if_empty number c.if-n-eq0.true))
-
-pub overflow_cast-result : goal.overflow_cast-result
-overflow_cast-result c = omega (arith, leading_le 64 c.byte_at.result)
-
-pub overflow_sub-result-2 : goal.overflow_sub-result-2
-overflow_sub-result-2 c = leading_le 64 c.byte_at.result
 
 pub returns : goal.returns
 returns c =

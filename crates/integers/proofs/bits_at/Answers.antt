@@ -1,11 +1,7 @@
 -- `integers::bits_at` meets its contract. Assumes nothing.
-use lib.Pow.{pow_pos}
 use Rattle.integers.proofs.Bits.{bits_of_bytes}
 use borrow.Author.Rules.{rules}
 use Rattle.integers.proofs.bits_at.Goals as goal
-
-pub nonzero_rem-result-2 : goal.nonzero_rem-result-2
-nonzero_rem-result-2 c = rw c.power_of_two.ensures (pow_pos c.args.count)
 
 pub returns : goal.returns
 returns c =

@@ -4,13 +4,13 @@
 ghost use Rattle.std.specs.Prelude.{◌≡◌, cond, ◌++◌, ◌*◌, ◌-◌, ◌≤◌, eqb, nat_abs, length, drop};
 ghost use Rattle.rules.specs.Limits.{step_bytes};
 ghost use Rattle.integers.specs.Positional.{bytes_value};
-ghost use Rattle.numbers.specs.Admission.{Positive};
 ghost use Rattle.signed_digits.specs.Bytes.{byte_digit};
 ghost use Rattle.chains.specs.Steps.{plan_bytes_of};
 ghost use Rattle.chains.specs.Counts.{counts_of};
 ghost use Rattle.methods.specs.OddMultiples.{odd_position, table_length};
 ghost use Rattle.methods.specs.WideNaf.{wide_naf_steps};
 
+use numbers::PositiveNumber;
 use plan_writing::Cursor;
 use plan_writing::tables::{position, table_counts, table_length, write_table};
 use rules::{Counts, NUMBER_BYTES, Width};
@@ -44,12 +44,11 @@ fn table_steps(length: usize, top: usize, width: Width) -> usize
 // The counts of the steps for a number above zero: those of the table, a doubling for each digit
 // below the top one, an addition for each of these that is above zero, and a subtraction for each
 // below. A digit is odd, or zero. In sums of 16 bits the compiler counts eight digits at once.
-pub fn counts(number: &[u8], width: Width) -> Counts
-    requires positive { Positive number.now }
+pub fn counts(number: &PositiveNumber, width: Width) -> Counts
     ensures { result ≡ counts_of (wide_naf_steps (bytes_value number.now) width) }
 {
     let mut digits = [0u8; DIGIT_ROOM];
-    let length = recoded(number, width, &mut digits);
+    let length = recoded(&number.number(), width, &mut digits);
     let mut plus: u16 = 0;
     let mut minus: u16 = 0;
     for &digit in &digits[..length] {
@@ -65,13 +64,12 @@ pub fn counts(number: &[u8], width: Width) -> Counts
 }
 
 // Writes the steps for a number above zero.
-pub fn write(number: &[u8], width: Width, out: &mut [u8])
-    requires positive { Positive number.now }
-    requires width_in_bounds { step_bytes * length (wide_naf_steps (bytes_value number.now) width) ≤ length out.old }
+pub fn write(number: &PositiveNumber, width: Width, out: &mut [u8])
+    requires { step_bytes * length (wide_naf_steps (bytes_value number.now) width) ≤ length out.old }
     ensures { out.new ≡ plan_bytes_of (wide_naf_steps (bytes_value number.now) width) ++ drop (length (plan_bytes_of (wide_naf_steps (bytes_value number.now) width))) out.old }
 {
     let mut digits = [0u8; DIGIT_ROOM];
-    let length = recoded(number, width, &mut digits);
+    let length = recoded(&number.number(), width, &mut digits);
     let top = position_of(digits[length - 1]);
     let table = write_table(out, table_steps(length, top, width), 1);
     let mut c = Cursor {

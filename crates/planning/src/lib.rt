@@ -26,7 +26,7 @@ fn counts(number: &PositiveNumber, method: Method) -> Counts
         Method::FixedWindows(d) => method_fixed_windows::counts(bytes, d),
         Method::SlidingWindows(d) => method_sliding_windows::counts(bytes, d),
         Method::Naf => method_naf::counts(number),
-        Method::WideNaf(w) => method_wide_naf::counts(bytes, Width { bits: w }),
+        Method::WideNaf(w) => method_wide_naf::counts(number, Width { bits: w }),
         Method::ModifiedNaf => method_modified_naf::counts(number),
     }
 }
@@ -44,7 +44,7 @@ fn write(number: &PositiveNumber, method: Method, out: &mut [u8])
         Method::FixedWindows(d) => method_fixed_windows::write(bytes, d, out),
         Method::SlidingWindows(d) => method_sliding_windows::write(bytes, d, out),
         Method::Naf => method_naf::write(number, out),
-        Method::WideNaf(w) => method_wide_naf::write(bytes, Width { bits: w }, out),
+        Method::WideNaf(w) => method_wide_naf::write(number, Width { bits: w }, out),
         Method::ModifiedNaf => method_modified_naf::write(number, out),
     }
 }

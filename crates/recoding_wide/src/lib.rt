@@ -4,7 +4,7 @@
 ghost use Rattle.std.specs.Prelude.{◌≡◌, length};
 ghost use Rattle.recoding_wide.specs.RecodeWide.{recode_wide_answer, recode_wide_buffer};
 
-use numbers::number_verdict;
+use numbers::Number;
 use output::put;
 use rules::{NUMBER_BYTES, Refusal};
 use wide_digits::recoded;
@@ -19,9 +19,9 @@ pub fn recode_wide(number: &[u8], width: u32, out: &mut [u8]) -> Result<usize, R
     ensures answer { result ≡ recode_wide_answer width number.now (length out.old) }
     ensures buffer { out.new ≡ recode_wide_buffer width number.now out.old }
 {
-    number_verdict(number)?;
+    let number = Number::new(number)?;
     let width = width_of(width)?;
     let mut digits = [0u8; DIGIT_ROOM];
-    let length = recoded(number, width, &mut digits);
+    let length = recoded(&number, width, &mut digits);
     put(&digits[..length], out)
 }

@@ -4,13 +4,14 @@
 #![tactic(auto)]
 
 ghost use Rattle.std.specs.Prelude.{◌≡◌, ◌+◌, ◌*◌, ◌/◌, ◌%◌, ◌^◌, ◌<◌, ◌≤◌, pos, length};
-ghost use Rattle.rules.specs.Limits.{number_bytes, least_width, largest_width};
+ghost use Rattle.rules.specs.Limits.{least_width, largest_width};
 ghost use Rattle.integers.specs.Positional.{bytes_value};
 ghost use Rattle.signed_digits.specs.Bytes.{digit_byte};
 ghost use Rattle.wide_digits.specs.Form.{Blank, turned, FormIn};
 ghost use Rattle.wide_digits.specs.Internal.{left_at, nearest};
 
 use integers::{power_of_two, whole_word_at};
+use numbers::Number;
 use rules::{LARGEST_WIDTH, NUMBER_BYTES, Width};
 
 // Of eight bytes up to seven bits stand below a place.
@@ -80,14 +81,14 @@ pub fn write(bytes: &[u8], bits: usize, width: Width, sign: u8, out: &mut [u8]) 
 // A number, with as many bytes above it as a load takes.
 const PADDED_BYTES: usize = NUMBER_BYTES + 8;
 
-// Writes the digits of a number within the limit into a buffer of zeros; answers how many there are.
-pub fn recoded(number: &[u8], width: Width, out: &mut [u8]) -> usize
-    requires number_len_bound { length number.now ≤ number_bytes }
+// Writes the digits of a number into a buffer of zeros; answers how many there are.
+pub fn recoded(number: &Number, width: Width, out: &mut [u8]) -> usize
     requires number_in_bounds { 8 * length number.now < length out.old }
     requires blank { Blank out.old }
     ensures form { FormIn width (pos (bytes_value number.now)) out.new result }
     ensures range { (least_width ≤ width) × (width ≤ largest_width) }
 {
+    let number = number.bytes();
     let mut padded = [0u8; PADDED_BYTES];
     padded[..number.len()].copy_from_slice(number);
     write(&padded, 8 * number.len(), width, 0, out)

@@ -21,10 +21,15 @@ module _ (c : After-recoded-length) where
   e = bytes_value c.args.number.now
 
   held : Recoded e c.args.width c.recoded-length.new.out c.recoded-length.result
-  held = record { some = search rules; wide = search rules; narrow = search rules; form = c.recoded-length.ensures.form }
+  held = record {
+    some = omega (arith, c.number.ensures.positive.nonzero);
+    wide = search rules;
+    narrow = search rules;
+    form = rw c.number.ensures.value at c.recoded-length.ensures.form;
+  }
 
   number : Plannable e
-  number = plannable c.args.number.now (λ i. (c.type_inv.number i).fits) c.requires.positive
+  number = plannable c.args.number.now c.number.ensures.small c.number.ensures.positive
 
 -- the digit of a turn
 module _ (c : In-loop-digit) where
@@ -58,8 +63,7 @@ module _ (c : After-table_counts-table) where
 
 pub recoded-length-requires : goal.recoded-length-requires
 recoded-length-requires c = record {
-  number_len_bound = search rules;
-  number_in_bounds = search rules;
+  number_in_bounds = rw c.number.ensures.value (omega (arith, c.number.ensures.positive.admitted.short));
   blank = zeros_blank (8 * number_bytes + 1);
 }
 

@@ -30,7 +30,12 @@ module _ (c : After-recoded-length) where
   lent = c.args.out.now
 
   held : Recoded e w c.recoded-length.new.out c.recoded-length.result
-  held = record { some = search rules; wide = search rules; narrow = search rules; form = c.recoded-length.ensures.form }
+  held = record {
+    some = omega (arith, c.number.ensures.positive.nonzero);
+    wide = search rules;
+    narrow = search rules;
+    form = rw c.number.ensures.value at c.recoded-length.ensures.form;
+  }
 
 -- what is written so far, as part of all steps
 module _ (c : At-loop-i) where
@@ -41,8 +46,7 @@ module _ (c : At-loop-i) where
 
 pub recoded-length-requires : goal.recoded-length-requires
 recoded-length-requires c = record {
-  number_len_bound = search rules;
-  number_in_bounds = search rules;
+  number_in_bounds = rw c.number.ensures.value (omega (arith, c.number.ensures.positive.admitted.short));
   blank = zeros_blank (8 * number_bytes + 1);
 }
 
@@ -76,7 +80,7 @@ at_digit-c-requires c =
     let u = underway (goal.at.at_digit-c-requires c).At-loop-i (suc i) (omega arith) in
     let room = underway_room (lent start) c.loop-i.out c.loop-i.c (at_place (e start) (w start)) (wide_naf_steps (e start) (w start)) i (place_grows (e start) (w start)) u in
     let more = length_at_digit (digit_at (naf (w start) (pos (e start))) i) u.partial in
-    let fits = c.requires.width_in_bounds in
+    let fits = c.requires in
     record {
       position = λ n. c.position_of.ensures;
       steps_in_bounds = omega (arith, u.writing.steps);

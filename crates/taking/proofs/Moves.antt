@@ -7,8 +7,7 @@ use mathlib.Core.List.{List, [], ◌∷◌}
 use Prim.Native.Nat.{ℕ, zero, suc, ◌+◌, ◌*◌, ◌/◌, ◌%◌, ◌^◌, ◌<◌, ◌≤◌}
 use native.Mathlib.Omega.{arith}
 use lib.Dec.{leb}
-use lib.ListN.{length, get_or, take, replicate}
-use lib.Seq.{take_all}
+use lib.ListN.{get_or, replicate}
 use mir.Val.{bool_byte}
 use Rattle.rules.specs.Limits.{number_words}
 use Rattle.integers.specs.Positional.{positional, words_value}
@@ -57,14 +56,10 @@ carry_half (suc (suc (suc (suc m)))) h = absurd (omega arith)
 low_word : (words : List ℕ) → get_or words 0 0 % 4 ≡ words_value words % 4
 low_word words = omega (arith, positional_drop (2 ^ 64) words 0)
 
--- ---- the number of a recoder that does not carry, and of all its words halved
+-- ---- the number of a recoder that is done
 pub zero_stands : stands_for (record { words = replicate number_words 0; carry = false }) ≡ 0
 unfolding stands_for positional
 zero_stands = refl
-
-pub whole_halved : (half words : List ℕ) → length half ≡ number_words → length words ≡ number_words
-    → words_value (take number_words half) ≡ words_value (take number_words words) / 2 → words_value half ≡ words_value words / 2
-whole_halved half words h w e = rw (take_all number_words half (omega arith), take_all number_words words (omega arith)) at e
 
 -- ---- the definitions of a take, where something is left
 answer_some : (n : ℕ) → n ≢ 0 → take_answer n ≡ Some (digit_byte (low_digit 2 n))

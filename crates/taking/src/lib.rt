@@ -9,7 +9,7 @@ ghost use Rattle.taking.specs.Take.{IsStart, IsTake};
 use integers::words_of;
 use numbers::number_verdict;
 use rules::{NUMBER_WORDS, Refusal};
-use words::{halve, is_zero};
+use words::{halved, is_zero};
 
 // A recoder stands for the value of its words, least significant first, plus one if it carries.
 #[derive(Clone, Copy)]
@@ -23,6 +23,13 @@ pub struct Recoder {
 pub struct Started {
     pub recoder: Recoder,
     pub answer: Result<(), Refusal>,
+}
+
+// What a take answers: the byte of a digit, if one is left, and the recoder moved on.
+#[derive(Clone, Copy)]
+pub struct Taken {
+    pub next: Recoder,
+    pub answer: Option<u8>,
 }
 
 impl Recoder {
@@ -44,21 +51,30 @@ impl Recoder {
         Started { recoder, answer }
     }
 
-    // Takes the lowest digit off, and answers its byte. If no digit is left there is none, and nothing changes.
-    #[tactic(auto, using(integers::proofs::Bits::bool_small, crate::proofs::Moves::none_left, crate::proofs::Moves::some_left, crate::proofs::Moves::digit_answered, crate::proofs::Moves::whole_halved, crate::proofs::Moves::digit_taken_off))]
-    pub fn take(&mut self) -> Option<u8>
-        ensures { IsTake self.old self.new result }
+    // The lowest digit, if one is left, and the recoder moved on by one place; if none is left, the same
+    // recoder.
+    #[tactic(auto, using(integers::proofs::Bits::bool_small, crate::proofs::Moves::none_left, crate::proofs::Moves::some_left, crate::proofs::Moves::digit_answered, crate::proofs::Moves::digit_taken_off))]
+    pub fn take(self) -> Taken
+        ensures { IsTake self result.next result.answer }
     {
-        if is_zero(&self.words) & !self.carry {
-            return None;
+        let Recoder { words, carry } = self;
+        if is_zero(&words) & !carry {
+            return Taken {
+                next: self,
+                answer: None,
+            };
         }
-        let word = self.words[0];
-        let one = u64::from(self.carry);
+        let word = words[0];
+        let one = u64::from(carry);
         let ones = word % 2 + word / 2 % 2 + one;
         let residue = word % 4 + one;
-        halve(&mut self.words);
-        self.carry = 2 <= ones;
-        Some(digit_byte(residue))
+        Taken {
+            next: Recoder {
+                words: halved(words),
+                carry: 2 <= ones,
+            },
+            answer: Some(digit_byte(residue)),
+        }
     }
 }
 

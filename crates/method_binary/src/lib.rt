@@ -4,7 +4,6 @@
 ghost use Rattle.std.specs.Prelude.{◌≡◌, List, ◌++◌, ℕ, ◌+◌, ◌*◌, ◌≤◌, ◌<◌, length, drop};
 ghost use Rattle.rules.specs.Limits.{step_bytes};
 ghost use Rattle.integers.specs.Positional.{bytes_value};
-ghost use Rattle.numbers.specs.Admission.{Positive};
 ghost use Rattle.chains.specs.Steps.{plan_bytes_of};
 ghost use Rattle.chains.specs.Counts.{counts_of};
 ghost use Rattle.methods.specs.PartialPlan.{PartialPlan};
@@ -12,15 +11,16 @@ ghost use Rattle.methods.specs.Binary.{at_bit, binary_steps};
 ghost use Rattle.plan_writing.specs.Writing.{Writing};
 
 use integers::{bit_at, bit_length, ones};
+use numbers::PositiveNumber;
 use plan_writing::Cursor;
 use rules::Counts;
 
-// The counts of the steps for a number above zero: the bit length less one, the ones less one.
+// The counts of the steps: the bit length less one, the ones less one.
 #[tactic(auto, using(integers::proofs::Bits::some_bits, methods::proofs::Binary::ones_positive, methods::proofs::Binary::binary_counts))]
-pub fn counts(number: &[u8]) -> Counts
-    requires { Positive number.now }
+pub fn counts(number: &PositiveNumber) -> Counts
     ensures { result ≡ counts_of (binary_steps (bytes_value number.now)) }
 {
+    let number = number.bytes();
     Counts {
         doublings: bit_length(number) - 1,
         additions: ones(number) - 1,
@@ -42,12 +42,12 @@ fn at_bit(c: Cursor, out: &mut [u8], bit: u64) -> Cursor
     }
 }
 
-// Writes the steps for a number above zero.
-pub fn write(number: &[u8], out: &mut [u8])
-    requires positive { Positive number.now }
-    requires number_in_bounds { step_bytes * length (binary_steps (bytes_value number.now)) ≤ length out.old }
+// Writes the steps.
+pub fn write(number: &PositiveNumber, out: &mut [u8])
+    requires { step_bytes * length (binary_steps (bytes_value number.now)) ≤ length out.old }
     ensures { out.new ≡ plan_bytes_of (binary_steps (bytes_value number.now)) ++ drop (length (plan_bytes_of (binary_steps (bytes_value number.now)))) out.old }
 {
+    let number = number.bytes();
     let top = bit_length(number) - 1;
     let mut c = Cursor::first();
     for i in (0..top).rev() {

@@ -4,7 +4,6 @@
 ghost use Rattle.std.specs.Prelude.{◌≡◌, ◌≢◌, cond, List, ◌++◌, ℕ, ◌+◌, ◌-◌, ◌*◌, ◌^◌, ◌≤◌, ◌<◌, eqb, length, drop};
 ghost use Rattle.rules.specs.Limits.{number_bytes, step_bytes};
 ghost use Rattle.integers.specs.Positional.{bytes_value};
-ghost use Rattle.numbers.specs.Admission.{Positive};
 ghost use Rattle.chains.specs.Steps.{plan_bytes_of};
 ghost use Rattle.chains.specs.Counts.{counts_of};
 ghost use Rattle.methods.specs.PartialPlan.{PartialPlan};
@@ -14,6 +13,7 @@ ghost use Rattle.methods.specs.Forecast.{nonzero_windows};
 ghost use Rattle.plan_writing.specs.Writing.{Writing};
 
 use integers::{bit_length, bits_at, byte_at, power_of_two};
+use numbers::PositiveNumber;
 use plan_writing::Cursor;
 use plan_writing::tables::{table_counts, write_table};
 use rules::Counts;
@@ -29,12 +29,11 @@ fn window_at(number: &[u8], width: usize, i: usize) -> usize
 
 // The place of the top window, the one that holds the top bit: 0 for a number below 2^width.
 #[tactic(auto, using(integers::proofs::Bits::some_bits, integers::proofs::Bits::bytes_length))]
-fn top_window(number: &[u8], width: usize) -> usize
-    requires positive { Positive number.now }
-    requires le_width { 1 ≤ width }
+fn top_window(number: &PositiveNumber, width: usize) -> usize
+    requires { 1 ≤ width }
     ensures { (result ≡ top_window (bytes_value number.now) width) × (width * result ≤ 8 * number_bytes) }
 {
-    (bit_length(number) - 1) / width
+    (bit_length(number.bytes()) - 1) / width
 }
 
 // The value of a number that a byte holds.
@@ -66,20 +65,20 @@ fn nonzero_windows(number: &[u8], width: usize, n: usize) -> usize
     total
 }
 
-// The counts of the steps for a number above zero.
-pub fn counts(number: &[u8], width: usize) -> Counts
-    requires positive { Positive number.now }
-    requires le_width { (1 ≤ width) × (width ≤ fixed_window_bits) }
+// The counts of the steps.
+pub fn counts(number: &PositiveNumber, width: usize) -> Counts
+    requires { (1 ≤ width) × (width ≤ fixed_window_bits) }
     ensures { result ≡ counts_of (fixed_window_steps (bytes_value number.now) width) }
 {
     let top = top_window(number, width);
+    let bytes = number.bytes();
     if top == 0 {
-        return table_counts(small_value(number) - 1);
+        return table_counts(small_value(bytes) - 1);
     }
     let table = table_counts(table_length(width));
     Counts {
         doublings: table.doublings + width * top,
-        additions: table.additions + nonzero_windows(number, width, top),
+        additions: table.additions + nonzero_windows(bytes, width, top),
         subtractions: 0,
     }
 }
@@ -115,17 +114,17 @@ fn write_windows(number: &[u8], width: usize, top: usize, out: &mut [u8])
     }
 }
 
-// Writes the steps for a number above zero.
-pub fn write(number: &[u8], width: usize, out: &mut [u8])
-    requires positive { Positive number.now }
+// Writes the steps.
+pub fn write(number: &PositiveNumber, width: usize, out: &mut [u8])
     requires le_width { (1 ≤ width) × (width ≤ fixed_window_bits) }
     requires width_in_bounds { step_bytes * length (fixed_window_steps (bytes_value number.now) width) ≤ length out.old }
     ensures { out.new ≡ plan_bytes_of (fixed_window_steps (bytes_value number.now) width) ++ drop (length (plan_bytes_of (fixed_window_steps (bytes_value number.now) width))) out.old }
 {
     let top = top_window(number, width);
+    let bytes = number.bytes();
     if 0 < top {
-        write_windows(number, width, top, out);
+        write_windows(bytes, width, top, out);
     } else {
-        write_table(out, small_value(number) - 1, 0);
+        write_table(out, small_value(bytes) - 1, 0);
     }
 }

@@ -7,7 +7,7 @@ use Prim.Native.Nat.{ℕ, zero, suc, ◌+◌, ◌*◌, ◌-◌, ◌^◌, ◌<◌
 use borrow.Author.Tests.{eq-eqb, ne_eqb}
 use native.Mathlib.Nat.{zero-add, add-zero, suc-add, lt_of_lt_of_le}
 use native.Mathlib.Omega.{arith}
-use lib.ListN.{length, take, drop}
+use lib.ListN.{length, drop}
 use lib.Pow.{pow_mono}
 use Rattle.rules.specs.Limits.{number_bytes}
 use Rattle.integers.specs.Positional.{bytes_value, words_value}
@@ -16,7 +16,6 @@ use Rattle.integers.specs.Bits.{bit, bit_length}
 use Rattle.integers.proofs.Bits.{quotient_none, bit_length_iff, bytes_length}
 use Rattle.rules.specs.declared.Counts.{Counts}
 use Rattle.numbers.specs.Admission.{Positive}
-use Rattle.numbers.proofs.Tests.{admitted_value}
 use Rattle.chains.specs.Steps.{Step, plan_bytes_of}
 use Rattle.chains.specs.Counts.{counts, counts_of, total}
 use Rattle.methods.specs.PartialPlan.{PartialPlan, none, double, doubled, add_at}
@@ -48,9 +47,8 @@ pub record InWords (number words : List ℕ) (n : ℕ) : Type 0 where
   pub top : n ≡ bit_length (words_value words) - 1
   pub few : bit_length (words_value words) ≤ 8 * number_bytes
 
-pub in_words : (number words : List ℕ) (k : ℕ) → Below 256 number → Positive number → words_value words ≡ bytes_value (take number_bytes number) → k ≡ bit_length (bytes_value number) → InWords number words (k - 1)
-in_words number words k b p e l =
-    let same : words_value words ≡ bytes_value number = e ∙ admitted_value number p.admitted in
+pub in_words : (number words : List ℕ) (k : ℕ) → Below 256 number → Positive number → words_value words ≡ bytes_value number → k ≡ bit_length (bytes_value number) → InWords number words (k - 1)
+in_words number words k b p same l =
     record {
       same = same;
       some = omega (arith, p.nonzero);

@@ -5,7 +5,6 @@ ghost use Rattle.std.specs.Prelude.{◌≡◌, ◌≢◌, List, ◌++◌, ℕ, �
 ghost use Rattle.rules.specs.Limits.{number_bytes, step_bytes};
 ghost use Rattle.integers.specs.Bits.{bit_length};
 ghost use Rattle.integers.specs.Positional.{bytes_value, words_value};
-ghost use Rattle.numbers.specs.Admission.{Positive};
 ghost use Rattle.chains.specs.Steps.{plan_bytes_of};
 ghost use Rattle.chains.specs.Counts.{counts_of};
 ghost use Rattle.methods.specs.PartialPlan.{PartialPlan};
@@ -15,8 +14,9 @@ ghost use Rattle.methods.specs.Forecast.{later_windows};
 ghost use Rattle.plan_writing.specs.Writing.{Writing};
 ghost use Rattle.method_sliding_windows.specs.Scan.{first_in, at_sliding_window, windows_in, Turn, table_steps, start_of};
 
-use integers::{bit_length, words_of};
+use integers::bit_length;
 use methods::SLIDING_WINDOW_BITS;
+use numbers::PositiveNumber;
 use plan_writing::Cursor;
 use plan_writing::tables::{position, table_counts, table_length, write_table};
 use rules::Counts;
@@ -133,15 +133,14 @@ fn later_windows(words: &[u64], below: usize, width: usize) -> usize
     windows
 }
 
-// The counts of the steps for a number above zero: those of the table, a doubling for each bit
+// The counts of the steps: those of the table, a doubling for each bit
 // below the first window, an addition for each later window.
-pub fn counts(number: &[u8], width: usize) -> Counts
-    requires positive { Positive number.now }
-    requires le_width { (1 ≤ width) × (width ≤ sliding_window_bits) }
+pub fn counts(number: &PositiveNumber, width: usize) -> Counts
+    requires { (1 ≤ width) × (width ≤ sliding_window_bits) }
     ensures { result ≡ counts_of (sliding_window_steps (bytes_value number.now) width) }
 {
-    let words = words_of(number);
-    let start = start_of(&words, bit_length(number) - 1, width);
+    let words = number.words();
+    let start = start_of(&words, bit_length(number.bytes()) - 1, width);
     let table = table_counts(start.table);
     let windows = later_windows(&words, start.below, width);
     Counts {
@@ -164,15 +163,14 @@ fn at_window(c: Cursor, out: &mut [u8], taken: Taken) -> Cursor
     }
 }
 
-// Writes the steps for a number above zero.
-pub fn write(number: &[u8], width: usize, out: &mut [u8])
-    requires positive { Positive number.now }
+// Writes the steps.
+pub fn write(number: &PositiveNumber, width: usize, out: &mut [u8])
     requires le_width { (1 ≤ width) × (width ≤ sliding_window_bits) }
     requires width_in_bounds { step_bytes * length (sliding_window_steps (bytes_value number.now) width) ≤ length out.old }
     ensures { out.new ≡ plan_bytes_of (sliding_window_steps (bytes_value number.now) width) ++ drop (length (plan_bytes_of (sliding_window_steps (bytes_value number.now) width))) out.old }
 {
-    let words = words_of(number);
-    let start = start_of(&words, bit_length(number) - 1, width);
+    let words = number.words();
+    let start = start_of(&words, bit_length(number.bytes()) - 1, width);
     let table = write_table(out, start.table, 1);
     let mut c = Cursor {
         steps: table.steps,

@@ -20,11 +20,10 @@ fn counts(number: &PositiveNumber, method: Method) -> Counts
     requires { Allowed method }
     ensures { result ≡ counts_of (steps_by method (bytes_value number.now)) }
 {
-    let bytes = number.bytes();
     match method {
-        Method::Binary => method_binary::counts(bytes),
-        Method::FixedWindows(d) => method_fixed_windows::counts(bytes, d),
-        Method::SlidingWindows(d) => method_sliding_windows::counts(bytes, d),
+        Method::Binary => method_binary::counts(number),
+        Method::FixedWindows(d) => method_fixed_windows::counts(number, d),
+        Method::SlidingWindows(d) => method_sliding_windows::counts(number, d),
         Method::Naf => method_naf::counts(number),
         Method::WideNaf(w) => method_wide_naf::counts(number, Width { bits: w }),
         Method::ModifiedNaf => method_modified_naf::counts(number),
@@ -38,11 +37,10 @@ fn write(number: &PositiveNumber, method: Method, out: &mut [u8])
     requires number_in_bounds { step_bytes * length (steps_by method (bytes_value number.now)) ≤ length out.old }
     ensures { out.new ≡ plan_bytes_of (steps_by method (bytes_value number.now)) ++ drop (length (plan_bytes_of (steps_by method (bytes_value number.now)))) out.old }
 {
-    let bytes = number.bytes();
     match method {
-        Method::Binary => method_binary::write(bytes, out),
-        Method::FixedWindows(d) => method_fixed_windows::write(bytes, d, out),
-        Method::SlidingWindows(d) => method_sliding_windows::write(bytes, d, out),
+        Method::Binary => method_binary::write(number, out),
+        Method::FixedWindows(d) => method_fixed_windows::write(number, d, out),
+        Method::SlidingWindows(d) => method_sliding_windows::write(number, d, out),
         Method::Naf => method_naf::write(number, out),
         Method::WideNaf(w) => method_wide_naf::write(number, Width { bits: w }, out),
         Method::ModifiedNaf => method_modified_naf::write(number, out),
@@ -57,7 +55,7 @@ pub fn forecast(number: &[u8], method: u32, width: u32) -> Result<Counts, Refusa
 {
     let Request { number, method } = requested(number, method, width)?;
     match method {
-        Method::Binary => Ok(method_binary::counts(number.bytes())),
+        Method::Binary => Ok(method_binary::counts(&number)),
         _ => Ok(counts(&number, method)),
     }
 }

@@ -22,13 +22,13 @@ few t n e = omega (arith, ap total e, table_total n)
 pub small_value-requires : goal.small_value-requires
 small_value-requires c =
     let args = c.args in
-    omega (arith, one_window (bytes_value args.number.now) args.width (search rules) (search rules), pow_mono {i = args.width} {j = 8} (search rules))
+    rw c.bytes-bytes.ensures.value (omega (arith, one_window (bytes_value args.number.now) args.width (search rules) (search rules), pow_mono {i = args.width} {j = 8} (search rules)))
 
 pub returns-then-top-eq0 : goal.returns-then-top-eq0
 returns-then-top-eq0 c =
     let args = c.args in
     let e : ℕ = bytes_value args.number.now in
-    rw (c.table_counts.ensures, c.small_value.ensures, fixed_counts e args.width, lt-ltb e (2 ^ args.width) (one_window e args.width (search rules) (search rules)))
+    rw (c.table_counts.ensures, c.small_value.ensures, c.bytes-bytes.ensures.value, fixed_counts e args.width, lt-ltb e (2 ^ args.width) (one_window e args.width (search rules) (search rules)))
 
 pub overflow_add-result : goal.overflow_add-result
 overflow_add-result c =
@@ -46,4 +46,4 @@ returns c =
     let args = c.args in
     let e : ℕ = bytes_value args.number.now in
     let more : 2 ^ args.width ≤ e = more_windows e args.width (search rules) (omega (arith, c.top_window-top.ensures.0)) in
-    rw (c.nonzero_windows.ensures.0, c.table_counts-table.ensures, c.table_length.ensures, c.top_window-top.ensures.0, fixed_counts e args.width, le-ltb e (2 ^ args.width) more)
+    rw (c.nonzero_windows.ensures.0, c.bytes-bytes.ensures.value, c.table_counts-table.ensures, c.table_length.ensures, c.top_window-top.ensures.0, fixed_counts e args.width, le-ltb e (2 ^ args.width) more)

@@ -10,18 +10,18 @@ use borrow.Author.Rules.{rules}
 use Rattle.method_sliding_windows.proofs.counts.Goals.{After-bit_length, After-later_windows-windows}
 use Rattle.method_sliding_windows.proofs.counts.Goals as goal
 
-number : (c : After-bit_length) → InWords c.args.number.now c.words_of-words.result (c.bit_length.result - 1)
+number : (c : After-bit_length) → InWords c.args.number.now c.words-words.result (c.bit_length.result - 1)
 number c =
-    in_words c.args.number.now c.words_of-words.result c.bit_length.result (λ i. (c.type_inv.number i).fits) c.requires.positive c.words_of-words.ensures c.bit_length.ensures
+    in_words c.args.number.now c.words-words.result c.bit_length.result c.words-words.ensures.small c.words-words.ensures.positive c.words-words.ensures.value (rw c.bytes.ensures.value at c.bit_length.ensures)
 
 -- few steps are counted
 bound : (c : After-later_windows-windows) → (c.table_counts-table.result.doublings + c.start_of-start.result.below) + (c.table_counts-table.result.additions + c.later_windows-windows.result) ≤ 2 ^ sliding_window_bits + 2 * (8 * number_bytes)
 bound c =
-    few (words_value c.words_of-words.result) c.args.width (number (goal.at.After-later_windows-windows c).After-bit_length).some (search rules) c.start_of-start.result c.start_of-start.ensures c.table_counts-table.result c.later_windows-windows.result
+    few (words_value c.words-words.result) c.args.width (number (goal.at.After-later_windows-windows c).After-bit_length).some (search rules) c.start_of-start.result c.start_of-start.ensures c.table_counts-table.result c.later_windows-windows.result
     c.table_counts-table.ensures c.later_windows-windows.ensures (8 * number_bytes) (number (goal.at.After-later_windows-windows c).After-bit_length).few (search rules)
 
 pub overflow_sub-bit_length : goal.overflow_sub-bit_length
-overflow_sub-bit_length c = omega (arith, c.bit_length.ensures, some_bits (bytes_value c.args.number.now) (search rules))
+overflow_sub-bit_length c = omega (arith, rw c.bytes.ensures.value at c.bit_length.ensures, some_bits (bytes_value c.args.number.now) (search rules))
 
 pub start_of-start-requires : goal.start_of-start-requires
 start_of-start-requires c =
@@ -42,5 +42,5 @@ overflow_add-result-2 c = omega (arith, bound (goal.at.overflow_add-result-2 c).
 pub returns : goal.returns
 returns c =
     rw (← (number (goal.at.returns c).After-bit_length).same)
-    (counted (words_value c.words_of-words.result) c.args.width (number (goal.at.returns c).After-bit_length).some (search rules) c.start_of-start.result c.start_of-start.ensures c.table_counts-table.result c.later_windows-windows.result
+    (counted (words_value c.words-words.result) c.args.width (number (goal.at.returns c).After-bit_length).some (search rules) c.start_of-start.result c.start_of-start.ensures c.table_counts-table.result c.later_windows-windows.result
     c.table_counts-table.ensures c.later_windows-windows.ensures)

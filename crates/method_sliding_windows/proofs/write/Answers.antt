@@ -24,11 +24,11 @@ module _ (c : After-bit_length) where
   lent = c.args.out.now
 
   abbrev words : List ℕ
-  words = c.words_of-words.result
+  words = c.words-words.result
 
   number : InWords given words (c.bit_length.result - 1)
   number =
-      in_words given words c.bit_length.result (λ i. (c.type_inv.number i).fits) c.requires.positive c.words_of-words.ensures c.bit_length.ensures
+      in_words given words c.bit_length.result c.words-words.ensures.small c.words-words.ensures.positive c.words-words.ensures.value (rw c.bytes.ensures.value at c.bit_length.ensures)
 
   wide : 1 ≤ width
   wide = c.requires.le_width.0
@@ -46,7 +46,7 @@ sliding c =
     (c.loop-i.invariant.1 (lent start) (begun c.start_of-start.result) (record { steps = table.steps; latest = refl; bytes = table.bytes }))
 
 pub overflow_sub-bit_length : goal.overflow_sub-bit_length
-overflow_sub-bit_length c = omega (arith, c.bit_length.ensures, some_bits (bytes_value (given (goal.at.overflow_sub-bit_length c).After-bit_length)) (search rules))
+overflow_sub-bit_length c = omega (arith, rw c.bytes.ensures.value at c.bit_length.ensures, some_bits (bytes_value (given (goal.at.overflow_sub-bit_length c).After-bit_length)) (search rules))
 
 pub start_of-start-requires : goal.start_of-start-requires
 start_of-start-requires c =

@@ -55,11 +55,11 @@ module _ (number : List ℕ) (bytes : Below 256 number) (positive : Positive num
 
   -- given work space enough, check accepts it with the same counts, and with the bits that the method gives
   pub accepted : (room : ℕ) → room_for (length plan) ≤ room
-      → checked_outcome (check_answer number plan room) ≡ answered (checked_values (counts_of steps) (largest_bits_by m (bytes_value number)))
+      → checked_outcome (check_answer number plan room) ≡ answered (checked_values (record { counts = counts_of steps; largest_bits = largest_bits_by m (bytes_value number) }))
   accepted room h =
       let e = length_plan steps in
       let bits : largest_bits steps ≡ largest_bits_by m (bytes_value number) = every_largest m (bytes_value number) (is_allowed method width asked) (plannable number bytes positive).some in
-      (accepts number plan room (checked_values (counts_of steps) (largest_bits_by m (bytes_value number)))).1 (
+      (accepts number plan room (checked_values (record { counts = counts_of steps; largest_bits = largest_bits_by m (bytes_value number) }))).1 (
         record { positive = positive; whole = omega arith; few = omega (arith, few_steps); fits = h },
         rw read_steps fit.made.sound,
         rw read_steps fit.made.end,

@@ -1,4 +1,5 @@
 -- Two numbers that no call refuses with 1 or 13 have equal values exactly if they are the same bytes, and then every call has the same outcome and leaves the same (docs/RULES.md, 1.3). Assumes nothing.
+use Rattle.std.specs.Prelude.{Ok}
 use mathlib.Core.Path.{◌≡◌, refl}
 use mathlib.Core.Logic.{◌↔◌}
 use mathlib.Core.List.{List}
@@ -21,7 +22,6 @@ use Rattle.planning.specs.Plan.{plan_buffer}
 use Rattle.planning.proofs.Promises as plan
 use Rattle.checking.specs.Check.{check_space}
 use Rattle.checking.proofs.Promises as check
-use Rattle.decimal.specs.declared.Parsed.TheVariants.{Bytes}
 use Rattle.decimal.specs.Decimal.{parsed, parsed_buffer}
 use Rattle.decimal.proofs.Value.{parsed_bytes}
 
@@ -101,5 +101,5 @@ module _ (a b : List ℕ) (bytes-a : Below 256 a) (bytes-b : Below 256 b) (some-
 
 -- ---- what decimal reads is never padded, so no call refuses it with 13
 
-pub decimal_unpadded : (text bytes : List ℕ) (n : ℕ) → parsed text (length bytes) ≡ Bytes n → Padded (take n (parsed_buffer text bytes)) → ⊥
+pub decimal_unpadded : (text bytes : List ℕ) (n : ℕ) → parsed text (length bytes) ≡ Ok n → Padded (take n (parsed_buffer text bytes)) → ⊥
 decimal_unpadded text bytes n e p = let q = rw (parsed_bytes text bytes n e) at p in bytes_top _ q.some q.highest_zero

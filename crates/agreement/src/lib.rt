@@ -7,24 +7,18 @@ ghost use Rattle.recoding.specs.Recode.{recode_answer, recode_buffer};
 
 use recoding::recode;
 use recoding_words::recode_words;
-use rules::Written;
-
-// The answers of two calls.
-#[derive(Drop)]
-pub struct Both {
-    pub one: Written,
-    pub other: Written,
-}
+use rules::Refusal;
 
 // Recodes a number both ways, into buffers that hold the same bytes: the answers are the same, refusals
 // included, and so is every byte.
-pub fn recode_both(number: &[u8], one: &mut [u8], other: &mut [u8]) -> Both
+pub fn recode_both(
+    number: &[u8],
+    one: &mut [u8],
+    other: &mut [u8],
+) -> (Result<usize, Refusal>, Result<usize, Refusal>)
     requires { one.old ≡ other.old }
-    ensures answers { (result.one ≡ recode_answer number.now (length one.old)) × (result.one ≡ result.other) }
+    ensures answers { (result.0 ≡ recode_answer number.now (length one.old)) × (result.0 ≡ result.1) }
     ensures buffers { (one.new ≡ recode_buffer number.now one.old) × (one.new ≡ other.new) }
 {
-    Both {
-        one: recode(number, one),
-        other: recode_words(number, other),
-    }
+    (recode(number, one), recode_words(number, other))
 }

@@ -1,5 +1,7 @@
 // The static library: the calls of `lesmutka`, exported for C and Rust under the same names. A slice is
-// passed as a pointer and a length. include/lesmutka.h says what each call takes and leaves.
+// passed as a pointer and a length. include/lesmutka.h says what each call takes and leaves. The calls
+// stand here a second time since no Rattle crate can use a static library, and crates/cases is to run
+// what C links.
 #![tactic(auto)]
 
 ghost use Rattle.std.specs.Prelude.{◌≡◌, length};

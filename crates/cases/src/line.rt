@@ -1,65 +1,110 @@
-// A line of the input, read byte by byte. A single blank parts its words, and each word is kept as
-// a name, as a decimal number and as bytes in hexadecimal, since only the call knows which it is.
-use rules::{PLAN_STEPS, STEP_BYTES};
+// A line of the input, read byte by byte into fixed memory. A single blank parts its words.
+ghost use Rattle.std.specs.Prelude.{◌<◌};
 
-// The most words of a line; what follows counts as part of the last.
-pub const WORDS: usize = 8;
+use rules::{PLAN_STEPS, STEP_BYTES};
 
 // The most bytes that the words of a request have together: more than the longest plan has.
 pub const LINE_BYTES: usize = 2 * STEP_BYTES * PLAN_STEPS;
 
+// How many words a request has behind the name, at most.
+pub const WORDS: usize = 4;
+
+// Room for these words: two digits for each byte, and for each word a digit without a second one
+// and a blank.
+const LETTERS: usize = 2 * LINE_BYTES + 2 * WORDS;
+
+// A name's letters, at most.
+const NAME_LETTERS: usize = 8;
+
 #[derive(Drop)]
 pub struct Line {
-    // The letters of each word, the last eight of them, in base 256.
-    pub names: [u64; WORDS],
-    pub numbers: [u64; WORDS],
-    // Where the bytes of each word start; they end where those of the next start.
-    pub starts: [usize; WORDS],
-    pub word: usize,
-    // How many hexadecimal digits have been read, two to a byte.
-    pub digits: usize,
+    // The last letters of the first word, which may be longer; behind zeros if there are fewer.
+    name: [u8; NAME_LETTERS],
+    // Whether a blank has ended that word.
+    is_named: bool,
+    // What stands behind the name, as far as there is room: all words of a request that is not long.
+    letters: [u8; LETTERS],
+    length: usize,
+    // How many hexadecimal digits the words have, two to a byte.
+    digits: usize,
 }
 
-pub fn empty() -> Line {
-    Line {
-        names: [0; WORDS],
-        numbers: [0; WORDS],
-        starts: [0; WORDS],
-        word: 0,
-        digits: 0,
-    }
-}
-
-// The line with a byte more. A digit without a second one is dropped where its word ends, so that
-// `-` stands for no bytes.
-pub fn with(before: Line, byte: u8, bytes: &mut [u8; LINE_BYTES]) -> Line {
-    let mut line = before;
-    let word = line.word % WORDS;
-    if byte == b' ' {
-        // The last word stays the last.
-        let next = word + 1 - (word + 1) / WORDS;
-        let start = line.digits / 2;
-        line.word = next;
-        line.digits = 2 * start;
-        line.starts[next] = start;
-    } else {
-        // The low half of a letter's byte counts from 1.
-        let digit = (byte % 16 + byte / 64 * 9) % 16;
-        let at = line.digits / 2 % LINE_BYTES;
-        bytes[at] = bytes[at] % 16 * 16 + digit;
-        line.digits = std::num::wrapping_add_usize(line.digits, 1);
-        line.numbers[word] = line.numbers[word] % 0x1000000000000000 * 10 + digit as u64;
-        line.names[word] = line.names[word] % 0x100000000000000 * 256 + byte as u64;
-    }
-    line
-}
-
-// The bytes from one place to another; none if a word is missing.
-pub fn part(bytes: &[u8], start: usize, end: usize) -> &[u8] {
-    if start <= end {
-        if end <= bytes.len() {
-            return &bytes[start..end];
+impl Line {
+    pub fn new() -> Self {
+        Line {
+            name: [0; NAME_LETTERS],
+            is_named: false,
+            letters: [0; LETTERS],
+            length: 0,
+            digits: 0,
         }
     }
-    &bytes[0..0]
+
+    // Adds a byte. A digit without a second one is dropped where its word ends, so that `-` stands
+    // for no bytes.
+    pub fn push(&mut self, byte: u8) {
+        if byte == b' ' {
+            self.digits -= self.digits % 2;
+        } else {
+            self.digits = self.digits.wrapping_add(1);
+        }
+        if self.is_named {
+            if self.length < LETTERS {
+                self.letters[self.length] = byte;
+                self.length += 1;
+            }
+        } else if byte == b' ' {
+            self.is_named = true;
+        } else {
+            self.name.rotate_left(1);
+            self.name[NAME_LETTERS - 1] = byte;
+        }
+    }
+
+    // The first word: its last letters, without the zeros before them.
+    pub fn name(&self) -> &[u8] {
+        let zeros = self.name.iter().take_while(|letter| **letter == 0).count();
+        &self.name[zeros..]
+    }
+
+    // Whether the words have too many digits for a request.
+    pub fn is_long(&self) -> bool {
+        LINE_BYTES < self.digits / 2
+    }
+
+    // The words behind the name. One that is missing is empty.
+    pub fn words(&self) -> [&[u8]; WORDS] {
+        let letters = &self.letters[..self.length.min(LETTERS)];
+        let mut parts = letters.split(|letter| *letter == b' ');
+        [
+            parts.next().unwrap_or_default(),
+            parts.next().unwrap_or_default(),
+            parts.next().unwrap_or_default(),
+            parts.next().unwrap_or_default(),
+        ]
+    }
+}
+
+// The low half of a letter's byte counts from 1.
+fn digit(letter: u8) -> u8
+    ensures { result < 16 }
+{
+    (letter % 16 + letter / 64 * 9) % 16
+}
+
+// The number of a word in decimal, of which no letter is refused. What does not fit is dropped.
+pub fn number(word: &[u8]) -> usize {
+    let mut number = 0;
+    for letter in word {
+        number = number % 0x1000000000000000 * 10 + usize::from(digit(*letter));
+    }
+    number
+}
+
+// The bytes of a word in hexadecimal, of which no letter is refused.
+pub fn bytes_of<'a>(word: &[u8], bytes: &'a mut [u8; LINE_BYTES]) -> &'a [u8] {
+    for (byte, pair) in bytes.iter_mut().zip(word.chunks_exact(2)) {
+        *byte = digit(pair[0]) * 16 + digit(pair[1]);
+    }
+    &bytes[..(word.len() / 2).min(LINE_BYTES)]
 }

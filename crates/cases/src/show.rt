@@ -5,33 +5,24 @@ use std::io::Write;
 // What a lent buffer holds before the call: no digit, no sign, no operation.
 pub const FILL: u8 = 0xa5;
 
-pub fn put<W: Write>(to: &mut W, text: &[u8]) -> io::Result<()> {
-    to.write_all(text)
-}
-
-pub fn put_number<W: Write>(to: &mut W, number: usize) -> io::Result<()> {
-    write!(to, " {number}")
-}
-
-fn put_byte<W: Write>(to: &mut W, byte: u8) -> io::Result<()> {
-    write!(to, "{byte:02x}")
+pub fn put_numbers<W: Write>(to: &mut W, numbers: &[usize]) -> io::Result<()> {
+    for number in numbers {
+        write!(to, " {number}")?;
+    }
+    Ok(())
 }
 
 // The bytes up to the last one that changed, and how many stand above it.
 pub fn put_buffer<W: Write>(to: &mut W, bytes: &[u8]) -> io::Result<()> {
-    let mut end = bytes.len();
-    while 0 < end {
-        if bytes[end - 1] != FILL {
-            break;
-        }
-        end -= 1;
+    let end = match bytes.iter().rposition(|byte| *byte != FILL) {
+        Some(last) => last + 1,
+        None => 0,
+    };
+    let (changed, above) = bytes.split_at(end);
+    to.write_all(b" ")?;
+    for byte in changed {
+        write!(to, "{byte:02x}")?;
     }
-    put(to, b" ")?;
-    let mut i = 0;
-    while i < end {
-        put_byte(to, bytes[i])?;
-        i += 1;
-    }
-    let above = bytes.len() - end;
+    let above = above.len();
     write!(to, "+{above}")
 }

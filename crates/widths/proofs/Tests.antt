@@ -10,7 +10,6 @@ use borrow.Author.Tests.{lt-ltb, le-ltb}
 use native.Mathlib.Decide.{dec_lt}
 use native.Mathlib.Omega.{arith}
 use Rattle.rules.specs.Limits.{least_width, largest_width}
-use Rattle.rules.specs.Outcome.{and_then}
 use Rattle.rules.specs.declared.Refusal.TheVariants.{MethodOrWidth}
 use Rattle.digit_strings.specs.Admission.{string_verdict}
 use Rattle.widths.specs.Width.{AllowedWidth, width_verdict, wide_verdict}
@@ -62,19 +61,3 @@ module _ (w : ℕ) where
   -- past it the tests are those of the digit string
   pub wide_tests : AllowedWidth w → (string : List ℕ) → wide_verdict w string ≡ string_verdict w string
   wide_tests a string = rw (passes a)
-
--- ---- what the answer to a width says of it
-
-pub let_in : (w n : ℕ) → Ok n ≡ and_then (width_verdict w) (Ok w) → (n ≡ w) × (width_verdict w ≡ Ok tt)
-let_in w n = go (width_verdict w)
-  where
-    go : (v : Result Unit Refusal) → Ok n ≡ and_then v (Ok w) → (n ≡ w) × (v ≡ Ok tt)
-    go (Ok tt) e = (cc, refl)
-    go (Err r) e = absurd cc
-
-pub not_let_in : (w : ℕ) (r : Refusal) → Err r ≡ and_then {A = ℕ} (width_verdict w) (Ok w) → width_verdict w ≡ Err r
-not_let_in w r = go (width_verdict w)
-  where
-    go : (v : Result Unit Refusal) → Err r ≡ and_then {A = ℕ} v (Ok w) → v ≡ Err r
-    go (Ok tt) e = absurd cc
-    go (Err s) e = cc

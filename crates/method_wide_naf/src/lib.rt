@@ -13,11 +13,8 @@ ghost use Rattle.methods.specs.WideNaf.{wide_naf_steps};
 use numbers::PositiveNumber;
 use plan_writing::Cursor;
 use plan_writing::tables::{position, table_counts, table_length, write_table};
-use rules::{Counts, NUMBER_BYTES, Width};
-use wide_digits::recoded;
-
-// A number has at most one digit more than bits.
-const DIGIT_ROOM: usize = 8 * NUMBER_BYTES + 1;
+use rules::{Counts, Width};
+use wide_digits::{DIGIT_ROOM, recoded};
 
 // The position at which the table holds the size of a digit.
 fn position_of(digit: u8) -> usize

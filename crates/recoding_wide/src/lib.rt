@@ -6,12 +6,9 @@ ghost use Rattle.recoding_wide.specs.RecodeWide.{recode_wide_answer, recode_wide
 
 use numbers::Number;
 use output::put;
-use rules::{NUMBER_BYTES, Refusal};
-use wide_digits::recoded;
+use rules::Refusal;
+use wide_digits::{DIGIT_ROOM, recoded};
 use widths::width_of;
-
-// Room for the digits of every number: one more than bits.
-const DIGIT_ROOM: usize = 8 * NUMBER_BYTES + 1;
 
 // Writes the form of a number, lowest digit first, one byte a digit.
 #[tactic(auto, using(numbers::proofs::Tests::admitted_is, wide_digits::proofs::Form::form_bytes), unfolding(recoding::specs::Recode::recoding_of))]

@@ -78,6 +78,9 @@ pub fn write(bytes: &[u8], bits: usize, width: Width, sign: u8, out: &mut [u8]) 
     length
 }
 
+// Room for the digits of every number: one more than bits.
+pub const DIGIT_ROOM: usize = 8 * NUMBER_BYTES + 1;
+
 // A number, with as many bytes above it as a load takes.
 const PADDED_BYTES: usize = NUMBER_BYTES + 8;
 

@@ -36,7 +36,7 @@ fn is_done(kept: &[u64]) -> bool
     is_zero(&kept[..NUMBER_WORDS])
 }
 
-// What a take answers if no digit is left: a number above all bytes.
+// What a take answers if no digit is left: a number above all bytes, since C takes no Option.
 const DONE: u32 = 256;
 
 // Takes the lowest digit that is left: its byte, or DONE if there is none. In place, since so many words

@@ -20,7 +20,7 @@ fn only_in(a: u64, b: u64) -> usize
 }
 
 // The highest word of a number that is not 0, and how many places are beneath it; 0 and 0 if there is
-// none.
+// none, which come to the bit length 0 without a case of their own.
 #[derive(Drop)]
 struct Top {
     under: usize,

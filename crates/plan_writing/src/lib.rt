@@ -21,7 +21,8 @@ pub struct Cursor {
     pub latest: usize,
 }
 
-// Writes step n, counted from 0. By five stores: copy_from_slice of an array takes six times as long.
+// Writes step n, counted from 0; the operation is the byte that the plan has. By five stores:
+// copy_from_slice of an array takes six times as long.
 pub fn put(out: &mut [u8], n: usize, operation: u8, j: usize, k: usize)
     requires { step_bytes * n + step_bytes ≤ length out.old }
     ensures { out.new ≡ take (step_bytes * n) out.old ++ (step_bytes_of (step_with operation j k) ++ drop (step_bytes * n + step_bytes) out.old) }

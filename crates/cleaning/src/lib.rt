@@ -5,20 +5,20 @@ ghost use Rattle.std.specs.Prelude.{◌≡◌, length};
 ghost use Rattle.cleaning.specs.Clean.{clean_answer, clean_buffer};
 
 use cleaning_digits::{count, write};
-use digit_strings::string_verdict;
-use rules::{Refusal, Width};
+use digit_strings::CanonicalDigits;
+use rules::Refusal;
 
 // Writes the canonical string of a digit string's value, lowest digit first.
-#[tactic(auto, using(digit_strings::proofs::Tests::digit_string_is, rules::proofs::Fitted::too_small, rules::proofs::Fitted::fits, crate::proofs::Outcomes::length_cleaning, crate::proofs::Outcomes::cleaning_written))]
+#[tactic(auto, using(rules::proofs::Fitted::too_small, rules::proofs::Fitted::fits, crate::proofs::Outcomes::length_cleaning, crate::proofs::Outcomes::cleaning_written))]
 pub fn clean(digits: &[u8], out: &mut [u8]) -> Result<usize, Refusal>
     ensures answer { result ≡ clean_answer digits.now (length out.old) }
     ensures buffer { out.new ≡ clean_buffer digits.now out.old }
 {
-    string_verdict(digits, Width::CANONICAL)?;
-    let length = count(digits);
+    let digits = CanonicalDigits::new(digits)?;
+    let length = count(&digits);
     if out.len() < length {
         return Err(Refusal::RoomTooSmall(length));
     }
-    write(digits, out, length);
+    write(&digits, out, length);
     Ok(length)
 }

@@ -4,6 +4,7 @@
 #![tactic(auto)]
 
 ghost use Rattle.std.specs.Prelude.{◌≡◌, cond, ◌++◌, ◌+◌, ◌%◌, ◌<◌, ◌≤◌, eqb, IfSome, length, drop};
+ghost use Rattle.rules.specs.Limits.{string_digits};
 ghost use Rattle.integers.specs.Positional.{Significant};
 ghost use Rattle.integers.specs.Tabulate.{tabulate};
 ghost use Rattle.signed_digits.specs.Naf.{rest, canonical, canonical_width};
@@ -11,6 +12,7 @@ ghost use Rattle.digit_strings.specs.Admission.{DigitString, string_value};
 ghost use Rattle.digit_strings.specs.Places.{place_byte};
 ghost use Rattle.cleaning_digits.specs.Sums.{raised_at, sum_at, Highest};
 
+use digit_strings::CanonicalDigits;
 use integers::{byte_at, significant};
 
 // The length is sought first from this many places below the top digit: few carries come from
@@ -18,11 +20,11 @@ use integers::{byte_at, significant};
 const NEAR: usize = 16;
 
 // The digit at a place, plus 1; above the string the digit is 0.
-fn raised_at(digits: &[u8], i: usize) -> u64
-    requires { DigitString canonical_width digits.now }
-    ensures { (result ≡ raised_at digits.now i) × (result ≤ 2) }
+fn raised_at(digits: &CanonicalDigits, i: usize) -> u64
+    ensures value { (result ≡ raised_at digits.now i) × (result ≤ 2) }
+    ensures digit_string { DigitString canonical_width digits.now }
 {
-    (byte_at(digits, i) + 1) % 256
+    (byte_at(digits.bytes(), i) + 1) % 256
 }
 
 // What is left of n once its lowest canonical digit is taken off.
@@ -41,11 +43,11 @@ fn top(sum: u64, above: usize, below: usize) -> usize
 }
 
 // The place above the highest canonical digit other than 0, from `from` to n; 0 if there is none.
-fn highest(digits: &[u8], from: usize, n: usize, start: u64) -> usize
-    requires digit_string { DigitString canonical_width digits.now }
+fn highest(digits: &CanonicalDigits, from: usize, n: usize, start: u64) -> usize
     requires from_le_n { from ≤ n }
-    requires n_in_bounds { n ≤ length digits.now }
+    requires n_bound { n ≤ string_digits }
     requires start_value { start ≡ sum_at digits.now from }
+    requires start_bound { start ≤ 4 }
     ensures { Highest digits.now from (n + 1) result }
 {
     let mut sum = start;
@@ -59,8 +61,7 @@ fn highest(digits: &[u8], from: usize, n: usize, start: u64) -> usize
 
 // The length by the digits from `from` on alone, where each carry into that place comes to the same
 // and a canonical digit from where it does is not 0. The sum lies from `low` to `high`.
-fn by_top(digits: &[u8], from: usize, n: usize) -> Option<usize>
-    requires digit_string { DigitString canonical_width digits.now }
+fn by_top(digits: &CanonicalDigits, from: usize, n: usize) -> Option<usize>
     requires from_le_n { from ≤ n }
     requires significant { Significant digits.now n }
     ensures { IfSome result (λ found. found ≡ length (canonical (string_value digits.now))) }
@@ -85,11 +86,10 @@ fn by_top(digits: &[u8], from: usize, n: usize) -> Option<usize>
 }
 
 // How many digits the canonical string has.
-pub fn count(digits: &[u8]) -> usize
-    requires { DigitString canonical_width digits.now }
+pub fn count(digits: &CanonicalDigits) -> usize
     ensures { result ≡ length (canonical (string_value digits.now)) }
 {
-    let n = significant(digits);
+    let n = significant(digits.bytes());
     if NEAR < n {
         if let Some(length) = by_top(digits, n - NEAR, n) {
             return length;
@@ -99,9 +99,8 @@ pub fn count(digits: &[u8]) -> usize
 }
 
 // Writes the first `count` canonical digits.
-pub fn write(digits: &[u8], out: &mut [u8], count: usize)
-    requires digit_string { DigitString canonical_width digits.now }
-    requires count_in_bounds { count ≤ length out.old }
+pub fn write(digits: &CanonicalDigits, out: &mut [u8], count: usize)
+    requires { count ≤ length out.old }
     ensures { out.new ≡ tabulate (place_byte (canonical (string_value digits.now))) count ++ drop count out.old }
 {
     let mut sum = raised_at(digits, 0) + 1;

@@ -2,11 +2,13 @@
 // strings"), over the width of its digits.
 #![tactic(auto)]
 
-ghost use Rattle.std.specs.Prelude.{◌≡◌, true, ◌+◌, ◌≤◌, ◌<◌, length, MatchOption, IfSome};
-ghost use Rattle.digit_strings.specs.Admission.{digit_up_to, first_failing, string_verdict};
+ghost use Rattle.std.specs.Prelude.{◌≡◌, true, ◌+◌, ◌≤◌, ◌<◌, ℕ, length, MatchOption, IfSome, Ok, Err, MatchResult, slice_index};
+ghost use Rattle.signed_digits.specs.Naf.{canonical_width};
+ghost use Rattle.digit_strings.specs.Admission.{digit_up_to, first_failing, string_verdict, DigitString};
 ghost use Rattle.digit_strings.specs.Internal.{PassFor, failing_place};
 
 use rules::{Refusal, STRING_DIGITS, Width};
+use std::marker::Model;
 
 // Whether a byte is 0, or an odd digit of at most the size of the largest. Branch-free.
 // Up to the size 1 only 0 is even, so at width 2 the second test falls away.
@@ -74,5 +76,42 @@ pub fn string_verdict(digits: &[u8], width: Width) -> Result<(), Refusal>
     match first_bad(digits, width.largest_digit()) {
         Some(place) => Err(Refusal::NotADigit(place)),
         None => Ok(()),
+    }
+}
+
+// A string of the digits 0, 1 and -1 that every call takes: not longer than the limit.
+#[derive(Drop)]
+pub struct CanonicalDigits<'a> {
+    bytes: &'a [u8],
+}
+
+impl<'a> Model for CanonicalDigits<'a> {
+    ghost use Rattle.std.specs.Prelude.{ℕ, ◌<◌, List, slice_index};
+    ghost use Rattle.signed_digits.specs.Naf.{canonical_width};
+    ghost use Rattle.digit_strings.specs.Admission.{DigitString};
+
+    ghost Value = { List ℕ };
+
+    ghost view = { λ s. s.bytes.now };
+
+    ghost invariant = { λ s. DigitString canonical_width s.bytes.now × ((i : ℕ) → slice_index s.bytes.now i < 256) };
+}
+
+impl<'a> CanonicalDigits<'a> {
+    // The string of these bytes, past refusals 5 and 4.
+    #[tactic(auto, using(crate::proofs::Tests::digit_string_is))]
+    pub fn new(bytes: &'a [u8]) -> Result<CanonicalDigits<'a>, Refusal>
+        ensures { MatchResult result (λ s. (string_verdict canonical_width bytes.now ≡ Ok tt) × (s ≡ bytes.now)) (λ r. string_verdict canonical_width bytes.now ≡ Err r) }
+    {
+        string_verdict(bytes, Width::CANONICAL)?;
+        Ok(CanonicalDigits { bytes })
+    }
+
+    pub fn bytes(&self) -> &'a [u8]
+        ensures value { result.now ≡ self.now }
+        ensures small { (i : ℕ) → slice_index self.now i < 256 }
+        ensures digit_string { DigitString canonical_width self.now }
+    {
+        self.bytes
     }
 }

@@ -12,14 +12,14 @@ use Rattle.cleaning_digits.proofs.by_top.Goals as goal
 
 pub loop-low-init : goal.loop-low-init
 loop-low-init c =
-    let b = sum_small c.args.digits.now c.requires.digit_string c.args.from in
-    (search rules, search rules, search rules, omega (arith, b, c.raised_at-low.ensures), omega (arith, b, c.raised_at-low.ensures))
+    let b = sum_small c.args.digits.now c.raised_at-low.ensures.digit_string c.args.from in
+    (search rules, search rules, search rules, omega (arith, b, c.raised_at-low.ensures.value), omega (arith, b, c.raised_at-low.ensures.value))
 
 pub loop-low-preserved : goal.loop-low-preserved
 unfolding sum_at
 loop-low-preserved c =
     let s = c.args.digits.now in
-    let a : c.raised_at-above.result ≡ raised_at s (c.loop-low.i + 1) = c.raised_at-above.ensures.0 in
+    let a : c.raised_at-above.result ≡ raised_at s (c.loop-low.i + 1) = c.raised_at-above.ensures.value.0 in
     let e : sum_at s (c.loop-low.i + 1) ≡ rest 2 (sum_at s c.loop-low.i + 2 * c.raised_at-above.result) = rw (a, add-one c.loop-low.i) in
     let low : c.rest_of-low.result ≡ rest 2 (c.loop-low.low + 2 * c.raised_at-above.result) = c.rest_of-low.ensures.0 in
     let high : c.rest_of-high.result ≡ rest 2 (c.loop-low.high + 2 * c.raised_at-above.result) = c.rest_of-high.ensures.0 in (
@@ -32,4 +32,4 @@ loop-low-preserved c =
 
 pub returns-in_default : goal.returns-in_default
 returns-in_default c =
-    count_is c.args.digits.now c.requires.digit_string c.args.n c.loop-low.i c.highest.result c.requires.significant c.highest.ensures (λ _. omega arith)
+    count_is c.args.digits.now c.raised_at-low.ensures.digit_string c.args.n c.loop-low.i c.highest.result c.requires.significant c.highest.ensures (λ _. omega arith)

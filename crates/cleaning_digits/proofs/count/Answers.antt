@@ -11,4 +11,4 @@ highest-requires c = search rules
 
 pub returns : goal.returns
 returns c =
-    count_is c.args.digits.now c.requires c.significant-n.result 0 c.highest.result c.significant-n.ensures c.highest.ensures (λ h. absurd (omega arith))
+    count_is c.args.digits.now c.bytes.ensures.digit_string c.significant-n.result 0 c.highest.result (rw c.bytes.ensures.value at c.significant-n.ensures) c.highest.ensures (λ h. absurd (omega arith))

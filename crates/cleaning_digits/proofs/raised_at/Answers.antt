@@ -9,5 +9,6 @@ use Rattle.cleaning_digits.proofs.raised_at.Goals as goal
 pub returns : goal.returns
 unfolding raised_at
 returns c =
-    let e : (c.byte_at.result + 1) % 256 ≡ raised_at c.args.digits.now c.args.i = rw c.byte_at.ensures.0 in
-    (e, omega (arith, e, raised_small c.args.digits.now c.requires c.args.i))
+    let given = c.bytes.ensures.digit_string in
+    let e : (c.byte_at.result + 1) % 256 ≡ raised_at c.args.digits.now c.args.i = rw (c.byte_at.ensures.0, c.bytes.ensures.value) in
+    record { value = (e, omega (arith, e, raised_small c.args.digits.now given c.args.i)); digit_string = given }

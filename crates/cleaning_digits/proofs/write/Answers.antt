@@ -20,10 +20,10 @@ loop-i-preserved c =
     let s = c.args.digits.now in
     let digit = place_byte (canonical (string_value s)) in
     let stored = tabulate_more digit c.args.out.now c.loop-i.i (search rules) in
-    let above = c.raised_at.ensures.0 in
+    let above = c.raised_at.ensures.value.0 in
     let rest = c.rest_of-sum.ensures.0 in (
       search rules,
       search rules,
-      rw (c.loop-i.invariant.2, rest, above) (rw (← place_byte_lem s c.requires.digit_string c.loop-i.i, ← c.loop-i.invariant.3, ← add-one c.loop-i.i) at stored),
+      rw (c.loop-i.invariant.2, rest, above) (rw (← place_byte_lem s c.raised_at.ensures.digit_string c.loop-i.i, ← c.loop-i.invariant.3, ← add-one c.loop-i.i) at stored),
       rw (rest, above, c.loop-i.invariant.3, add-one c.loop-i.i),
     )

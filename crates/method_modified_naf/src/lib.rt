@@ -12,16 +12,16 @@ use digit_plans::{DIGIT_ROOM, write_steps};
 use modified_digits::{shape_of, write_form_raised};
 use numbers::PositiveNumber;
 use rules::Counts;
-use triples::{saved, tripled};
+use triples::Tripled;
 
 // The counts of the steps for a number above zero: those of method 4, but where 1 0 -1 become 1 1, a
 // doubling and a subtraction fewer and an addition more. Method 4 doubles for each digit but one.
 pub fn counts(number: &PositiveNumber) -> Counts
     ensures { result ≡ counts_of (modified_naf_steps (bytes_value number.now)) }
 {
-    let triple = tripled(&number.words());
+    let tripled = Tripled::new(number.words());
     let plain = method_naf::counts(number);
-    let fewer = saved(&triple, plain.doublings + 1);
+    let fewer = tripled.saved(plain.doublings + 1);
     let doublings = plain.doublings - fewer;
     let additions = plain.additions + fewer;
     let subtractions = plain.subtractions - fewer;
@@ -37,10 +37,9 @@ pub fn write(number: &PositiveNumber, out: &mut [u8])
     requires { step_bytes * length (modified_naf_steps (bytes_value number.now)) ≤ length out.old }
     ensures { out.new ≡ plan_bytes_of (modified_naf_steps (bytes_value number.now)) ++ drop (length (plan_bytes_of (modified_naf_steps (bytes_value number.now)))) out.old }
 {
-    let words = number.words();
-    let triple = tripled(&words);
-    let form = shape_of(&number.number(), &triple);
+    let tripled = Tripled::new(number.words());
+    let form = shape_of(&tripled, &number.number());
     let mut digits = [0u8; DIGIT_ROOM];
-    write_form_raised(&words, &triple, &mut digits, form);
+    write_form_raised(&tripled, &mut digits, form);
     write_steps(&digits[1..form.length + 1], out);
 }

@@ -13,7 +13,7 @@ use naf_tally::tally_of;
 use numbers::PositiveNumber;
 use recoding_words_digits::write_raised;
 use rules::Counts;
-use triples::{count, tripled};
+use triples::Tripled;
 
 // The counts of the steps for a number above zero: a doubling for each digit below the top one, which
 // is 1, an addition for each of these that is 1, and a subtraction for each -1. The digits are one
@@ -34,10 +34,9 @@ pub fn write(number: &PositiveNumber, out: &mut [u8])
     requires { step_bytes * length (naf_steps (bytes_value number.now)) ≤ length out.old }
     ensures { out.new ≡ plan_bytes_of (naf_steps (bytes_value number.now)) ++ drop (length (plan_bytes_of (naf_steps (bytes_value number.now)))) out.old }
 {
-    let words = number.words();
-    let triple = tripled(&words);
-    let length = count(&number.number(), &triple);
+    let tripled = Tripled::new(number.words());
+    let length = tripled.count(&number.number());
     let mut digits = [0u8; DIGIT_ROOM];
-    write_raised(&words, &triple, &mut digits, length);
+    write_raised(&tripled, &mut digits, length);
     write_steps(&digits[1..length + 1], out);
 }

@@ -8,7 +8,7 @@ ghost use Rattle.recoding_modified.specs.RecodeModified.{recode_modified_answer,
 use modified_digits::{shape_of, write_form};
 use numbers::Number;
 use rules::Refusal;
-use triples::tripled;
+use triples::Tripled;
 
 // Writes the modified form of a number, lowest digit first, one byte a digit.
 #[tactic(auto, using(rules::proofs::Fitted::too_small, rules::proofs::Fitted::fits, crate::proofs::Outcomes::length_recoding), unfolding(crate::specs::RecodeModified::modified_recoding))]
@@ -17,13 +17,12 @@ pub fn recode_modified(number: &[u8], out: &mut [u8]) -> Result<usize, Refusal>
     ensures buffer { out.new ≡ recode_modified_buffer number.now out.old }
 {
     let number = Number::new(number)?;
-    let words = number.words();
-    let triple = tripled(&words);
-    let form = shape_of(&number, &triple);
+    let tripled = Tripled::new(number.words());
+    let form = shape_of(&tripled, &number);
     let length = form.length;
     if out.len() < length {
         return Err(Refusal::RoomTooSmall(length));
     }
-    write_form(&words, &triple, out, form);
+    write_form(&tripled, out, form);
     Ok(length)
 }

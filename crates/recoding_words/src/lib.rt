@@ -7,7 +7,7 @@ ghost use Rattle.recoding.specs.Recode.{recode_answer, recode_buffer};
 use numbers::Number;
 use recoding_words_digits::write;
 use rules::Refusal;
-use triples::{count, tripled};
+use triples::Tripled;
 
 // Writes the canonical string of a number, lowest digit first, one byte a digit.
 #[tactic(auto, using(rules::proofs::Fitted::too_small, rules::proofs::Fitted::fits, recoding::proofs::Outcomes::length_recoding, recoding::proofs::Outcomes::recoding_written))]
@@ -16,12 +16,11 @@ pub fn recode_words(number: &[u8], out: &mut [u8]) -> Result<usize, Refusal>
     ensures buffer { out.new ≡ recode_buffer number.now out.old }
 {
     let number = Number::new(number)?;
-    let words = number.words();
-    let triple = tripled(&words);
-    let length = count(&number, &triple);
+    let tripled = Tripled::new(number.words());
+    let length = tripled.count(&number);
     if out.len() < length {
         return Err(Refusal::RoomTooSmall(length));
     }
-    write(&words, &triple, out, length);
+    write(&tripled, out, length);
     Ok(length)
 }

@@ -3,7 +3,7 @@
 // show how many digits there are, and how they begin.
 #![tactic(auto)]
 
-ghost use Rattle.std.specs.Prelude.{◌≡◌, ℕ, ◌+◌, ◌*◌, ◌^◌, ◌≤◌, length, pos};
+ghost use Rattle.std.specs.Prelude.{◌≡◌, ℕ, ◌+◌, ◌*◌, ◌^◌, ◌<◌, ◌≤◌, length, pos, slice_index};
 ghost use Rattle.integers.specs.Positional.{bytes_value, words_value};
 ghost use Rattle.signed_digits.specs.Naf.{canonical};
 ghost use Rattle.signed_digits.specs.Modified.{saved};
@@ -11,6 +11,7 @@ ghost use Rattle.signed_digits.specs.Modified.{saved};
 use integers::bit_length;
 use numbers::Number;
 use rules::NUMBER_WORDS;
+use std::marker::Model;
 use words::{bits_down, word_in};
 
 // The words of 3 e: one more than those of e, for the last carry.
@@ -37,37 +38,73 @@ pub fn triple_word(word: u64, carry: u64) -> TripleWord
     }
 }
 
-// The words of 3 e.
-pub fn tripled(words: &[u64; NUMBER_WORDS]) -> [u64; TRIPLE_WORDS]
-    ensures { words_value result ≡ 3 * words_value words.now }
-{
-    let mut triple = [0u64; TRIPLE_WORDS];
-    let mut carry = 0;
-    for (k, word) in words.iter().enumerate() {
-        let next = triple_word(*word, carry);
-        triple[k] = next.word;
-        carry = next.carry;
+// A number e by its words, and by those of 3 e.
+#[derive(Drop)]
+pub struct Tripled {
+    words: [u64; NUMBER_WORDS],
+    triple: [u64; TRIPLE_WORDS],
+}
+
+impl Model for Tripled {
+    ghost use Rattle.std.specs.Prelude.{◌≡◌, ℕ, ◌*◌, ◌^◌, ◌<◌, slice_index};
+    ghost use Rattle.integers.specs.Positional.{words_value};
+
+    ghost Value = { ℕ };
+
+    ghost view = { λ t. words_value t.words };
+
+    ghost invariant = { λ t. (words_value t.triple ≡ 3 * words_value t.words) × ((i : ℕ) → slice_index t.words i < 2 ^ 64) × ((i : ℕ) → slice_index t.triple i < 2 ^ 64) };
+}
+
+impl Tripled {
+    // The number that the words hold.
+    pub fn new(words: [u64; NUMBER_WORDS]) -> Tripled
+        ensures { result ≡ words_value words }
+    {
+        let mut triple = [0u64; TRIPLE_WORDS];
+        let mut carry = 0;
+        for (k, word) in words.iter().enumerate() {
+            let next = triple_word(*word, carry);
+            triple[k] = next.word;
+            carry = next.carry;
+        }
+        triple[NUMBER_WORDS] = carry;
+        Tripled { words, triple }
     }
-    triple[NUMBER_WORDS] = carry;
-    triple
-}
 
-// How many canonical digits a number has: as many as bits, or one more where 3 e has a bit above those
-// of 2 e.
-pub fn count(number: &Number, triple: &[u64]) -> usize
-    requires { words_value triple.now ≡ 3 * bytes_value number.now }
-    ensures { result ≡ length (canonical (pos (bytes_value number.now))) }
-{
-    let bytes = number.bytes();
-    let bits = bit_length(bytes);
-    let top = bits + 1;
-    bits + ((word_in(triple, top / 64) >> (top % 64)) % 2) as usize
-}
+    // The words of e.
+    pub fn words(&self) -> &[u64]
+        ensures value { words_value result.now ≡ self.now }
+        ensures small { (i : ℕ) → slice_index result.now i < 2 ^ 64 }
+    {
+        &self.words
+    }
 
-// How many digits fewer the modified form has: 1 where the canonical digits lead with 1 0 -1. 3 e has a
-// bit more than there are digits, and begins with 100 exactly there.
-pub fn saved(triple: &[u64], count: usize) -> usize
-    ensures { (e : ℕ) → words_value triple.now ≡ 3 * e → count ≡ length (canonical (pos e)) → result ≡ saved e }
-{
-    usize::from(bits_down(triple, count) >> 61 == 4)
+    // The words of 3 e.
+    pub fn triple(&self) -> &[u64]
+        ensures value { words_value result.now ≡ 3 * self.now }
+        ensures small { (i : ℕ) → slice_index result.now i < 2 ^ 64 }
+    {
+        &self.triple
+    }
+
+    // How many canonical digits the number has, by its bytes: as many as bits, or one more where 3 e has a
+    // bit above those of 2 e.
+    pub fn count(&self, number: &Number) -> usize
+        requires { self.now ≡ bytes_value number.now }
+        ensures { result ≡ length (canonical (pos self.now)) }
+    {
+        let bytes = number.bytes();
+        let bits = bit_length(bytes);
+        let top = bits + 1;
+        bits + ((word_in(self.triple(), top / 64) >> (top % 64)) % 2) as usize
+    }
+
+    // How many digits fewer the modified form has: 1 where the canonical digits lead with 1 0 -1. 3 e has
+    // a bit more than there are digits, and begins with 100 exactly there.
+    pub fn saved(&self, count: usize) -> usize
+        ensures { count ≡ length (canonical (pos self.now)) → result ≡ saved self.now }
+    {
+        usize::from(bits_down(self.triple(), count) >> 61 == 4)
+    }
 }

@@ -49,7 +49,8 @@ module _ (c : After-counts-plain) where
 -- the digits saved
 fewer : (c : After-saved-fewer) → c.saved-fewer.result ≡ saved (bytes_value c.args.number.now)
 fewer c =
-    c.saved-fewer.ensures (e (goal.at.After-saved-fewer c).After-counts-plain) (c.tripled-triple.ensures ∙ rw c.words.ensures.value) (ap (λ (c : Counts). c.doublings + 1) (plain (goal.at.After-saved-fewer c).After-counts-plain) ∙ digits (goal.at.After-saved-fewer c).After-counts-plain)
+    let made : c.new-tripled.result ≡ bytes_value c.args.number.now = c.new-tripled.ensures ∙ c.words.ensures.value in
+    (rw made at c.saved-fewer.ensures) (ap (λ (c : Counts). c.doublings + 1) (plain (goal.at.After-saved-fewer c).After-counts-plain) ∙ digits (goal.at.After-saved-fewer c).After-counts-plain)
 
 same : (c : Counts) {d a s : ℕ} → d ≡ c.doublings → a ≡ c.additions → s ≡ c.subtractions → counts d a s ≡ c
 same c p q r = rw (p, q, r)

@@ -16,8 +16,11 @@ use borrow.Author.Rules.{rules}
 use Rattle.method_modified_naf.proofs.write.Goals.{After-shape_of-form, After-write_form_raised}
 use Rattle.method_modified_naf.proofs.write.Goals as goal
 
+made : (c : After-shape_of-form) → c.new-tripled.result ≡ bytes_value c.args.number.now
+made c = c.new-tripled.ensures ∙ c.words.ensures.value
+
 shaped : (c : After-shape_of-form) → ShapeOf (bytes_value c.args.number.now) c.shape_of-form.result
-shaped c = rw (← c.number.ensures.value) c.shape_of-form.ensures
+shaped c = rw (made c) at c.shape_of-form.ensures
 
 -- the digits fit, one place up, in whole words
 few : (c : After-shape_of-form) → c.shape_of-form.result.length ≤ 8 * number_bytes + 1
@@ -30,15 +33,14 @@ there c =
     let e : ℕ = bytes_value c.args.number.now in
     let shape = shaped (goal.at.After-write_form_raised c).After-shape_of-form in
     raised (modified e) c.write_form_raised.new.out c.shape_of-form.result.length shape.digits (omega (arith, few (goal.at.After-write_form_raised c).After-shape_of-form)) (modified_bits e)
-    (λ i l. rw c.words-words.ensures.value at (c.write_form_raised.ensures i l))
+    (λ i l. rw (made (goal.at.After-write_form_raised c).After-shape_of-form) at (c.write_form_raised.ensures i l))
 
 pub shape_of-form-requires : goal.shape_of-form-requires
-shape_of-form-requires c = c.tripled-triple.ensures ∙ ap (λ v. 3 * v) (c.words-words.ensures.value ∙ ap bytes_value (sym c.number.ensures.value))
+shape_of-form-requires c = c.new-tripled.ensures ∙ c.words.ensures.value ∙ ap bytes_value (sym c.number.ensures.value)
 
 pub write_form_raised-requires : goal.write_form_raised-requires
 write_form_raised-requires c = record {
-  triple_value = c.tripled-triple.ensures;
-  shape_of = rw c.words-words.ensures.value (shaped (goal.at.write_form_raised-requires c).After-shape_of-form);
+  shape_of = c.shape_of-form.ensures;
   length_in_bounds = omega (arith, few (goal.at.write_form_raised-requires c).After-shape_of-form);
 }
 

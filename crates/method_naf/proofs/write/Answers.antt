@@ -17,8 +17,11 @@ use borrow.Author.Rules.{rules}
 use Rattle.method_naf.proofs.write.Goals.{After-count-length, After-write_raised}
 use Rattle.method_naf.proofs.write.Goals as goal
 
+made : (c : After-count-length) → c.new-tripled.result ≡ bytes_value c.args.number.now
+made c = c.new-tripled.ensures ∙ c.words.ensures.value
+
 counted : (c : After-count-length) → c.count-length.result ≡ length (canonical (pos (bytes_value c.args.number.now)))
-counted c = c.count-length.ensures ∙ ap (λ l. length (canonical (pos (bytes_value l)))) c.number.ensures.value
+counted c = c.count-length.ensures ∙ ap (λ e. length (canonical (pos e))) (made c)
 
 -- the digits fit, one place up, in whole words
 few : (c : After-count-length) → c.count-length.result ≤ 8 * number_bytes + 1
@@ -29,16 +32,13 @@ there c =
     let e : ℕ = bytes_value c.args.number.now in
     let n = counted (goal.at.After-write_raised c).After-count-length in
     raised (canonical (pos e)) c.write_raised.new.out c.count-length.result n (omega (arith, few (goal.at.After-write_raised c).After-count-length)) (canonical_form (pos e)).digits
-    (λ i l. rw c.words-words.ensures.value at (c.write_raised.ensures i l))
+    (λ i l. rw (made (goal.at.After-write_raised c).After-count-length) at (c.write_raised.ensures i l))
 
 pub count-length-requires : goal.count-length-requires
-count-length-requires c = c.tripled-triple.ensures ∙ ap (λ v. 3 * v) (c.words-words.ensures.value ∙ ap bytes_value (sym c.number.ensures.value))
+count-length-requires c = c.new-tripled.ensures ∙ c.words.ensures.value ∙ ap bytes_value (sym c.number.ensures.value)
 
 pub write_raised-requires : goal.write_raised-requires
-write_raised-requires c = record {
-  triple_value = c.tripled-triple.ensures;
-  count_in_bounds = omega (arith, few (goal.at.write_raised-requires c).After-count-length);
-}
+write_raised-requires c = omega (arith, few (goal.at.write_raised-requires c).After-count-length)
 
 pub overflow_add-length : goal.overflow_add-length
 overflow_add-length c = omega (arith, few (goal.at.overflow_add-length c).After-count-length)

@@ -19,15 +19,14 @@ pub struct ReadBack {
 
 // Writes the size of a digit string's value, with no high zero byte, least significant first;
 // answers the sign and how many bytes. The digits are of this width.
-#[tactic(auto, using(digit_strings::proofs::Tests::digit_string_is))]
 pub fn read_of_width(digits: &[u8], width: Width, out: &mut [u8]) -> Result<ReadBack, Refusal>
     ensures answer { result ≡ read_answer_of width digits.now (length out.old) }
     ensures buffer { out.new ≡ read_buffer_of width digits.now out.old }
 {
     string_verdict(digits, width)?;
-    let count = significant(digits);
-    let sign = sign_of(digits, count, width);
-    let size = size_of(digits, count, width, sign);
+    let digits = &digits[..significant(digits)];
+    let sign = sign_of(digits, width);
+    let size = size_of(digits, width, sign);
     let bytes = significant(&size);
     let length = put(&size[..bytes], out)?;
     Ok(ReadBack { sign, length })

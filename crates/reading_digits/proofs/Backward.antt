@@ -1,7 +1,7 @@
 -- A list that is gone through from its end: what is left is its front. Assumes nothing.
 use mathlib.Core.Path.{◌≡◌, refl, sym, ap, ◌∙◌}
 use mathlib.Core.List.{List, [], ◌∷◌, ◌++◌}
-use Prim.Native.Nat.{ℕ, suc, ◌<◌, ◌≤◌}
+use Prim.Native.Nat.{ℕ, suc, ◌<◌}
 use native.Mathlib.Omega.{arith}
 use lib.ListN.{length, get_or, take, length-append, length-take}
 use lib.Seq.{take_at, take-suc, get_or_at, take-length, length-take-le}
@@ -12,9 +12,6 @@ Front l rest = rest ≡ take (length rest) l
 
 pub front_whole : (l : List ℕ) → Front l l
 front_whole l = sym (take-length l)
-
-pub front_begun : (l : List ℕ) (n : ℕ) → n ≤ length l → Front l (take n l)
-front_begun l n h = rw (length-take-le n l h)
 
 -- its last element is passed
 pub record Passed (l rest : List ℕ) (x : ℕ) : Type 0 where

@@ -11,7 +11,7 @@ use lib.Seq.{take-add, take-length, drop-cons, get_or-drop, length-take-le}
 use Rattle.std.specs.Prelude.{map}
 use Rattle.std.proofs.lemmas.List.{get_or-take, drop-map, take-map}
 use Rattle.rules.specs.Limits.{least_width, largest_width}
-use Rattle.integers.specs.Positional.{positional, bytes_value, Significant}
+use Rattle.integers.specs.Positional.{positional}
 use Rattle.integers.proofs.Positional.{Below, below_take, below_drop, positional_append}
 use Rattle.signed_digits.specs.Bytes.{string_of}
 use Rattle.signed_digits.proofs.Parts.{positive_part, negative_part, positive_sum, negative_sum, value_parts}
@@ -143,19 +143,15 @@ module _ (w : ℕ) (most : w ≤ largest_width) where
   pub sizes_up_to : (l : List ℕ) → DigitString w l → SizesUpTo (largest_digit w) l
   sizes_up_to l d i h = (raised_is w (get_or l i 0) most (d.digits i h)).1
 
-  -- the sums of the digits above and below zero, by the n significant digits
-  sums : (l : List ℕ) (n : ℕ) → Digits l → n ≤ length l → bytes_value (drop n l) ≡ 0
-      → positive_sum (string_of l) + raised_zeros (largest_digit w) n ≡ positional 2 (take n (raised_digits (largest_digit w) l)) + negative_sum (string_of l)
+  -- the sums of the digits above and below zero
+  sums : (l : List ℕ) → Digits l
+      → positive_sum (string_of l) + raised_zeros (largest_digit w) (length l) ≡ positional 2 (take (length l) (raised_digits (largest_digit w) l)) + negative_sum (string_of l)
   unfolding positional positive_sum negative_sum
-  sums [] zero d h z = omega (arith, zeros_none (largest_digit w))
-  sums [] (suc n) d h z = absurd (omega arith)
-  sums (x ∷ l) zero d h z =
-      let e : x ≡ 0 = omega arith in
-      rw e (omega (arith, zeros_none (largest_digit w), sums l zero (λ k p. d (suc k) (omega arith)) (omega arith) (omega arith)))
-  sums (x ∷ l) (suc n) d h z =
-      omega (arith, raised_is w x most (d 0 (omega arith)), zeros_low (largest_digit w) n, sums l n (λ k p. d (suc k) (omega arith)) (omega arith) z)
+  sums [] d = omega (arith, zeros_none (largest_digit w))
+  sums (x ∷ l) d =
+      omega (arith, raised_is w x most (d 0 (omega arith)), zeros_low (largest_digit w) (length l), sums l (λ k p. d (suc k) (omega arith)))
 
-  pub raised_value : (l : List ℕ) (n : ℕ) → DigitString w l → Significant l n
-      → positive_part (string_value l) + raised_zeros (largest_digit w) n ≡ raised_sum (largest_digit w) l 0 n + negative_part (string_value l)
+  pub raised_value : (l : List ℕ) → DigitString w l
+      → positive_part (string_value l) + raised_zeros (largest_digit w) (length l) ≡ raised_sum (largest_digit w) l 0 (length l) + negative_part (string_value l)
   unfolding raised_sum
-  raised_value l n d s = omega (arith, value_parts (string_of l), sums l n d.digits s.within s.whole)
+  raised_value l d = omega (arith, value_parts (string_of l), sums l d.digits)

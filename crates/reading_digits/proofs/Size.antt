@@ -12,7 +12,7 @@ use lib.IntN.{ℤ, pos, negsuc, nat_abs}
 use lib.ListN.{length, get_or, set, take, drop, length-take, replicate}
 use lib.Seq.{take-set-le, drop-set-lt, get_or-set_same}
 use Rattle.rules.specs.Limits.{largest_width}
-use Rattle.integers.specs.Positional.{positional, bytes_value, Significant}
+use Rattle.integers.specs.Positional.{positional, bytes_value}
 use Rattle.integers.specs.Signed.{sign_of}
 use Rattle.integers.proofs.Bits.{power_of_bytes}
 use Rattle.integers.proofs.Positional.{Below, below_take, positional_drop, positional_split, positional_lt, positional_zeros}
@@ -105,13 +105,13 @@ unfolding by_sign
 size_by_sign (pos n) sum of_zeros e = omega arith
 size_by_sign (negsuc n) sum of_zeros e = omega arith
 
-module _ (w : ℕ) (most : w ≤ largest_width) (l : List ℕ) (n : ℕ) (d : DigitString w l) (s : Significant l n) (size : List ℕ) (k carry : ℕ) (inv : Subtracted (largest_digit w) l (sign_of (string_value l)) size n k carry) where
+module _ (w : ℕ) (most : w ≤ largest_width) (l : List ℕ) (d : DigitString w l) (size : List ℕ) (k carry : ℕ) (inv : Subtracted (largest_digit w) l (sign_of (string_value l)) size (length l) k carry) where
   abbrev p : ℕ
   p = 256 ^ k
 
   whole : bytes_value size + p * carry ≡ nat_abs (string_value l) + p * carry_zero
   whole =
-      let difference = size_by_sign (string_value l) (raised_sum (largest_digit w) l 0 n) (raised_zeros (largest_digit w) n) (raised_value w most l n d s) in
+      let difference = size_by_sign (string_value l) (raised_sum (largest_digit w) l 0 (length l)) (raised_zeros (largest_digit w) (length l)) (raised_value w most l d) in
       omega (arith, inv.value)
 
   -- with the right sign the last carry is not below zero

@@ -6,7 +6,7 @@
 #![tactic(auto)]
 
 ghost use Rattle.std.specs.Prelude.{◌≡◌, ◌+◌, ◌*◌, ◌%◌, ◌<◌, ◌≤◌, nat_abs, length};
-ghost use Rattle.integers.specs.Positional.{bytes_value, Significant};
+ghost use Rattle.integers.specs.Positional.{bytes_value};
 ghost use Rattle.integers.specs.Signed.{sign_of};
 ghost use Rattle.digit_strings.specs.Admission.{string_value, DigitString};
 ghost use Rattle.reading_digits.specs.Sums.{SizesUpTo, raised_sum, raised_zeros, by_sign, carry_zero};
@@ -29,18 +29,20 @@ fn raised_digit(byte: u8, largest: u64) -> u64
     (u64::from(byte) + largest) % 256
 }
 
-// The sign of a string of `count` significant digits, from the highest down. What these come to is
-// kept, raised by the largest digit. Where its size is not below the largest digit, the digits below
-// come to less, and it has the sign; at width 2 that is at the highest digit.
-pub fn sign_of(digits: &[u8], count: usize, width: Width) -> u8
-    requires digit_string { DigitString width digits.now }
-    requires significant { Significant digits.now count }
+// The sign of a string, from the highest digit down. What the digits passed come to is kept, raised
+// by the largest digit. Where its size is not below the largest digit, the digits below come to less,
+// and it has the sign; at width 2 that is at the highest digit other than 0.
+//
+// That the string is one of digits stays a `requires`, and is no type as in clean: it is a fact of
+// the string and a width that the caller chooses, and a type of both would be no plainer.
+pub fn sign_of(digits: &[u8], width: Width) -> u8
+    requires { DigitString width digits.now }
     ensures { result ≡ sign_of (string_value digits.now) }
 {
     let largest = u64::from(width.largest_digit());
     let twice = 2 * largest;
     let mut value = largest;
-    for digit in digits[..count].iter().rev() {
+    for digit in digits.iter().rev() {
         let next = 2 * value + raised_digit(*digit, largest);
         if next <= twice {
             return 1;
@@ -86,24 +88,23 @@ fn byte_of(digits: &[u8], largest: u64, sign: u8, carry: u64) -> u64
     }
 }
 
-// The size of a string of `count` significant digits. With the right sign the last carry is not
-// below zero, and is the highest byte.
-pub fn size_of(digits: &[u8], count: usize, width: Width, sign: u8) -> [u8; SIZE_BYTES]
+// The size of a string. With the right sign the last carry is not below zero, and is the highest
+// byte.
+pub fn size_of(digits: &[u8], width: Width, sign: u8) -> [u8; SIZE_BYTES]
     requires digit_string { DigitString width digits.now }
-    requires significant { Significant digits.now count }
     requires sign_value { sign ≡ sign_of (string_value digits.now) }
     ensures { bytes_value result ≡ nat_abs (string_value digits.now) }
 {
     let largest = u64::from(width.largest_digit());
     let mut size = [0u8; SIZE_BYTES];
     let mut carry = CARRY_ZERO;
-    let whole = count / 8;
+    let whole = digits.len() / 8;
     for k in 0..whole {
         let byte = byte_of(&digits[8 * k..8 * k + 8], largest, sign, carry);
         size[k] = (byte % 256) as u8;
         carry = byte / 256;
     }
-    let byte = byte_of(&digits[8 * whole..count], largest, sign, carry);
+    let byte = byte_of(&digits[8 * whole..], largest, sign, carry);
     size[whole] = (byte % 256) as u8;
     size[whole + 1] = (byte / 256 - CARRY_ZERO) as u8;
     size

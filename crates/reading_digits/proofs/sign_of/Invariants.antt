@@ -9,4 +9,4 @@ abbrev pub invariant-loop-digit : goal.invariant-loop-digit
 invariant-loop-digit l =
     let left = length l.digit-iterator.iter.rest.now in
     (goal.iterator-loop-digit).can_next l.digit-iterator × (goal.iterator-loop-digit).is_finite l.digit-iterator
-    × (left ≤ l.count) × (l.value ≤ 2 * l.largest) × Front l.digits l.digit-iterator.iter.rest.now × Comes l.largest l.digits l.count left l.largest l.value
+    × (left ≤ length l.digits) × (l.value ≤ 2 * l.largest) × Front l.digits l.digit-iterator.iter.rest.now × Comes l.largest l.digits (length l.digits) left l.largest l.value

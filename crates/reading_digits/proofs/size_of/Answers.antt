@@ -2,7 +2,7 @@
 use mathlib.Core.Path.{◌≡◌, refl, ◌∙◌}
 use Prim.Native.Nat.{ℕ, ◌-◌, ◌+◌, ◌*◌, ◌/◌, ◌%◌}
 use native.Mathlib.Omega.{arith}
-use lib.ListN.{set, length-set}
+use lib.ListN.{length, set, length-set}
 use Rattle.rules.specs.Limits.{string_digits}
 use Rattle.integers.specs.Signed.{sign_of}
 use Rattle.digit_strings.specs.Admission.{largest_digit, string_value}
@@ -19,16 +19,16 @@ sizes c =
 
 -- the digits above the last whole byte, and the carry
 last : (c : After-byte_of-byte-2)
-    → let whole : ℕ = c.args.count / 8 in
+    → let whole : ℕ = (length c.args.digits.now) / 8 in
     Subtracted (largest_digit c.args.width) c.args.digits.now (sign_of (string_value c.args.digits.now))
-    (set c.loop-k.size whole (c.byte_of-byte-2.result % 256)) c.args.count (whole + 1) (c.byte_of-byte-2.result / 256)
+    (set c.loop-k.size whole (c.byte_of-byte-2.result % 256)) (length c.args.digits.now) (whole + 1) (c.byte_of-byte-2.result / 256)
 last c =
     let args = c.args in
-    let whole : ℕ = args.count / 8 in
+    let whole : ℕ = (length args.digits.now) / 8 in
     let k : c.loop-k.k ≡ whole = omega arith in
-    let e : 8 * whole + (args.count - 8 * whole) ≡ args.count = omega arith in
-    let value = part_byte c.from-largest.result args.digits.now (8 * whole) args.count (omega arith) c.requires.significant.within args.sign c.loop-k.carry c.byte_of-byte-2.result c.byte_of-byte-2.ensures.value in
-    let all = subtracted_step c.from-largest.result args.digits.now args.sign c.loop-k.size whole c.loop-k.carry (rw k at c.loop-k.invariant.2) (args.count - 8 * whole) c.byte_of-byte-2.result (search rules) (search rules) value in
+    let e : 8 * whole + ((length args.digits.now) - 8 * whole) ≡ (length args.digits.now) = omega arith in
+    let value = part_byte c.from-largest.result args.digits.now (8 * whole) (length args.digits.now) (omega arith) (omega arith) args.sign c.loop-k.carry c.byte_of-byte-2.result c.byte_of-byte-2.ensures.value in
+    let all = subtracted_step c.from-largest.result args.digits.now args.sign c.loop-k.size whole c.loop-k.carry (rw k at c.loop-k.invariant.2) ((length args.digits.now) - 8 * whole) c.byte_of-byte-2.result (search rules) (search rules) value in
     rw (c.requires.sign_value, e, (c.from-largest.ensures ∙ c.largest_digit.ensures.value)) at all
 
 pub loop-k-init : goal.loop-k-init
@@ -54,12 +54,12 @@ loop-k-preserved c =
 
 pub byte_of-byte-requires-2-clause-sizes_up_to : goal.byte_of-byte-requires-2-clause-sizes_up_to
 byte_of-byte-requires-2-clause-sizes_up_to c =
-    part_sizes c.from-largest.result c.args.digits.now (8 * (c.args.count / 8)) c.args.count (omega arith) (omega arith) (sizes (goal.at.byte_of-byte-requires-2-clause-sizes_up_to c).After-from-largest)
+    part_sizes c.from-largest.result c.args.digits.now (8 * ((length c.args.digits.now) / 8)) (length c.args.digits.now) (omega arith) (omega arith) (sizes (goal.at.byte_of-byte-requires-2-clause-sizes_up_to c).After-from-largest)
 
 pub overflow_sub-size : goal.overflow_sub-size
 overflow_sub-size c =
-    omega (arith, carry_left c.args.width c.largest_digit.ensures.range.1 c.args.digits.now c.args.count c.requires.digit_string c.requires.significant _ _ _ (last (goal.at.overflow_sub-size c).After-byte_of-byte-2))
+    omega (arith, carry_left c.args.width c.largest_digit.ensures.range.1 c.args.digits.now c.requires.digit_string _ _ _ (last (goal.at.overflow_sub-size c).After-byte_of-byte-2))
 
 pub returns : goal.returns
 returns c =
-    subtracted_all c.args.width c.largest_digit.ensures.range.1 c.args.digits.now c.args.count c.requires.digit_string c.requires.significant _ _ _ (last (goal.at.returns c).After-byte_of-byte-2) (simp length-set (search rules))
+    subtracted_all c.args.width c.largest_digit.ensures.range.1 c.args.digits.now c.requires.digit_string _ _ _ (last (goal.at.returns c).After-byte_of-byte-2) (simp length-set (search rules))

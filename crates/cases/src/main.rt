@@ -62,7 +62,9 @@ fn take<W: Write>(to: &mut W, number: &[u8], times: usize) -> io::Result<()> {
     for _ in 0..times {
         let answer = lesmutka_take(&mut kept) as usize;
         put_numbers(to, &[answer])?;
-        let same = recoder.take().map_or(256, usize::from);
+        let taken = recoder.take();
+        recoder = taken.next;
+        let same = taken.answer.map_or(256, usize::from);
         if same != answer {
             put_numbers(to, &[same])?;
         }

@@ -21,7 +21,7 @@ use triples::Tripled;
 pub fn counts(number: &PositiveNumber) -> Counts
     ensures { result ≡ counts_of (naf_steps (bytes_value number.now)) }
 {
-    let digits = tally_of(number.bytes());
+    let digits = tally_of(&number.number());
     Counts {
         doublings: digits.length - 2,
         additions: digits.plus - 1,

@@ -7,10 +7,9 @@ ghost use Rattle.std.specs.Prelude.{◌≡◌, ℕ, ◌+◌, ◌*◌, ◌/◌, �
 ghost use Rattle.rules.specs.Limits.{number_bytes};
 ghost use Rattle.integers.specs.Bits.{bit_length};
 ghost use Rattle.integers.specs.Positional.{bytes_value};
-ghost use Rattle.numbers.specs.Admission.{Admitted};
 ghost use Rattle.naf_tally.specs.Tally.{only_in, length_to, length_above, Within, Tallied};
 
-use integers::words_of;
+use numbers::Number;
 
 // How many places hold 1 in a and 0 in b.
 fn only_in(a: u64, b: u64) -> usize
@@ -90,11 +89,11 @@ pub struct Digits {
 
 // The digits of all of a number, over the words that it has. A word of zeros above them takes the last
 // carry.
-pub fn tally_of(number: &[u8]) -> Digits
-    requires { Admitted number.now }
+pub fn tally_of(number: &Number) -> Digits
     ensures { (result.plus ≡ only_in (3 * bytes_value number.now) (bytes_value number.now)) × (result.minus ≡ only_in (bytes_value number.now) (3 * bytes_value number.now)) × (result.length ≡ bit_length (3 * bytes_value number.now)) }
 {
-    let words = words_of(number);
+    let words = number.words();
+    let length = number.bytes().len();
     let mut below = Tally {
         places: 0,
         plus: 0,
@@ -102,7 +101,7 @@ pub fn tally_of(number: &[u8]) -> Digits
         top: Top { under: 0, word: 0 },
         carry: 0,
     };
-    for word in &words[..number.len().div_ceil(8)] {
+    for word in &words[..length.div_ceil(8)] {
         below = below.with_word(*word);
     }
     let all = below.with_word(0);

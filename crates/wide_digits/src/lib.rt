@@ -67,7 +67,7 @@ pub fn write(bytes: &[u8], bits: usize, width: Width, sign: u8, out: &mut [u8]) 
             place += BLANK_PLACES;
             continue;
         }
-        let zeros = u64::trailing_zeros(left) as usize;
+        let zeros = left.trailing_zeros() as usize;
         let remainder = (left >> zeros) % (2 * half);
         place += zeros;
         out[place] = digit_byte(remainder, half, sign);

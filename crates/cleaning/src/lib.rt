@@ -5,7 +5,7 @@ ghost use Rattle.std.specs.Prelude.{◌≡◌, length};
 ghost use Rattle.cleaning.specs.Clean.{clean_answer, clean_buffer};
 
 use cleaning_digits::{count, write};
-use digit_strings::CanonicalDigits;
+use digit_strings::PlainDigits;
 use rules::Refusal;
 
 // Writes the canonical string of a digit string's value, lowest digit first.
@@ -14,7 +14,7 @@ pub fn clean(digits: &[u8], out: &mut [u8]) -> Result<usize, Refusal>
     ensures answer { result ≡ clean_answer digits.now (length out.old) }
     ensures buffer { out.new ≡ clean_buffer digits.now out.old }
 {
-    let digits = CanonicalDigits::new(digits)?;
+    let digits = PlainDigits::new(digits)?;
     let length = count(&digits);
     if out.len() < length {
         return Err(Refusal::RoomTooSmall(length));

@@ -12,7 +12,7 @@ ghost use Rattle.digit_strings.specs.Admission.{DigitString, string_value};
 ghost use Rattle.digit_strings.specs.Places.{place_byte};
 ghost use Rattle.cleaning_digits.specs.Sums.{raised_at, sum_at, Highest};
 
-use digit_strings::CanonicalDigits;
+use digit_strings::PlainDigits;
 use integers::{byte_at, significant};
 
 // The length is sought first from this many places below the top digit: few carries come from
@@ -20,7 +20,7 @@ use integers::{byte_at, significant};
 const NEAR: usize = 16;
 
 // The digit at a place, plus 1; above the string the digit is 0.
-fn raised_at(digits: &CanonicalDigits, i: usize) -> u64
+fn raised_at(digits: &PlainDigits, i: usize) -> u64
     ensures value { (result ≡ raised_at digits.now i) × (result ≤ 2) }
     ensures digit_string { DigitString canonical_width digits.now }
 {
@@ -43,7 +43,7 @@ fn top(sum: u64, above: usize, below: usize) -> usize
 }
 
 // The place above the highest canonical digit other than 0, from `from` to n; 0 if there is none.
-fn highest(digits: &CanonicalDigits, from: usize, n: usize, start: u64) -> usize
+fn highest(digits: &PlainDigits, from: usize, n: usize, start: u64) -> usize
     requires from_le_n { from ≤ n }
     requires n_bound { n ≤ string_digits }
     requires start_value { start ≡ sum_at digits.now from }
@@ -61,7 +61,7 @@ fn highest(digits: &CanonicalDigits, from: usize, n: usize, start: u64) -> usize
 
 // The length by the digits from `from` on alone, where each carry into that place comes to the same
 // and a canonical digit from where it does is not 0. The sum lies from `low` to `high`.
-fn by_top(digits: &CanonicalDigits, from: usize, n: usize) -> Option<usize>
+fn by_top(digits: &PlainDigits, from: usize, n: usize) -> Option<usize>
     requires from_le_n { from ≤ n }
     requires significant { Significant digits.now n }
     ensures { IfSome result (λ found. found ≡ length (canonical (string_value digits.now))) }
@@ -86,7 +86,7 @@ fn by_top(digits: &CanonicalDigits, from: usize, n: usize) -> Option<usize>
 }
 
 // How many digits the canonical string has.
-pub fn count(digits: &CanonicalDigits) -> usize
+pub fn count(digits: &PlainDigits) -> usize
     ensures { result ≡ length (canonical (string_value digits.now)) }
 {
     let n = significant(digits.bytes());
@@ -99,7 +99,7 @@ pub fn count(digits: &CanonicalDigits) -> usize
 }
 
 // Writes the first `count` canonical digits.
-pub fn write(digits: &CanonicalDigits, out: &mut [u8], count: usize)
+pub fn write(digits: &PlainDigits, out: &mut [u8], count: usize)
     requires { count ≤ length out.old }
     ensures { out.new ≡ tabulate (place_byte (canonical (string_value digits.now))) count ++ drop count out.old }
 {

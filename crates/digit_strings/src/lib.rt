@@ -38,6 +38,7 @@ fn whole_digits(digits: &[u8], largest: u8) -> usize
     requires { largest ≤ 127 }
     ensures { PassFor (digit_up_to largest) digits.now 0 result × (result ≤ length digits.now) }
 {
+    // The first block with another byte ends it.
     let mut i = 0;
     while i + 8 <= digits.len() && are_digits(&digits[i..i + 8], largest) {
         i += 8;
@@ -79,13 +80,14 @@ pub fn string_verdict(digits: &[u8], width: Width) -> Result<(), Refusal>
     }
 }
 
-// A string of the digits 0, 1 and -1 that every call takes: not longer than the limit.
+// A string of the digits 0, 1 and -1 that is let in: not longer than the limit. For one width: with the
+// width in the value, each clause would have to take the two apart.
 #[derive(Drop)]
-pub struct CanonicalDigits<'a> {
+pub struct PlainDigits<'a> {
     bytes: &'a [u8],
 }
 
-impl<'a> Model for CanonicalDigits<'a> {
+impl<'a> Model for PlainDigits<'a> {
     ghost use Rattle.std.specs.Prelude.{ℕ, ◌<◌, List, slice_index};
     ghost use Rattle.signed_digits.specs.Naf.{canonical_width};
     ghost use Rattle.digit_strings.specs.Admission.{DigitString};
@@ -97,14 +99,14 @@ impl<'a> Model for CanonicalDigits<'a> {
     ghost invariant = { λ s. DigitString canonical_width s.bytes.now × ((i : ℕ) → slice_index s.bytes.now i < 256) };
 }
 
-impl<'a> CanonicalDigits<'a> {
+impl<'a> PlainDigits<'a> {
     // The string of these bytes, past refusals 5 and 4.
     #[tactic(auto, using(crate::proofs::Tests::digit_string_is))]
-    pub fn new(bytes: &'a [u8]) -> Result<CanonicalDigits<'a>, Refusal>
+    pub fn new(bytes: &'a [u8]) -> Result<PlainDigits<'a>, Refusal>
         ensures { MatchResult result (λ s. (string_verdict canonical_width bytes.now ≡ Ok tt) × (s ≡ bytes.now)) (λ r. string_verdict canonical_width bytes.now ≡ Err r) }
     {
         string_verdict(bytes, Width::CANONICAL)?;
-        Ok(CanonicalDigits { bytes })
+        Ok(PlainDigits { bytes })
     }
 
     pub fn bytes(&self) -> &'a [u8]

@@ -87,7 +87,8 @@ impl<'a> Number<'a> {
     }
 }
 
-// One that is also not zero.
+// One that is also not zero. A type of its own: over the test, the two would take a trait and a type for
+// each test beside them.
 #[derive(Drop)]
 pub struct PositiveNumber<'a> {
     bytes: &'a [u8],

@@ -12,7 +12,8 @@ use step_reading::Step;
 // A position has two bytes.
 const POSITIONS: usize = 65536;
 
-// The operation of what is no step: one that no step has.
+// The operation of what is no step: one that no step has. It is written, so that check refuses the step
+// at its place.
 const NO_OPERATION: u8 = 2;
 
 // The position that digits are. The first byte that cannot belong to it decides, so the number never

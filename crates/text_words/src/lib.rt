@@ -13,7 +13,8 @@ fn is_blank(c: u8) -> bool
     matches!(c, b' ' | b'\t'..=b'\r')
 }
 
-// Where the first word starts.
+// Where the first word starts. A function, as the next one: what a closure finds is known where it is the
+// whole body, and not in `next`.
 fn first_letter(text: &[u8]) -> Option<usize>
     ensures { result ≡ position (λ c. not (is_blank c)) text.now }
 {

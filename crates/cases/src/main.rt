@@ -51,9 +51,9 @@ const ROOM_BYTES: usize = RECORD_BYTES * (PLAN_STEPS + 2);
 // How much is read and written at a time.
 const BLOCK_BYTES: usize = 65536;
 
-// Takes this many digits, from the words that C keeps and from a recoder. Each take is answered by one
-// number, 256 if none is left; were the two to differ, by two. What a recoder holds is fixed only once
-// it is done: zeros.
+// Takes this many digits, in place as C does and by value. Each take is answered by one number, 256 if
+// none is left; were the two to differ, by two. What a recoder holds is fixed only once it is done:
+// zeros.
 fn take<W: Write>(to: &mut W, number: &[u8], times: usize) -> io::Result<()> {
     let mut kept = [0; NUMBER_WORDS + 1];
     let started = lesmutka_start(number, &mut kept);

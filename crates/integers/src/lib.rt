@@ -107,8 +107,13 @@ pub fn whole_word_at(bytes: &[u8], from: usize) -> u64
 fn word_at(bytes: &[u8], from: usize) -> u64
     ensures { result ≡ bytes_value (take 8 (drop from bytes.now)) }
 {
-    let rest = bytes.get(from..).unwrap_or(&[]);
-    word_of(&rest[..rest.len().min(8)])
+    if bytes.len() <= from {
+        return 0;
+    }
+    if 8 <= bytes.len() - from {
+        return whole_word_at(bytes, from);
+    }
+    word_of(&bytes[from..])
 }
 
 // The words of a number. Bytes above the limit are left out.

@@ -15,7 +15,7 @@ ghost use Rattle.plan_writing.specs.Writing.{Writing};
 ghost use Rattle.method_sliding_windows.specs.Scan.{first_in, at_sliding_window, windows_in, Turn, table_steps, start_of};
 
 use integers::bit_length;
-use methods::SLIDING_WINDOW_BITS;
+use methods::{SLIDING_WINDOW_BITS, SlidingWidth};
 use numbers::PositiveNumber;
 use plan_writing::Cursor;
 use plan_writing::tables::{position, table_counts, table_length, write_table};
@@ -54,11 +54,11 @@ struct Start {
 
 // Of the 64 bits from a place down, the zeros down to the highest 1 and the window that begins
 // there. A window ends in 1: the zeros below its last 1 are not in it.
-fn window_in(bits: u64, width: usize) -> Window
-    requires sliding_window_bits_bound { 2 ^ sliding_window_bits ≤ bits }
-    requires le_width { (1 ≤ width) × (width ≤ sliding_window_bits) }
+fn window_in(bits: u64, width: SlidingWidth) -> Window
+    requires { 2 ^ sliding_window_bits ≤ bits }
     ensures { result ≡ first_in bits width }
 {
+    let width = width.bits();
     let zeros = bits.leading_zeros() as usize;
     let window = bits >> (64 - zeros - width);
     let trailing = window.trailing_zeros() as usize;
@@ -72,9 +72,8 @@ fn window_in(bits: u64, width: usize) -> Window
 
 // What the scan takes below a place. If it sees no window that is whole, that is zeros: of 64 bits,
 // all but those of a window.
-fn next_window(words: &[u64], place: usize, width: usize) -> Taken
-    requires le_place { 1 ≤ place }
-    requires le_width { (1 ≤ width) × (width ≤ sliding_window_bits) }
+fn next_window(words: &[u64], place: usize, width: SlidingWidth) -> Taken
+    requires { 1 ≤ place }
     ensures { Turn (words_value words.now) width place result }
 {
     let bits = bits_down(words, place - 1);
@@ -93,19 +92,21 @@ fn next_window(words: &[u64], place: usize, width: usize) -> Taken
 
 // How many steps of the table come before the scan. With nothing below the first window, the number
 // is odd and below 2 to the power of the width, and the table stops at it.
-fn table_steps(below: usize, at: usize, width: usize) -> usize
-    requires { width ≤ sliding_window_bits }
+fn table_steps(below: usize, at: usize, width: SlidingWidth) -> usize
     ensures { result ≡ table_steps below at width }
 {
-    if below == 0 { at } else { table_length(width) }
+    if below == 0 {
+        at
+    } else {
+        table_length(width.bits())
+    }
 }
 
 // Where the scan of a number above zero starts, whose top bit stands at place n.
-fn start_of(words: &[u64], n: usize, width: usize) -> Start
+fn start_of(words: &[u64], n: usize, width: SlidingWidth) -> Start
     requires words_nonzero { words_value words.now ≢ 0 }
     requires n_value { n ≡ bit_length (words_value words.now) - 1 }
     requires n_bound { n < 8 * number_bytes }
-    requires le_width { (1 ≤ width) × (width ≤ sliding_window_bits) }
     ensures { result ≡ start_of (words_value words.now) width }
 {
     let window = window_in(bits_down(words, n), width);
@@ -119,8 +120,7 @@ fn start_of(words: &[u64], n: usize, width: usize) -> Start
 }
 
 // How many windows the scan meets below a place.
-fn later_windows(words: &[u64], below: usize, width: usize) -> usize
-    requires { (1 ≤ width) × (width ≤ sliding_window_bits) }
+fn later_windows(words: &[u64], below: usize, width: SlidingWidth) -> usize
     ensures { result ≡ later_windows (words_value words.now) width below below }
 {
     let mut windows: usize = 0;
@@ -135,8 +135,7 @@ fn later_windows(words: &[u64], below: usize, width: usize) -> usize
 
 // The counts of the steps: those of the table, a doubling for each bit
 // below the first window, an addition for each later window.
-pub fn counts(number: &PositiveNumber, width: usize) -> Counts
-    requires { (1 ≤ width) × (width ≤ sliding_window_bits) }
+pub fn counts(number: &PositiveNumber, width: SlidingWidth) -> Counts
     ensures { result ≡ counts_of (sliding_window_steps (bytes_value number.now) width) }
 {
     let words = number.words();
@@ -164,9 +163,8 @@ fn at_window(c: Cursor, out: &mut [u8], taken: Taken) -> Cursor
 }
 
 // Writes the steps.
-pub fn write(number: &PositiveNumber, width: usize, out: &mut [u8])
-    requires le_width { (1 ≤ width) × (width ≤ sliding_window_bits) }
-    requires width_in_bounds { step_bytes * length (sliding_window_steps (bytes_value number.now) width) ≤ length out.old }
+pub fn write(number: &PositiveNumber, width: SlidingWidth, out: &mut [u8])
+    requires { step_bytes * length (sliding_window_steps (bytes_value number.now) width) ≤ length out.old }
     ensures { out.new ≡ plan_bytes_of (sliding_window_steps (bytes_value number.now) width) ++ drop (length (plan_bytes_of (sliding_window_steps (bytes_value number.now) width))) out.old }
 {
     let words = number.words();

@@ -9,7 +9,7 @@ ghost use Rattle.chains.specs.Counts.{counts_of};
 ghost use Rattle.methods.specs.Method.{Allowed, steps_by};
 ghost use Rattle.planning.specs.Plan.{forecast_answer, plan_answer, plan_buffer};
 
-use methods::Method;
+use methods::{FixedWidth, Method, SlidingWidth};
 use numbers::PositiveNumber;
 use requests::{Request, requested};
 use rules::{Counts, Refusal, STEP_BYTES, Width};
@@ -22,8 +22,11 @@ fn counts(number: &PositiveNumber, method: Method) -> Counts
 {
     match method {
         Method::Binary => method_binary::counts(number),
-        Method::FixedWindows(d) => method_fixed_windows::counts(number, d),
-        Method::SlidingWindows(d) => method_sliding_windows::counts(number, d),
+        Method::FixedWindows(d) => method_fixed_windows::counts(number, FixedWidth { bits: d }),
+        Method::SlidingWindows(d) => method_sliding_windows::counts(
+            number,
+            SlidingWidth { bits: d },
+        ),
         Method::Naf => method_naf::counts(number),
         Method::WideNaf(w) => method_wide_naf::counts(number, Width { bits: w }),
         Method::ModifiedNaf => method_modified_naf::counts(number),
@@ -39,8 +42,12 @@ fn write(number: &PositiveNumber, method: Method, out: &mut [u8])
 {
     match method {
         Method::Binary => method_binary::write(number, out),
-        Method::FixedWindows(d) => method_fixed_windows::write(number, d, out),
-        Method::SlidingWindows(d) => method_sliding_windows::write(number, d, out),
+        Method::FixedWindows(d) => method_fixed_windows::write(number, FixedWidth { bits: d }, out),
+        Method::SlidingWindows(d) => method_sliding_windows::write(
+            number,
+            SlidingWidth { bits: d },
+            out,
+        ),
         Method::Naf => method_naf::write(number, out),
         Method::WideNaf(w) => method_wide_naf::write(number, Width { bits: w }, out),
         Method::ModifiedNaf => method_modified_naf::write(number, out),

@@ -33,7 +33,8 @@ returns-then-top-eq0 c =
 pub overflow_add-result : goal.overflow_add-result
 overflow_add-result c =
     let size = c.table_length.ensures in
-    omega (arith, few _ _ c.table_counts-table.ensures, pow_mono {i = c.args.width} {j = fixed_window_bits} (search rules))
+    let bound = rw (← c.bits.ensures.value) at c.top_window-top.ensures.1 in
+    omega (arith, bound, few _ _ c.table_counts-table.ensures, pow_mono {i = c.args.width} {j = fixed_window_bits} (search rules))
 
 pub overflow_add-result-2 : goal.overflow_add-result-2
 overflow_add-result-2 c =
@@ -46,4 +47,4 @@ returns c =
     let args = c.args in
     let e : ℕ = bytes_value args.number.now in
     let more : 2 ^ args.width ≤ e = more_windows e args.width (search rules) (omega (arith, c.top_window-top.ensures.0)) in
-    rw (c.nonzero_windows.ensures.0, c.bytes-bytes.ensures.value, c.table_counts-table.ensures, c.table_length.ensures, c.top_window-top.ensures.0, fixed_counts e args.width, le-ltb e (2 ^ args.width) more)
+    rw (c.nonzero_windows.ensures.0, c.bits.ensures.value, c.bytes-bytes.ensures.value, c.table_counts-table.ensures, c.table_length.ensures, c.top_window-top.ensures.0, fixed_counts e args.width, le-ltb e (2 ^ args.width) more)

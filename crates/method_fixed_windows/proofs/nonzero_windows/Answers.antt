@@ -23,10 +23,7 @@ pub window_at-requires : goal.window_at-requires
 window_at-requires c =
     let args = c.args in
     let below : c.loop-i.i ≤ args.n = omega arith in
-    record {
-      width_le_fixed_window_bits = search rules;
-      i_bound = omega (arith, mul-le-mul_left args.width below);
-    }
+    omega (arith, mul-le-mul_left args.width below)
 
 pub overflow_add-total : goal.overflow_add-total
 overflow_add-total c = omega (arith, c.from-total.ensures, (one_or_none (eqb c.window_at.result 0)).1)

@@ -9,4 +9,4 @@ pub returns : goal.returns
 returns c =
     let n = rw c.bytes.ensures.value at c.bit_length.ensures in
     let few = bytes_length c.args.number.now number_bytes c.bytes.ensures.small c.bytes.ensures.positive.admitted.short in
-    (rw n, grind (arith, common_steps))
+    (rw (n, c.bits.ensures.value), grind (arith, common_steps))

@@ -18,7 +18,7 @@ write_windows-requires c =
     rw c.bytes-bytes.ensures.value (record {
       top_value = search rules;
       number_nonzero = search rules;
-      le_width = search rules;
+      top_bound = search rules;
       width_in_bounds = omega (arith, ap length (fixed_more (bytes_value args.number.now) args.width (search rules) (search rules)));
     })
 

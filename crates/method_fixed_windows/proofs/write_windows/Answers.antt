@@ -51,7 +51,7 @@ loop-i-init c =
 pub window_at-requires-in-loop-i : goal.window_at-requires-in-loop-i
 window_at-requires-in-loop-i c =
     let h : c.loop-i.i - 1 ≤ c.args.top = omega arith in
-    record { width_le_fixed_window_bits = search rules; i_bound = omega (arith, mul-le-mul_left c.args.width h) }
+    omega (arith, mul-le-mul_left c.args.width h)
 
 pub at_window-c-requires : goal.at_window-c-requires
 at_window-c-requires c =

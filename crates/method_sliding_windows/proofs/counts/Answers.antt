@@ -30,7 +30,6 @@ start_of-start-requires c =
       words_nonzero = omega (arith, h.some);
       n_value = h.top;
       n_bound = omega (arith, h.top, h.few);
-      le_width = search rules;
     }
 
 pub overflow_add-result : goal.overflow_add-result

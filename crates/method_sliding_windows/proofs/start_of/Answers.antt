@@ -33,10 +33,8 @@ module _ (c : After-window_in-window) where
   within = rw window (omega (arith, (first_window e d some (search rules)).within))
 
 pub window_in-window-requires : goal.window_in-window-requires
-window_in-window-requires c = record {
-  sliding_window_bits_bound = rw (bits (goal.at.window_in-window-requires c).After-bits_down) (start_large (words_value c.args.words.now) c.args.width (search rules) (search rules) (search rules));
-  le_width = search rules;
-}
+window_in-window-requires c =
+    rw (bits (goal.at.window_in-window-requires c).After-bits_down) (start_large (words_value c.args.words.now) c.args.width (search rules) (search rules) (search rules))
 
 pub overflow_sub-below : goal.overflow_sub-below
 overflow_sub-below c = omega (arith, within (goal.at.overflow_sub-below c).After-window_in-window)

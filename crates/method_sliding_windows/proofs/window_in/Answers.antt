@@ -12,19 +12,19 @@ pub overflow_sub-window : goal.overflow_sub-window
 overflow_sub-window c = omega (arith, leading_le 64 c.args.bits)
 
 pub overflow_sub-window-2 : goal.overflow_sub-window-2
-overflow_sub-window-2 c = omega (arith, zeros_few c.args.bits c.args.width (search rules) (omega arith) (search rules) (search rules))
+overflow_sub-window-2 c = omega (arith, zeros_few c.args.bits c.bits-width.result (search rules) (omega arith) (search rules) (search rules))
 
 pub overflow_cast-trailing : goal.overflow_cast-trailing
-overflow_cast-trailing c = omega (arith, trailing_few c.args.bits c.args.width (search rules) (omega arith) (search rules) (search rules))
+overflow_cast-trailing c = omega (arith, trailing_few c.args.bits c.bits-width.result (search rules) (omega arith) (search rules) (search rules))
 
 pub overflow_add-taken : goal.overflow_add-taken
 overflow_add-taken c = omega (arith, leading_le 64 c.args.bits)
 
 pub overflow_sub-taken : goal.overflow_sub-taken
-overflow_sub-taken c = omega (arith, trailing_few c.args.bits c.args.width (search rules) (omega arith) (search rules) (search rules))
+overflow_sub-taken c = omega (arith, trailing_few c.args.bits c.bits-width.result (search rules) (omega arith) (search rules) (search rules))
 
 pub overflow_shr-value : goal.overflow_shr-value
-overflow_shr-value c = omega (arith, trailing_few c.args.bits c.args.width (search rules) (omega arith) (search rules) (search rules))
+overflow_shr-value c = omega (arith, trailing_few c.args.bits c.bits-width.result (search rules) (omega arith) (search rules) (search rules))
 
 pub returns : goal.returns
-returns c = first_read c.args.bits c.args.width (search rules) (omega arith) (search rules) (search rules)
+returns c = rw (← c.bits-width.ensures.value) (first_read c.args.bits c.bits-width.result (search rules) (omega arith) (search rules) (search rules))

@@ -31,10 +31,10 @@ module _ (c : After-bit_length) where
       in_words given words c.bit_length.result c.words-words.ensures.small c.words-words.ensures.positive c.words-words.ensures.value (rw c.bytes.ensures.value at c.bit_length.ensures)
 
   wide : 1 ≤ width
-  wide = c.requires.le_width.0
+  wide = search rules
 
   room : step_bytes * length (sliding_window_steps (words_value words) width) ≤ length lent
-  room = rw number.same c.requires.width_in_bounds
+  room = rw number.same c.requires
 
 -- what is written so far, as part of all steps
 sliding : (c : At-loop-i) →
@@ -55,7 +55,6 @@ start_of-start-requires c =
       words_nonzero = omega (arith, h.some);
       n_value = h.top;
       n_bound = omega (arith, h.top, h.few);
-      le_width = search rules;
     }
 
 pub write_table-table-requires : goal.write_table-table-requires

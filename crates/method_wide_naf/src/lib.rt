@@ -20,6 +20,10 @@ use wide_digits::{DIGIT_ROOM, recoded};
 fn position_of(digit: u8) -> usize
     ensures { result ≡ odd_position (nat_abs (byte_digit digit)) }
 {
+    // Most digits are 0, and nothing is added for them: then the position is not worked out.
+    if digit == 0 {
+        return 0;
+    }
     if digit < 128 {
         position(u64::from(digit))
     } else {

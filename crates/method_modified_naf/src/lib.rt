@@ -38,8 +38,8 @@ pub fn write(number: &PositiveNumber, out: &mut [u8])
     ensures { out.new ≡ plan_bytes_of (modified_naf_steps (bytes_value number.now)) ++ drop (length (plan_bytes_of (modified_naf_steps (bytes_value number.now)))) out.old }
 {
     let tripled = Tripled::new(number.words());
-    let form = shape_of(&tripled, &number.number());
+    let form = shape_of(&number.number(), tripled.triple());
     let mut digits = [0u8; DIGIT_ROOM];
-    write_form_raised(&tripled, &mut digits, form);
+    write_form_raised(tripled.words(), tripled.triple(), &mut digits, form);
     write_steps(&digits[1..form.length + 1], out);
 }

@@ -37,6 +37,6 @@ pub fn write(number: &PositiveNumber, out: &mut [u8])
     let tripled = Tripled::new(number.words());
     let length = tripled.count(&number.number());
     let mut digits = [0u8; DIGIT_ROOM];
-    write_raised(&tripled, &mut digits, length);
+    write_raised(tripled.words(), tripled.triple(), &mut digits, length);
     write_steps(&digits[1..length + 1], out);
 }

@@ -3,7 +3,7 @@
 #![tactic(auto)]
 
 ghost use Rattle.std.specs.Prelude.{◌≡◌, ◌++◌, ℕ, ◌+◌, ◌*◌, ◌/◌, ◌<◌, ◌≤◌, length, drop, get_or};
-ghost use Rattle.integers.specs.Positional.{bytes_value};
+ghost use Rattle.integers.specs.Positional.{bytes_value, words_value};
 ghost use Rattle.signed_digits.specs.Modified.{modified};
 ghost use Rattle.signed_digits.specs.Bytes.{digit_bytes};
 ghost use Rattle.digit_strings.specs.Places.{place_byte};
@@ -11,7 +11,7 @@ ghost use Rattle.modified_digits.specs.Form.{ShapeOf};
 
 use numbers::Number;
 use recoding_words_digits::{write, write_raised};
-use triples::Tripled;
+use triples::{count, saved};
 
 // How many digits there are, and how many of them, from the lowest up, are the canonical ones: all, or
 // all but the top two, which are 1 1.
@@ -21,25 +21,26 @@ pub struct Shape {
     pub kept: usize,
 }
 
-pub fn shape_of(tripled: &Tripled, number: &Number) -> Shape
-    requires { tripled.now ≡ bytes_value number.now }
-    ensures { ShapeOf tripled.now result }
+pub fn shape_of(number: &Number, triple: &[u64]) -> Shape
+    requires { words_value triple.now ≡ 3 * bytes_value number.now }
+    ensures { ShapeOf (bytes_value number.now) result }
 {
-    let plain = tripled.count(number);
-    let fewer = tripled.saved(plain);
+    let plain = count(number, triple);
+    let fewer = saved(triple, plain);
     let length = plain - fewer;
     let kept = plain - 3 * fewer;
     Shape { length, kept }
 }
 
-// Writes the digits of the number.
-pub fn write_form(tripled: &Tripled, out: &mut [u8], form: Shape)
-    requires shape_of { ShapeOf tripled.now form }
+// Writes the digits of the number that the words hold.
+pub fn write_form(words: &[u64], triple: &[u64], out: &mut [u8], form: Shape)
+    requires triple_value { words_value triple.now ≡ 3 * words_value words.now }
+    requires shape_of { ShapeOf (words_value words.now) form }
     requires length_in_bounds { form.length ≤ length out.old }
-    ensures { out.new ≡ digit_bytes (modified tripled.now) ++ drop form.length out.old }
+    ensures { out.new ≡ digit_bytes (modified (words_value words.now)) ++ drop form.length out.old }
 {
     let kept = form.kept;
-    write(tripled, out, kept);
+    write(words, triple, out, kept);
     if kept < form.length {
         out[kept] = 1;
         out[kept + 1] = 1;
@@ -48,13 +49,14 @@ pub fn write_form(tripled: &Tripled, out: &mut [u8], form: Shape)
 
 // Writes them one place up, as `write_raised` does: the digit at place i is byte i + 1. One function for
 // both would be no plainer: they share a test and two stores, and promise different things of the rest.
-pub fn write_form_raised(tripled: &Tripled, out: &mut [u8], form: Shape)
-    requires shape_of { ShapeOf tripled.now form }
+pub fn write_form_raised(words: &[u64], triple: &[u64], out: &mut [u8], form: Shape)
+    requires triple_value { words_value triple.now ≡ 3 * words_value words.now }
+    requires shape_of { ShapeOf (words_value words.now) form }
     requires length_in_bounds { 64 * (form.length / 64 + 1) ≤ length out.old }
-    ensures { (i : ℕ) → i < form.length → get_or out.new (i + 1) 0 ≡ place_byte (modified tripled.now) i }
+    ensures { (i : ℕ) → i < form.length → get_or out.new (i + 1) 0 ≡ place_byte (modified (words_value words.now)) i }
 {
     let low = form.kept;
-    write_raised(tripled, out, low);
+    write_raised(words, triple, out, low);
     if low < form.length {
         out[low + 1] = 1;
         out[low + 2] = 1;

@@ -18,11 +18,11 @@ pub fn recode_modified(number: &[u8], out: &mut [u8]) -> Result<usize, Refusal>
 {
     let number = Number::new(number)?;
     let tripled = Tripled::new(number.words());
-    let form = shape_of(&tripled, &number);
+    let form = shape_of(&number, tripled.triple());
     let length = form.length;
     if out.len() < length {
         return Err(Refusal::RoomTooSmall(length));
     }
-    write_form(&tripled, out, form);
+    write_form(tripled.words(), tripled.triple(), out, form);
     Ok(length)
 }

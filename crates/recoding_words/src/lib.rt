@@ -21,6 +21,6 @@ pub fn recode_words(number: &[u8], out: &mut [u8]) -> Result<usize, Refusal>
     if out.len() < length {
         return Err(Refusal::RoomTooSmall(length));
     }
-    write(&tripled, out, length);
+    write(tripled.words(), tripled.triple(), out, length);
     Ok(length)
 }

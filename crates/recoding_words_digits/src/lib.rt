@@ -2,11 +2,11 @@
 #![tactic(auto)]
 
 ghost use Rattle.std.specs.Prelude.{◌≡◌, ◌++◌, ℕ, ◌+◌, ◌*◌, ◌/◌, ◌<◌, ◌≤◌, pos, length, drop, get_or};
+ghost use Rattle.integers.specs.Positional.{words_value};
 ghost use Rattle.integers.specs.Tabulate.{tabulate};
 ghost use Rattle.signed_digits.specs.Naf.{canonical};
 ghost use Rattle.digit_strings.specs.Places.{place_byte};
 
-use triples::Tripled;
 use word_digits::write_word;
 use words::word_in;
 
@@ -47,16 +47,15 @@ const FOUR_DIGITS: [u32; 32] = [
     0,
 ];
 
-// Writes the first `count` canonical digits of the number. Bits stand one place above their digits: of the
+// Writes the first `count` canonical digits of the number that the words hold. Bits stand one place above their digits: of the
 // lowest word the lowest bit is left out, and the digits of each word above begin one place down. So no
 // word is shifted but the lowest.
 #[tactic(auto, unfolding(word_digits::specs::Internal::four_digits))]
-pub fn write(tripled: &Tripled, out: &mut [u8], count: usize)
-    requires { count ≤ length out.old }
-    ensures { out.new ≡ tabulate (place_byte (canonical (pos tripled.now))) count ++ drop count out.old }
+pub fn write(words: &[u64], triple: &[u64], out: &mut [u8], count: usize)
+    requires triple_value { words_value triple.now ≡ 3 * words_value words.now }
+    requires count_in_bounds { count ≤ length out.old }
+    ensures { out.new ≡ tabulate (place_byte (canonical (pos (words_value words.now)))) count ++ drop count out.old }
 {
-    let words = tripled.words();
-    let triple = tripled.triple();
     let fours = FOUR_DIGITS;
     let more = word_in(triple, 0) / 2;
     let less = word_in(words, 0) / 2;
@@ -87,12 +86,11 @@ pub fn write(tripled: &Tripled, out: &mut [u8], count: usize)
 // One function for both, over the place, would be no plainer: here no word is halved and none is cut off,
 // which is what the steps before and after the loop of `write` are for.
 #[tactic(auto, unfolding(word_digits::specs::Internal::four_digits))]
-pub fn write_raised(tripled: &Tripled, out: &mut [u8], count: usize)
-    requires { 64 * (count / 64 + 1) ≤ length out.old }
-    ensures { (i : ℕ) → i < count → get_or out.new (i + 1) 0 ≡ place_byte (canonical (pos tripled.now)) i }
+pub fn write_raised(words: &[u64], triple: &[u64], out: &mut [u8], count: usize)
+    requires triple_value { words_value triple.now ≡ 3 * words_value words.now }
+    requires count_in_bounds { 64 * (count / 64 + 1) ≤ length out.old }
+    ensures { (i : ℕ) → i < count → get_or out.new (i + 1) 0 ≡ place_byte (canonical (pos (words_value words.now))) i }
 {
-    let words = tripled.words();
-    let triple = tripled.triple();
     let fours = FOUR_DIGITS;
     for k in 0..count / 64 + 1 {
         write_word(

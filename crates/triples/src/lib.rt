@@ -4,6 +4,7 @@
 #![tactic(auto)]
 
 ghost use Rattle.std.specs.Prelude.{◌≡◌, ℕ, ◌+◌, ◌*◌, ◌^◌, ◌<◌, ◌≤◌, length, pos, slice_index};
+ghost use Rattle.rules.specs.Limits.{number_words};
 ghost use Rattle.integers.specs.Positional.{bytes_value, words_value};
 ghost use Rattle.signed_digits.specs.Naf.{canonical};
 ghost use Rattle.signed_digits.specs.Modified.{saved};
@@ -36,6 +37,27 @@ pub fn triple_word(word: u64, carry: u64) -> TripleWord
         word: sum,
         carry: (word >> 63) + u64::from(both < word) + u64::from(sum < both),
     }
+}
+
+// How many canonical digits a number has, by its bytes and the words of 3 e, however many: as many as bits,
+// or one more where 3 e has a bit above those of 2 e.
+pub fn count(number: &Number, triple: &[u64]) -> usize
+    requires { words_value triple.now ≡ 3 * bytes_value number.now }
+    ensures { result ≡ length (canonical (pos (bytes_value number.now))) }
+{
+    let bytes = number.bytes();
+    let bits = bit_length(bytes);
+    let top = bits + 1;
+    bits + ((word_in(triple, top / 64) >> (top % 64)) % 2) as usize
+}
+
+// How many digits fewer the modified form has, by the words of 3 e, however many: 1 where the canonical
+// digits, of which there are `count`, lead with 1 0 -1. 3 e has a bit more than there are digits, and
+// begins with 100 exactly there.
+pub fn saved(triple: &[u64], count: usize) -> usize
+    ensures { (e : ℕ) → words_value triple.now ≡ 3 * e → count ≡ length (canonical (pos e)) → result ≡ saved e }
+{
+    usize::from(bits_down(triple, count) >> 61 == 4)
 }
 
 // A number e by its words, and by those of 3 e.
@@ -74,6 +96,7 @@ impl Tripled {
 
     // The words of e.
     pub fn words(&self) -> &[u64]
+        ensures count { length result.now ≡ number_words }
         ensures value { words_value result.now ≡ self.now }
         ensures small { (i : ℕ) → slice_index result.now i < 2 ^ 64 }
     {
@@ -82,29 +105,25 @@ impl Tripled {
 
     // The words of 3 e.
     pub fn triple(&self) -> &[u64]
+        ensures count { length result.now ≡ number_words + 1 }
         ensures value { words_value result.now ≡ 3 * self.now }
         ensures small { (i : ℕ) → slice_index result.now i < 2 ^ 64 }
     {
         &self.triple
     }
 
-    // How many canonical digits the number has, by its bytes: as many as bits, or one more where 3 e has a
-    // bit above those of 2 e.
+    // How many canonical digits the number has, by its bytes.
     pub fn count(&self, number: &Number) -> usize
         requires { self.now ≡ bytes_value number.now }
         ensures { result ≡ length (canonical (pos self.now)) }
     {
-        let bytes = number.bytes();
-        let bits = bit_length(bytes);
-        let top = bits + 1;
-        bits + ((word_in(self.triple(), top / 64) >> (top % 64)) % 2) as usize
+        count(number, self.triple())
     }
 
-    // How many digits fewer the modified form has: 1 where the canonical digits lead with 1 0 -1. 3 e has
-    // a bit more than there are digits, and begins with 100 exactly there.
+    // How many digits fewer the modified form has.
     pub fn saved(&self, count: usize) -> usize
         ensures { count ≡ length (canonical (pos self.now)) → result ≡ saved self.now }
     {
-        usize::from(bits_down(self.triple(), count) >> 61 == 4)
+        saved(self.triple(), count)
     }
 }

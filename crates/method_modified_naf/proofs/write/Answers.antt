@@ -20,7 +20,7 @@ made : (c : After-shape_of-form) → c.new-tripled.result ≡ bytes_value c.args
 made c = c.new-tripled.ensures ∙ c.words.ensures.value
 
 shaped : (c : After-shape_of-form) → ShapeOf (bytes_value c.args.number.now) c.shape_of-form.result
-shaped c = rw (made c) at c.shape_of-form.ensures
+shaped c = rw c.number.ensures.value at c.shape_of-form.ensures
 
 -- the digits fit, one place up, in whole words
 few : (c : After-shape_of-form) → c.shape_of-form.result.length ≤ 8 * number_bytes + 1
@@ -33,14 +33,15 @@ there c =
     let e : ℕ = bytes_value c.args.number.now in
     let shape = shaped (goal.at.After-write_form_raised c).After-shape_of-form in
     raised (modified e) c.write_form_raised.new.out c.shape_of-form.result.length shape.digits (omega (arith, few (goal.at.After-write_form_raised c).After-shape_of-form)) (modified_bits e)
-    (λ i l. rw (made (goal.at.After-write_form_raised c).After-shape_of-form) at (c.write_form_raised.ensures i l))
+    (λ i l. rw (c.words-2.ensures.value ∙ made (goal.at.After-write_form_raised c).After-shape_of-form) at (c.write_form_raised.ensures i l))
 
 pub shape_of-form-requires : goal.shape_of-form-requires
-shape_of-form-requires c = c.new-tripled.ensures ∙ c.words.ensures.value ∙ ap bytes_value (sym c.number.ensures.value)
+shape_of-form-requires c = c.triple.ensures.value ∙ ap (λ e. 3 * e) (c.new-tripled.ensures ∙ c.words.ensures.value ∙ ap bytes_value (sym c.number.ensures.value))
 
 pub write_form_raised-requires : goal.write_form_raised-requires
 write_form_raised-requires c = record {
-  shape_of = c.shape_of-form.ensures;
+  triple_value = c.triple-2.ensures.value ∙ ap (λ e. 3 * e) (sym c.words-2.ensures.value);
+  shape_of = rw (← (c.words-2.ensures.value ∙ made (goal.at.write_form_raised-requires c).After-shape_of-form)) at (shaped (goal.at.write_form_raised-requires c).After-shape_of-form);
   length_in_bounds = omega (arith, few (goal.at.write_form_raised-requires c).After-shape_of-form);
 }
 

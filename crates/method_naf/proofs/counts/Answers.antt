@@ -12,7 +12,6 @@ use Rattle.recoding_digits.proofs.Triple.{digit_count}
 use Rattle.methods.proofs.WideNaf.{wide_plus}
 use Rattle.methods.proofs.NonAdjacentForm.{naf_counts}
 use Rattle.method_naf.proofs.Signs.{plus_digits_lem, minus_digits_lem}
-use borrow.Author.Rules.{rules}
 use Rattle.method_naf.proofs.counts.Goals as goal
 
 pub overflow_sub-result : goal.overflow_sub-result

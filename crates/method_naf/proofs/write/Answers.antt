@@ -32,7 +32,7 @@ there c =
     let e : ℕ = bytes_value c.args.number.now in
     let n = counted (goal.at.After-write_raised c).After-count-length in
     raised (canonical (pos e)) c.write_raised.new.out c.count-length.result n (omega (arith, few (goal.at.After-write_raised c).After-count-length)) (canonical_form (pos e)).digits
-    (λ i l. rw (made (goal.at.After-write_raised c).After-count-length) at (c.write_raised.ensures i l))
+    (λ i l. rw (c.words-2.ensures.value ∙ made (goal.at.After-write_raised c).After-count-length) at (c.write_raised.ensures i l))
 
 pub count-length-requires : goal.count-length-requires
 count-length-requires c = c.new-tripled.ensures ∙ c.words.ensures.value ∙ ap bytes_value (sym c.number.ensures.value)

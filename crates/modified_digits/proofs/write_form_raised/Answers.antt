@@ -1,6 +1,7 @@
 -- `modified_digits::write_form_raised` meets its contract. Assumes nothing.
 use native.Mathlib.Omega.{arith}
 use lib.Seq.{lt-length-set}
+use Rattle.integers.specs.Positional.{words_value}
 use Rattle.modified_digits.specs.Form.{ShapeOf}
 use Rattle.modified_digits.proofs.Form.{kept_fits, two_more, kept_raised, ones_raised}
 use borrow.Author.Rules.{rules}
@@ -8,11 +9,14 @@ use Rattle.modified_digits.proofs.write_form_raised.Goals.{After-write_raised}
 use Rattle.modified_digits.proofs.write_form_raised.Goals as goal
 
 module _ (c : After-write_raised) where
-  held : ShapeOf c.args.tripled.now c.args.form
+  held : ShapeOf (words_value c.args.words.now) c.args.form
   held = c.requires.shape_of
 
 pub write_raised-requires : goal.write_raised-requires
-write_raised-requires c = omega (arith, kept_fits c.requires.shape_of)
+write_raised-requires c = record {
+  triple_value = c.requires.triple_value;
+  count_in_bounds = omega (arith, kept_fits c.requires.shape_of);
+}
 
 pub bounds-out-low-then-low-form : goal.bounds-out-low-then-low-form
 bounds-out-low-then-low-form c =

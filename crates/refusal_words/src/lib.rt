@@ -2,9 +2,9 @@
 #![tactic(auto)]
 
 ghost use Rattle.std.specs.Prelude.{◌≡◌, length};
-ghost use Rattle.rules.specs.Memory.{fitted, leaves};
 ghost use Rattle.refusal_words.specs.Words.{text_bytes, words, words_answer, words_buffer};
 
+use output::put;
 use rules::Refusal;
 
 // What a refusal says, by its number; 0 is none.
@@ -28,23 +28,6 @@ fn text_of(refusal: usize) -> &'static str
         13 => "the highest byte of the number is zero",
         _ => "no such refusal",
     }
-}
-
-// As `output::put`, byte by byte: from a constant its copy would be a call of memmove, and the archive
-// for C calls memcpy and memset alone.
-#[tactic(auto, using(rules::proofs::Fitted::too_small, rules::proofs::Fitted::fits))]
-fn put(bytes: &[u8], out: &mut [u8]) -> Result<usize, Refusal>
-    ensures answer { result ≡ fitted bytes.now (length out.old) }
-    ensures buffer { out.new ≡ leaves (fitted bytes.now (length out.old)) bytes.now out.old }
-{
-    let length = bytes.len();
-    if out.len() < length {
-        return Err(Refusal::RoomTooSmall(length));
-    }
-    for (k, byte) in bytes.iter().enumerate() {
-        out[k] = *byte;
-    }
-    Ok(length)
 }
 
 // Writes what a refusal's number says.

@@ -1,4 +1,4 @@
--- `refusal_words::put` meets its contract: the bytes below k stand, and the others stay. Assumes nothing.
+-- `output::put` meets its contract: the bytes below k stand, and the others stay. Assumes nothing.
 use mathlib.Core.Path.{◌≡◌}
 use native.Mathlib.Numerals.{add-one}
 use native.Mathlib.Nat.{zero-add}
@@ -7,7 +7,7 @@ use lib.ListN.{length}
 use lib.Seq.{paste-suc, take-length}
 use Rattle.rules.proofs.Fitted.{fits}
 use borrow.Author.Rules.{rules}
-use Rattle.refusal_words.proofs.put.Goals as goal
+use Rattle.output.proofs.put.Goals as goal
 
 pub loop-k-preserved : goal.loop-k-preserved
 loop-k-preserved c =

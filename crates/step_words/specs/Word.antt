@@ -18,13 +18,6 @@ step_or_none (Some s) = as_step s
 abbrev pub position_limit : ℕ
 position_limit = 2 ^ 16
 
--- the position that digits are
-unfoldable pub position_value : List ℕ → Option ℕ
-position_value digits =
-    cond (eqb (length digits) 0) None
-    (cond (ltb (leading digits) (length digits)) None
-    (cond (ltb (decimal_value digits) position_limit) (Some (decimal_value digits)) None))
-
 -- how many digits a position has, at the start of a text and with this byte behind it; 0 where there is none
 unfoldable pub position_digits : List ℕ → ℕ → ℕ
 position_digits text end = cond (eqb (get_or text (leading text) 0) end) (cond (ltb (decimal_value (take (leading text) text)) position_limit) (leading text) 0) 0

@@ -1,10 +1,10 @@
 // The step that a word is: add(J,K) or subtract(J,K), with decimal positions J and K.
 #![tactic(auto)]
 
-ghost use Rattle.std.specs.Prelude.{◌≡◌, ◌==◌};
-ghost use Rattle.std.specs.List.{position};
+ghost use Rattle.std.specs.Prelude.{◌≡◌, ◌<◌, take, MatchOption};
+ghost use Rattle.decimal.specs.Decimal.{decimal_value};
 ghost use Rattle.step_reading.specs.Fields.{as_step};
-ghost use Rattle.step_words.specs.Word.{position_value, step_in, step_or_none, word_step};
+ghost use Rattle.step_words.specs.Word.{position_digits, step_in, step_or_none, word_step};
 
 use decimal::is_digit;
 use step_reading::Step;
@@ -16,48 +16,50 @@ const POSITIONS: usize = 65536;
 // at its place.
 const NO_OPERATION: u8 = 2;
 
-// The position that digits are. The first byte that cannot belong to it decides, so the number never
-// grows large.
-fn position_of(digits: &[u8]) -> Option<usize>
-    ensures { result ≡ position_value digits.now }
+// A position at the start of a text: its number, and how many digits it has.
+#[derive(Clone, Copy)]
+struct Position {
+    value: usize,
+    digits: usize,
+}
+
+// The position that a text begins with, up to this byte. The first byte that cannot belong to it
+// decides, so the number never grows large, and no more of the text is read.
+fn position_before(text: &[u8], end: u8) -> Option<Position>
+    requires { (0 < end) × (end < 48) }
+    ensures { MatchOption result (position_digits text.now end ≡ 0) (λ p. (0 < p.digits) × (p.digits ≡ position_digits text.now end) × (p.value ≡ decimal_value (take p.digits text.now))) }
 {
-    if digits.is_empty() {
-        return None;
-    }
     let mut value = 0;
-    for digit in digits {
-        if !is_digit(*digit) {
+    for (digits, byte) in text.iter().enumerate() {
+        if *byte == end {
+            return (digits != 0).then_some(Position { value, digits });
+        }
+        if !is_digit(*byte) {
             return None;
         }
-        value = value * 10 + usize::from(*digit - b'0');
+        value = value * 10 + usize::from(*byte - b'0');
         if POSITIONS <= value {
             return None;
         }
     }
-    Some(value)
-}
-
-// Where the comma behind the first position stands.
-fn first_comma(text: &[u8]) -> Option<usize>
-    ensures { result ≡ position (λ c. c == 44) text.now }
-{
-    text.iter().position(|byte| *byte == b',')
+    None
 }
 
 // The step of an operation, by the text of its positions.
+#[tactic(auto, using(crate::proofs::Positions::position_within))]
 fn step_in(operation: u8, text: &[u8]) -> Option<Step>
     ensures { step_or_none result ≡ step_in operation text.now }
 {
-    let comma = first_comma(text)?;
-    let first = position_of(&text[..comma])?;
-    let [digits @ .., b')'] = &text[comma + 1..] else {
+    let first = position_before(text, b',')?;
+    let behind = &text[first.digits + 1..];
+    let second = position_before(behind, b')')?;
+    if behind.len() != second.digits + 1 {
         return None;
-    };
-    let second = position_of(digits)?;
+    }
     Some(Step {
         operation,
-        first,
-        second,
+        first: first.value,
+        second: second.value,
     })
 }
 

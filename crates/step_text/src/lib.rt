@@ -24,7 +24,8 @@ pub fn read_steps(text: &[u8], out: &mut [u8]) -> Result<usize, Refusal>
     if out.len() < STEP_BYTES * words {
         return Err(Refusal::RoomTooSmall(STEP_BYTES * words));
     }
-    for (n, word) in TextWords(text).enumerate() {
+    // The range stands first: it ends with the last word, so the blanks behind that are not read again.
+    for (n, word) in (0..words).zip(TextWords(text)) {
         let step = step_of(word);
         put(out, n, step.operation, step.first, step.second);
     }

@@ -40,6 +40,14 @@ impl Line {
         }
     }
 
+    // Begins a new line. The letters stay, since none from `length` on is read.
+    pub fn clear(&mut self) {
+        self.name = [0; NAME_LETTERS];
+        self.is_named = false;
+        self.length = 0;
+        self.digits = 0;
+    }
+
     // Adds a byte. A digit without a second one is dropped where its word ends, so that `-` stands
     // for no bytes.
     pub fn push(&mut self, byte: u8) {

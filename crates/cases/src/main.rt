@@ -51,6 +51,15 @@ const ROOM_BYTES: usize = RECORD_BYTES * (PLAN_STEPS + 2);
 // How much is read and written at a time.
 const BLOCK_BYTES: usize = 65536;
 
+// The bytes of a request's words, and the space that is lent. They are made once, since filling them
+// takes longer than most calls. A call is lent no more of them than its request has written.
+#[derive(Drop)]
+struct Buffers {
+    input: [u8; LINE_BYTES],
+    plan: [u8; LINE_BYTES],
+    space: [u8; ROOM_BYTES],
+}
+
 // Takes this many digits, in place as C does and by value. Each take is answered by one number, 256 if
 // none is left; were the two to differ, by two. What a recoder holds is fixed only once it is done:
 // zeros.
@@ -110,8 +119,7 @@ fn put_accepted<W: Write>(to: &mut W, a: Accepted) -> io::Result<()> {
     )
 }
 
-// Makes the call of a name, and writes what it answered and left. How often a take is made stands where
-// the others have their room.
+// Makes the call of a name, and writes what it answered and left.
 fn call<W: Write>(
     to: &mut W,
     name: &[u8],
@@ -125,7 +133,6 @@ fn call<W: Write>(
         b"recode" => put_length(to, lesmutka_recode(input, out))?,
         b"bywords" => put_length(to, lesmutka_recode_words(input, out))?,
         b"mrecode" => put_length(to, lesmutka_recode_modified(input, out))?,
-        b"take" => return take(to, input, out.len()),
         b"clean" => put_length(to, lesmutka_clean(input, out))?,
         b"readback" => put_value(to, lesmutka_read_back(input, out))?,
         b"wrecode" => put_length(to, lesmutka_recode_wide(input, method, out))?,
@@ -150,7 +157,7 @@ fn low(number: usize) -> u32 {
 }
 
 // Answers a line, if it is a request: if its first word is not empty, and is no single letter up to `#`.
-fn answer<W: Write>(to: &mut W, line: &Line) -> io::Result<()> {
+fn answer<W: Write>(to: &mut W, line: &Line, buffers: &mut Buffers) -> io::Result<()> {
     let name = line.name();
     if let [] | [0..=b'#'] = name {
         return Ok(());
@@ -164,25 +171,35 @@ fn answer<W: Write>(to: &mut W, line: &Line) -> io::Result<()> {
         return to.write_all(b": room");
     }
     to.write_all(b":")?;
-    let mut space = [FILL; ROOM_BYTES];
-    let mut input_bytes = [0; LINE_BYTES];
-    let mut plan_bytes = [0; LINE_BYTES];
+    let input = bytes_of(input, &mut buffers.input);
+    // A take is lent nothing. How often it is made stands where the others have their room.
+    if let b"take" = name {
+        return take(to, input, room);
+    }
+    let space = &mut buffers.space[..];
+    let out = &mut space[..room];
+    out.fill(FILL);
     call(
         to,
         name,
-        bytes_of(input, &mut input_bytes),
-        bytes_of(plan_or_method, &mut plan_bytes),
+        input,
+        bytes_of(plan_or_method, &mut buffers.plan),
         low(number(plan_or_method)),
         low(number(width)),
-        &mut space[..room],
+        out,
     )
 }
 
 // Copies a byte of the input. Where it ends a line, the answer comes before it.
-fn read_byte<W: Write>(to: &mut W, byte: u8, line: &mut Line) -> io::Result<()> {
+fn read_byte<W: Write>(
+    to: &mut W,
+    byte: u8,
+    line: &mut Line,
+    buffers: &mut Buffers,
+) -> io::Result<()> {
     if byte == b'\n' {
-        answer(to, line)?;
-        *line = Line::new();
+        answer(to, line, buffers)?;
+        line.clear();
     } else {
         line.push(byte);
     }
@@ -195,13 +212,18 @@ fn main(rt: HostRuntime) -> io::Result<()> {
     let mut output = BufWriter::with_capacity(rt.alloc(), BLOCK_BYTES, rt.stdout())?;
     let mut block = [0; BLOCK_BYTES];
     let mut line = Line::new();
+    let mut buffers = Buffers {
+        input: [0; LINE_BYTES],
+        plan: [0; LINE_BYTES],
+        space: [0; ROOM_BYTES],
+    };
     for _ in 0..u64::MAX {
         let length = input.read(&mut block)?;
         if length == 0 {
             break;
         }
         for byte in &block[..length] {
-            read_byte(&mut output, *byte, &mut line)?;
+            read_byte(&mut output, *byte, &mut line, &mut buffers)?;
         }
     }
     output.flush()

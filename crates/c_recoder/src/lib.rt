@@ -12,13 +12,14 @@ use words::{halve, is_zero};
 
 pub const KEPT_WORDS: usize = NUMBER_WORDS + 1;
 
-// A recoder to be kept.
-#[tactic(auto, using(crate::proofs::Copied::kept_stored), unfolding(taking::specs::Take::stands_for))]
+// A recoder to be kept. Word by word: by `copy_from_slice` the words are copied twice more.
 pub fn kept_of(recoder: Recoder) -> [u64; KEPT_WORDS]
     ensures { kept_number result ≡ stands_for recoder }
 {
     let mut kept = [0; KEPT_WORDS];
-    kept[..NUMBER_WORDS].copy_from_slice(&recoder.words);
+    for (k, word) in recoder.words.iter().enumerate() {
+        kept[k] = *word;
+    }
     kept[NUMBER_WORDS] = u64::from(recoder.carry);
     kept
 }

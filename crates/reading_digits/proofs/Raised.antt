@@ -3,15 +3,16 @@ use mathlib.Core.Path.{◌≡◌, refl, sym, ap, ◌∙◌}
 use mathlib.Core.Bool.{true}
 use mathlib.Core.List.{List, [], ◌∷◌}
 use Prim.Native.Nat.{ℕ, zero, suc, ◌+◌, ◌-◌, ◌*◌, ◌%◌, ◌^◌, ◌<◌, ◌≤◌}
-use native.Mathlib.Nat.{pow-suc, mul-add, mul-le-mul}
+use native.Mathlib.Nat.{zero-add, pow-suc, mul-add, mul-le-mul}
+use native.Mathlib.Numerals.{sub-one}
 use native.Mathlib.Omega.{arith}
 use lib.ListN.{length, get_or, take, drop, length-take, length-drop, length-map}
 use lib.Pow.{pow-add, pow_pos, pow_mono}
-use lib.Seq.{take-add, take-length, drop-cons, get_or-drop, length-take-le}
+use lib.Seq.{take-add, take-length, drop-cons, drop-length, get_or-drop, length-take-le}
 use Rattle.std.specs.Prelude.{map}
 use Rattle.std.proofs.lemmas.List.{get_or-take, drop-map, take-map}
 use Rattle.rules.specs.Limits.{least_width, largest_width}
-use Rattle.integers.specs.Positional.{positional}
+use Rattle.integers.specs.Positional.{positional, bytes_value, Significant}
 use Rattle.integers.proofs.Positional.{Below, below_take, below_drop, positional_append}
 use Rattle.signed_digits.specs.Bytes.{string_of}
 use Rattle.signed_digits.proofs.Parts.{positive_part, negative_part, positive_sum, negative_sum, value_parts}
@@ -98,11 +99,18 @@ module _ (t : ℕ) where
       rw (drop-cons (raised_digits t l) m 0 p, raised_at l m h)
 
   -- a sum from the top down, one digit more
-  pub raised_down : (l : List ℕ) (i sum : ℕ) → i < length l → sum ≡ raised_sum t l (suc i) (length l - suc i)
+  pub raised_down : (l : List ℕ) (from count i : ℕ) → from + count ≤ length l → 0 < i → i ≤ count
+      → raised_sum t l (from + i) (count - i) * 2 + (get_or l (from + (i - 1)) 0 + t) % 256 ≡ raised_sum t l (from + (i - 1)) (count - (i - 1))
+  raised_down l from count i h some k =
+      let place : from + i ≡ suc (from + (i - 1)) = omega arith in
+      let left : count - (i - 1) ≡ suc (count - i) = omega arith in
+      rw (left, place) (omega (arith, raised_low l (from + (i - 1)) (count - i) (omega arith)))
+
+  -- the same from the end of the string
+  pub raised_from_end : (l : List ℕ) (i sum : ℕ) → i < length l → sum ≡ raised_sum t l (suc i) (length l - suc i)
       → sum * 2 + (get_or l i 0 + t) % 256 ≡ raised_sum t l i (length l - i)
-  raised_down l i sum h e =
-      let left : length l - i ≡ suc (length l - suc i) = omega arith in
-      rw left (omega (arith, e, raised_low l i (length l - suc i) h))
+  raised_from_end l i sum h e =
+      rw e (simp (sub-one, zero-add) at (raised_down l 0 (length l) (suc i) (omega arith) (omega arith) (omega arith)))
 
 -- the digits from m up to e by themselves
 module _ (t : ℕ) (l : List ℕ) (m e : ℕ) (order : m ≤ e) (fits : e ≤ length l) where
@@ -132,6 +140,11 @@ module _ (t : ℕ) (l : List ℕ) (m e : ℕ) (order : m ≤ e) (fits : e ≤ le
 
 -- ---- the digits of a width
 
+-- above all digits there is none
+pub none_above : (l : List ℕ) → bytes_value (drop (length l) l) ≡ 0
+unfolding positional
+none_above l = rw (drop-length l) refl
+
 -- a width from the least on has digits other than 0
 pub some_digit : (w : ℕ) → least_width ≤ w → 1 ≤ largest_digit w
 some_digit w h = omega (arith, pow_mono {i = 1} {j = w - 1} (omega arith))
@@ -143,15 +156,25 @@ module _ (w : ℕ) (most : w ≤ largest_width) where
   pub sizes_up_to : (l : List ℕ) → DigitString w l → SizesUpTo (largest_digit w) l
   sizes_up_to l d i h = (raised_is w (get_or l i 0) most (d.digits i h)).1
 
-  -- the sums of the digits above and below zero
-  sums : (l : List ℕ) → Digits l
-      → positive_sum (string_of l) + raised_zeros (largest_digit w) (length l) ≡ positional 2 (take (length l) (raised_digits (largest_digit w) l)) + negative_sum (string_of l)
+  -- the sums of the digits above and below zero, by n digits with zeros alone above them
+  sums : (l : List ℕ) (n : ℕ) → Digits l → n ≤ length l → bytes_value (drop n l) ≡ 0
+      → positive_sum (string_of l) + raised_zeros (largest_digit w) n ≡ positional 2 (take n (raised_digits (largest_digit w) l)) + negative_sum (string_of l)
   unfolding positional positive_sum negative_sum
-  sums [] d = omega (arith, zeros_none (largest_digit w))
-  sums (x ∷ l) d =
-      omega (arith, raised_is w x most (d 0 (omega arith)), zeros_low (largest_digit w) (length l), sums l (λ k p. d (suc k) (omega arith)))
+  sums [] zero d h z = omega (arith, zeros_none (largest_digit w))
+  sums [] (suc n) d h z = absurd (omega arith)
+  sums (x ∷ l) zero d h z =
+      let e : x ≡ 0 = omega arith in
+      rw e (omega (arith, zeros_none (largest_digit w), sums l zero (λ k p. d (suc k) (omega arith)) (omega arith) (omega arith)))
+  sums (x ∷ l) (suc n) d h z =
+      omega (arith, raised_is w x most (d 0 (omega arith)), zeros_low (largest_digit w) n, sums l n (λ k p. d (suc k) (omega arith)) (omega arith) z)
 
-  pub raised_value : (l : List ℕ) → DigitString w l
-      → positive_part (string_value l) + raised_zeros (largest_digit w) (length l) ≡ raised_sum (largest_digit w) l 0 (length l) + negative_part (string_value l)
+  -- the value by the sum of these
+  pub value_by_sum : (l : List ℕ) (n : ℕ) → DigitString w l → n ≤ length l → bytes_value (drop n l) ≡ 0
+      → positive_part (string_value l) + raised_zeros (largest_digit w) n ≡ raised_sum (largest_digit w) l 0 n + negative_part (string_value l)
   unfolding raised_sum
-  raised_value l d = omega (arith, value_parts (string_of l), sums l d.digits)
+  value_by_sum l n d h z = omega (arith, value_parts (string_of l), sums l n d.digits h z)
+
+  -- by that of the significant digits
+  pub raised_value : (l : List ℕ) (n : ℕ) → DigitString w l → Significant l n
+      → positive_part (string_value l) + raised_zeros (largest_digit w) n ≡ raised_sum (largest_digit w) l 0 n + negative_part (string_value l)
+  raised_value l n d s = value_by_sum l n d s.within s.whole

@@ -5,14 +5,15 @@ use Prim.Native.Nat.{ℕ, suc, ◌+◌, ◌-◌, ◌*◌, ◌%◌, ◌^◌, ◌<
 use native.Mathlib.Nat.{sub-zero, mul-le-mul_left}
 use native.Mathlib.Omega.{arith}
 use lib.IntN.{ℤ, pos, negsuc}
-use lib.ListN.{length, get_or}
+use lib.ListN.{length, get_or, drop}
 use lib.Pow.{pow_pos}
 use Rattle.rules.specs.Limits.{least_width, largest_width}
+use Rattle.integers.specs.Positional.{bytes_value}
 use Rattle.integers.specs.Signed.{sign_of}
 use Rattle.signed_digits.proofs.Parts.{positive_part, negative_part}
 use Rattle.digit_strings.specs.Admission.{largest_digit, string_value, DigitString}
 use Rattle.reading_digits.specs.Sums.{SizesUpTo, raised_sum, raised_zeros}
-use Rattle.reading_digits.proofs.Raised.{zeros_none, zeros_low, zeros_add, raised_few, raised_add, raised_none, raised_low, raised_value, some_digit, sizes_up_to}
+use Rattle.reading_digits.proofs.Raised.{zeros_none, zeros_low, zeros_add, raised_few, raised_add, raised_none, raised_low, value_by_sum, some_digit, sizes_up_to}
 
 -- x is what the digits from place i on come to, of n in all, raised by r
 abbrev pub Comes : ℕ → List ℕ → ℕ → ℕ → ℕ → ℕ → Type 0
@@ -74,28 +75,26 @@ sign_negative : (v : ℤ) → positive_part v < negative_part v → sign_of v �
 sign_negative (pos n) h = absurd (omega arith)
 sign_negative (negsuc n) h = refl
 
-module _ (w : ℕ) (l : List ℕ) (d : DigitString w l) (width : (least_width ≤ w) × (w ≤ largest_width)) where
+-- n digits with zeros alone above them
+module _ (w : ℕ) (l : List ℕ) (n : ℕ) (d : DigitString w l) (width : (least_width ≤ w) × (w ≤ largest_width)) (within : n ≤ length l) (above : bytes_value (drop n l) ≡ 0) where
   abbrev t : ℕ
   t = largest_digit w
-
-  abbrev n : ℕ
-  n = length l
 
   -- the digits from place i on decide, whatever is below
   module _ (i x : ℕ) (k : i ≤ n) (e : Comes t l n i (3 * t) x) where
     pub decides_0 : 4 * t ≤ x → 0 ≡ sign_of (string_value l)
     decides_0 a =
-        sym (sign_positive (string_value l) (omega (arith, raised_value w width.1 l d, large t l n i x k (omega arith) e a)))
+        sym (sign_positive (string_value l) (omega (arith, value_by_sum w width.1 l n d within above, large t l n i x k within e a)))
 
     pub decides_1 : x ≤ 2 * t → 1 ≡ sign_of (string_value l)
     decides_1 a =
         sym (sign_negative (string_value l)
-        (omega (arith, raised_value w width.1 l d, small t l n i x k (omega arith) e a (some_digit w width.0) (sizes_up_to w width.1 l d))))
+        (omega (arith, value_by_sum w width.1 l n d within above, small t l n i x k within e a (some_digit w width.0) (sizes_up_to w width.1 l d))))
 
   -- or all of them together
   module _ (v : ℕ) (e : Comes t l n 0 t v) where
     pub ends_0 : t ≤ v → 0 ≡ sign_of (string_value l)
-    ends_0 a = sym (sign_positive (string_value l) (omega (arith, raised_value w width.1 l d, rw sub-zero at e)))
+    ends_0 a = sym (sign_positive (string_value l) (omega (arith, value_by_sum w width.1 l n d within above, rw sub-zero at e)))
 
     pub ends_1 : v < t → 1 ≡ sign_of (string_value l)
-    ends_1 a = sym (sign_negative (string_value l) (omega (arith, raised_value w width.1 l d, rw sub-zero at e)))
+    ends_1 a = sym (sign_negative (string_value l) (omega (arith, value_by_sum w width.1 l n d within above, rw sub-zero at e)))

@@ -19,7 +19,7 @@ use Rattle.integers.proofs.Positional.{Below, below_take, positional_drop, posit
 use Rattle.signed_digits.proofs.Parts.{positive_part, negative_part}
 use Rattle.digit_strings.specs.Admission.{largest_digit, string_value, DigitString}
 use Rattle.reading_digits.specs.Sums.{raised_sum, raised_zeros, by_sign, carry_zero}
-use Rattle.reading_digits.proofs.Raised.{zeros_none, zeros_add, raised_none, raised_add, raised_value}
+use Rattle.reading_digits.proofs.Raised.{zeros_none, zeros_add, raised_none, raised_add, value_by_sum}
 
 -- the larger of the two sums of m digits, the sign being right, and the smaller
 abbrev more : ℕ → List ℕ → ℕ → ℕ → ℕ
@@ -105,13 +105,14 @@ unfolding by_sign
 size_by_sign (pos n) sum of_zeros e = omega arith
 size_by_sign (negsuc n) sum of_zeros e = omega arith
 
-module _ (w : ℕ) (most : w ≤ largest_width) (l : List ℕ) (d : DigitString w l) (size : List ℕ) (k carry : ℕ) (inv : Subtracted (largest_digit w) l (sign_of (string_value l)) size (length l) k carry) where
+-- n digits with zeros alone above them
+module _ (w : ℕ) (most : w ≤ largest_width) (l : List ℕ) (n : ℕ) (d : DigitString w l) (within : n ≤ length l) (above : bytes_value (drop n l) ≡ 0) (size : List ℕ) (k carry : ℕ) (inv : Subtracted (largest_digit w) l (sign_of (string_value l)) size n k carry) where
   abbrev p : ℕ
   p = 256 ^ k
 
   whole : bytes_value size + p * carry ≡ nat_abs (string_value l) + p * carry_zero
   whole =
-      let difference = size_by_sign (string_value l) (raised_sum (largest_digit w) l 0 (length l)) (raised_zeros (largest_digit w) (length l)) (raised_value w most l d) in
+      let difference = size_by_sign (string_value l) (raised_sum (largest_digit w) l 0 n) (raised_zeros (largest_digit w) n) (value_by_sum w most l n d within above) in
       omega (arith, inv.value)
 
   -- with the right sign the last carry is not below zero

@@ -6,7 +6,7 @@ use native.Mathlib.Omega.{arith}
 use lib.ListN.{length, length-append}
 use Rattle.reading_digits.specs.Sums.{raised_sum}
 use Rattle.reading_digits.proofs.Backward.{front_whole, front_less}
-use Rattle.reading_digits.proofs.Raised.{zeros_byte, raised_none, raised_down, raised_few}
+use Rattle.reading_digits.proofs.Raised.{zeros_byte, raised_none, raised_from_end, raised_few}
 use borrow.Author.Rules.{rules}
 use Rattle.reading_digits.proofs.raised_sum.Goals as goal
 
@@ -25,6 +25,6 @@ loop-digit-preserved c =
     let p = front_less digits left c.in-Some.digit.now (rw c.in-Some.ensures.steps at c.loop-digit.invariant.3) in
     let size : length (c.loop-digit.digit-iterator.iter.rest.now) ≡ suc (length left) = rw c.in-Some.ensures.steps (omega (arith, length-append {A = ℕ})) in
     let e : c.loop-digit.sum * 2 + c.raised_digit.result ≡ raised_sum largest digits (length left) (length digits - length left) =
-    rw (c.raised_digit.ensures, ← p.element) (raised_down largest digits (length left) c.loop-digit.sum p.within (rw size at c.loop-digit.invariant.4)) in
+    rw (c.raised_digit.ensures, ← p.element) (raised_from_end largest digits (length left) c.loop-digit.sum p.within (rw size at c.loop-digit.invariant.4)) in
     let few = raised_few largest digits (length left) (length digits - length left) c.requires.sizes_up_to in
     (search rules, search rules, omega (arith, e, few, zeros_byte largest (length digits - length left) c.requires.largest_lt_carry_zero (omega arith)), p.left, e)

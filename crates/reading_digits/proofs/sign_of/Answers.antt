@@ -4,6 +4,7 @@ use Prim.Native.Nat.{ℕ, suc, ◌+◌, ◌*◌}
 use native.Mathlib.Omega.{arith}
 use lib.ListN.{length, length-append}
 use Rattle.reading_digits.proofs.Backward.{Passed, front_whole, front_less}
+use Rattle.reading_digits.proofs.Raised.{none_above}
 use Rattle.reading_digits.proofs.Sign.{Comes, none_passed, one_passed, kept, decides_0, decides_1, ends_0, ends_1}
 use borrow.Author.Rules.{rules}
 use Rattle.reading_digits.proofs.sign_of.Goals.{After-raised_digit}
@@ -21,7 +22,7 @@ passed : (c : After-raised_digit)
     → Comes c.from-largest.result c.args.digits.now (length c.args.digits.now) (length c.next.new.self.iter.rest.now) (3 * c.from-largest.result)
     (2 * c.loop-digit.value + c.raised_digit.result)
 passed c =
-    rw (c.raised_digit.ensures, ← (rest c).element) (one_passed c.from-largest.result c.args.digits.now (length c.args.digits.now) (length c.next.new.self.iter.rest.now) c.loop-digit.value (omega arith) (omega (arith, size c)) (rw (size c) at c.loop-digit.invariant.5))
+    rw c.raised_digit.ensures (rw (rest c).element at (one_passed c.from-largest.result c.args.digits.now (length c.args.digits.now) (length c.next.new.self.iter.rest.now) c.loop-digit.value (omega arith) (omega (arith, size c)) (rw (size c) at c.loop-digit.invariant.5)))
 
 pub loop-digit-init : goal.loop-digit-init
 loop-digit-init c =
@@ -32,12 +33,12 @@ loop-digit-init c =
 pub returns-then-next-twice : goal.returns-then-next-twice
 returns-then-next-twice c =
     let e = c.from-largest.ensures ∙ c.largest_digit.ensures.value in
-    decides_1 c.args.width c.args.digits.now c.requires c.largest_digit.ensures.range _ _ (omega (arith, size (goal.at.returns-then-next-twice c).After-raised_digit)) (rw e at (passed (goal.at.returns-then-next-twice c).After-raised_digit)) (rw e at c.if-next-twice.true)
+    decides_1 c.args.width c.args.digits.now (length c.args.digits.now) c.requires c.largest_digit.ensures.range (omega arith) (none_above c.args.digits.now) _ _ (omega (arith, size (goal.at.returns-then-next-twice c).After-raised_digit)) (rw e at (passed (goal.at.returns-then-next-twice c).After-raised_digit)) (rw e at c.if-next-twice.true)
 
 pub returns-then-twice-value : goal.returns-then-twice-value
 returns-then-twice-value c =
     let e = c.from-largest.ensures ∙ c.largest_digit.ensures.value in
-    decides_0 c.args.width c.args.digits.now c.requires c.largest_digit.ensures.range _ _ (omega (arith, size (goal.at.returns-then-twice-value c).After-raised_digit)) (rw e at (passed (goal.at.returns-then-twice-value c).After-raised_digit)) (search rules)
+    decides_0 c.args.width c.args.digits.now (length c.args.digits.now) c.requires c.largest_digit.ensures.range (omega arith) (none_above c.args.digits.now) _ _ (omega (arith, size (goal.at.returns-then-twice-value c).After-raised_digit)) (rw e at (passed (goal.at.returns-then-twice-value c).After-raised_digit)) (search rules)
 
 pub loop-digit-preserved : goal.loop-digit-preserved
 loop-digit-preserved c =
@@ -48,9 +49,9 @@ loop-digit-preserved c =
 pub returns-then-value-largest : goal.returns-then-value-largest
 returns-then-value-largest c =
     let e = c.in-None.ensures.steps.0 in
-    ends_1 c.args.width c.args.digits.now c.requires c.largest_digit.ensures.range c.loop-digit.value (rw ((c.from-largest.ensures ∙ c.largest_digit.ensures.value), e) at c.loop-digit.invariant.5) (search rules)
+    ends_1 c.args.width c.args.digits.now (length c.args.digits.now) c.requires c.largest_digit.ensures.range (omega arith) (none_above c.args.digits.now) c.loop-digit.value (rw ((c.from-largest.ensures ∙ c.largest_digit.ensures.value), e) at c.loop-digit.invariant.5) (search rules)
 
 pub returns-else-value-largest : goal.returns-else-value-largest
 returns-else-value-largest c =
     let e = c.in-None.ensures.steps.0 in
-    ends_0 c.args.width c.args.digits.now c.requires c.largest_digit.ensures.range c.loop-digit.value (rw ((c.from-largest.ensures ∙ c.largest_digit.ensures.value), e) at c.loop-digit.invariant.5) (search rules)
+    ends_0 c.args.width c.args.digits.now (length c.args.digits.now) c.requires c.largest_digit.ensures.range (omega arith) (none_above c.args.digits.now) c.loop-digit.value (rw ((c.from-largest.ensures ∙ c.largest_digit.ensures.value), e) at c.loop-digit.invariant.5) (search rules)

@@ -7,7 +7,7 @@ use Rattle.rules.specs.Limits.{string_digits}
 use Rattle.integers.specs.Signed.{sign_of}
 use Rattle.digit_strings.specs.Admission.{largest_digit, string_value}
 use Rattle.reading_digits.specs.Sums.{SizesUpTo}
-use Rattle.reading_digits.proofs.Raised.{sizes_up_to, part_sizes, part_byte}
+use Rattle.reading_digits.proofs.Raised.{sizes_up_to, none_above, part_sizes, part_byte}
 use Rattle.reading_digits.proofs.Size.{Subtracted, subtracted_none, subtracted_step, carry_left, subtracted_all}
 use borrow.Author.Rules.{rules}
 use Rattle.reading_digits.proofs.size_of.Goals.{After-byte_of-byte-2, After-from-largest}
@@ -58,8 +58,8 @@ byte_of-byte-requires-2-clause-sizes_up_to c =
 
 pub overflow_sub-size : goal.overflow_sub-size
 overflow_sub-size c =
-    omega (arith, carry_left c.args.width c.largest_digit.ensures.range.1 c.args.digits.now c.requires.digit_string _ _ _ (last (goal.at.overflow_sub-size c).After-byte_of-byte-2))
+    omega (arith, carry_left c.args.width c.largest_digit.ensures.range.1 c.args.digits.now (length c.args.digits.now) c.requires.digit_string (omega arith) (none_above c.args.digits.now) _ _ _ (last (goal.at.overflow_sub-size c).After-byte_of-byte-2))
 
 pub returns : goal.returns
 returns c =
-    subtracted_all c.args.width c.largest_digit.ensures.range.1 c.args.digits.now c.requires.digit_string _ _ _ (last (goal.at.returns c).After-byte_of-byte-2) (simp length-set (search rules))
+    subtracted_all c.args.width c.largest_digit.ensures.range.1 c.args.digits.now (length c.args.digits.now) c.requires.digit_string (omega arith) (none_above c.args.digits.now) _ _ _ (last (goal.at.returns c).After-byte_of-byte-2) (simp length-set (search rules))

@@ -1,5 +1,5 @@
 -- How many digits a number's canonical string has, by its highest byte. Assumes nothing.
-use mathlib.Core.Path.{◌≡◌, refl, sym, ap, ◌∙◌}
+use mathlib.Core.Path.{◌≡◌, refl, ap, ◌∙◌}
 use mathlib.Core.List.{List, [], ◌∷◌, ◌++◌}
 use Prim.Native.Nat.{ℕ, zero, suc, ◌+◌, ◌*◌, ◌-◌, ◌/◌, ◌^◌, ◌<◌, ◌≤◌}
 use native.Mathlib.Omega.{arith}
@@ -17,11 +17,34 @@ use Rattle.signed_digits.proofs.Steps.{naf_zero}
 use Rattle.recoding_digits.specs.Internal.{triple_carry}
 use Rattle.recoding_digits.proofs.Triple.{triple_div, carry_small, carry_below, digit_count}
 
--- the highest byte, and those below it
-module _ (number low : List ℕ) (x : ℕ) (parts : number ≡ low ++ (x ∷ [])) (bytes : Below 256 number) (unpadded : Unpadded number) where
-  s : Significant number (length number)
-  s = all_significant number unpadded
+module _ (number : List ℕ) (n : ℕ) (bytes : Below 256 number) (s : Significant number n) (some : 0 < n) where
+  top_triple : 3 * get_or number (n - 1) 0 + triple_carry (bytes_value number) (n - 1) ≡ 3 * bytes_value number / 256 ^ (n - 1)
+  top_triple = rw (top_byte number n bytes s some, triple_div)
 
+  pub count_is : (top : ℕ) → top ≡ 3 * get_or number (n - 1) 0 + triple_carry (bytes_value number) (n - 1) → top < 2 ^ 64
+      → (count_leading_zeros 64 top ≤ 62) × (8 * (n - 1) + (63 - count_leading_zeros 64 top) ≡ length (canonical (pos (bytes_value number))))
+  count_is top e h =
+      let nonzero : 0 < get_or number (n - 1) 0 = omega (arith, s.top some) in
+      let (m, zeros, low, high) = leading_length 64 top h in
+      let t : top ≡ 3 * bytes_value number / 256 ^ (n - 1) = e ∙ top_triple in
+      let c = length_from (3 * bytes_value number) (n - 1) m (omega arith) (omega arith) (omega arith) in
+      let positive : 0 < bytes_value number = go (bytes_value number) refl in
+      let d = digit_count (bytes_value number) positive in
+      let some_digits : 2 ≤ m = least m low in
+      (omega arith, omega arith)
+    where
+      go : (v : ℕ) → bytes_value number ≡ v → 0 < v
+      go zero z = absurd (positional_nonzero 256 number (n - 1) (omega arith) (s.top some) z)
+      go (suc v) z = omega arith
+
+      -- a byte that is not 0 gives a triple of two bits at least
+      least : (m : ℕ) → top < 2 ^ m → 2 ≤ m
+      least zero l = absurd (omega (arith, s.top some))
+      least (suc zero) l = absurd (omega (arith, s.top some))
+      least (suc (suc m)) l = omega arith
+
+-- the same of an unpadded number, by its highest byte and those below it
+module _ (number low : List ℕ) (x : ℕ) (parts : number ≡ low ++ (x ∷ [])) (bytes : Below 256 number) (unpadded : Unpadded number) where
   size : length number ≡ length low + 1
   size = rw parts (length-append low (x ∷ []))
 
@@ -34,35 +57,13 @@ module _ (number low : List ℕ) (x : ℕ) (parts : number ≡ low ++ (x ∷ [])
   pub highest_fits : x < 256
   highest_fits = rw highest at (bytes (length number - 1))
 
-  nonzero : 0 < x
-  nonzero = omega (arith, highest, size, s.top)
-
-  top_triple : 3 * x + triple_carry (bytes_value low) (length low) ≡ 3 * bytes_value number / 256 ^ length low
-  top_triple =
-      let t : x ≡ bytes_value number / 256 ^ length low = rw (highest, below_top) at (top_byte number (length number) bytes s (omega (arith, size))) in
-      let c : triple_carry (bytes_value low) (length low) ≡ triple_carry (bytes_value number) (length low) = rw parts (sym (carry_below low (x ∷ []))) in
-      rw (c, triple_div) (omega (arith, t))
-
-  pub count_is : (top : ℕ) → top ≡ 3 * x + triple_carry (bytes_value low) (length low)
+  pub count_by_highest : (top : ℕ) → top ≡ 3 * x + triple_carry (bytes_value low) (length low)
       → (count_leading_zeros 64 top ≤ 62) × (8 * length low + (63 - count_leading_zeros 64 top) ≡ length (canonical (pos (bytes_value number))))
-  count_is top e =
-      let (m, zeros, at_least, below) = leading_length 64 top (omega (arith, highest_fits, carry_small (bytes_value low) (length low))) in
-      let t : top ≡ 3 * bytes_value number / 256 ^ length low = e ∙ top_triple in
-      let c = length_from (3 * bytes_value number) (length low) m (omega arith) (omega arith) (omega (arith, nonzero)) in
-      let positive : 0 < bytes_value number = go (bytes_value number) refl in
-      let d = digit_count (bytes_value number) positive in
-      let some_digits : 2 ≤ m = least m at_least in
-      (omega arith, omega arith)
-    where
-      go : (v : ℕ) → bytes_value number ≡ v → 0 < v
-      go zero z = absurd (positional_nonzero 256 number (length number - 1) (omega arith) (s.top (omega (arith, size))) z)
-      go (suc v) z = omega arith
-
-      -- a byte that is not 0 gives a triple of two bits at least
-      least : (m : ℕ) → top < 2 ^ m → 2 ≤ m
-      least zero l = absurd (omega (arith, nonzero))
-      least (suc zero) l = absurd (omega (arith, nonzero))
-      least (suc (suc m)) l = omega arith
+  count_by_highest top e =
+      let carry : triple_carry (bytes_value number) (length low) ≡ triple_carry (bytes_value low) (length low) = rw parts (carry_below low (x ∷ [])) in
+      let same : top ≡ 3 * get_or number (length number - 1) 0 + triple_carry (bytes_value number) (length number - 1) = rw (highest, below_top, carry) e in
+      let small : top < 2 ^ 64 = omega (arith, highest_fits, carry_small (bytes_value low) (length low)) in
+      rw below_top at (count_is number (length number) bytes (all_significant number unpadded) (omega (arith, size)) top same small)
 
 -- zero has none
 pub count_zero : (number : List ℕ) → bytes_value number ≡ 0 → length (canonical (pos (bytes_value number))) ≡ 0

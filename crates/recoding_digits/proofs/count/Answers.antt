@@ -10,7 +10,7 @@ use Rattle.integers.specs.Positional.{bytes_value}
 use Rattle.integers.proofs.Positional.{zero_if_empty}
 use Rattle.signed_digits.specs.Naf.{canonical}
 use Rattle.recoding_digits.proofs.Triple.{carry_small}
-use Rattle.recoding_digits.proofs.TopByte.{highest_fits, count_is, count_zero}
+use Rattle.recoding_digits.proofs.TopByte.{highest_fits, count_by_highest, count_zero}
 use Rattle.recoding_digits.proofs.count.Goals.{After-carry_above}
 use Rattle.recoding_digits.proofs.count.Goals as goal
 
@@ -24,7 +24,7 @@ module _ (c : After-carry_above) where
       (count_leading_zeros 64 top ≤ 62) × (8 * length c.in-Some.low.now + (63 - count_leading_zeros 64 top) ≡ length (canonical (pos (bytes_value c.args.number.now))))
   counted =
       let top : ℕ = 3 * c.from.result + c.carry_above.result in
-      count_is c.args.number.now c.in-Some.low.now c.in-Some.highest.now parts c.bytes-bytes.ensures.small c.bytes-bytes.ensures.admitted.top top (rw (c.from.ensures, c.carry_above.ensures))
+      count_by_highest c.args.number.now c.in-Some.low.now c.in-Some.highest.now parts c.bytes-bytes.ensures.small c.bytes-bytes.ensures.admitted.top top (rw (c.from.ensures, c.carry_above.ensures))
 
 pub returns-in_default : goal.returns-in_default
 returns-in_default c =

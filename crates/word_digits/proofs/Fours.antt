@@ -4,6 +4,7 @@ use mathlib.Core.Bool.{Bool, true, false, ◌&&◌, ◌||◌, and-eq-true_iff}
 use mathlib.Core.List.{List, ◌++◌}
 use Prim.Native.Nat.{ℕ, ◌+◌, ◌*◌, ◌-◌, ◌/◌, ◌%◌, ◌^◌, ◌<◌, ◌≤◌}
 use borrow.Author.Tests.{eqb-true, ltb-true}
+use native.Mathlib.Nat.{zero-add}
 use native.Mathlib.Omega.{arith}
 use lib.Bits.{bit_xor, xor_shr, xor_mod}
 use lib.Dec.{eqb, ltb}
@@ -12,9 +13,10 @@ use lib.Pow.{shr-shr, field, mod-mod-pow}
 use Rattle.integers.specs.Bits.{bit}
 use Rattle.integers.specs.Positional.{positional, bytes_value, low_bytes}
 use Rattle.integers.specs.Tabulate.{tabulate}
+use Rattle.integers.proofs.Blocks.{placed, place_more}
 use Rattle.integers.proofs.LowBytes.{low_of, low_above}
 use Rattle.integers.proofs.Positional.{positional_append}
-use Rattle.integers.proofs.Tabulate.{tabulate_same, tabulate_add, tabulate_join, length_tabulate, below_tabulate}
+use Rattle.integers.proofs.Tabulate.{tabulate_same, tabulate_add, length_tabulate, below_tabulate}
 use Rattle.recoding_digits.specs.Internal.{difference}
 use Rattle.recoding_digits.proofs.SpreadBits.{all, all_below}
 use Rattle.word_digits.specs.Internal.{Apart, index_of, index_byte, four_digits, entries}
@@ -117,10 +119,17 @@ unfolding difference
 difference_small more less i = omega arith
 
 -- n digits more above m
-pub digits_more : (more less m n : ℕ) (l out after : List ℕ) (w : ℕ) → n ≤ 8 → m ≤ length l → out ≡ tabulate (difference more less) m ++ drop m l
-    → w ≡ bytes_value (tabulate (λ i. difference more less (m + i)) 8) → after ≡ take m out ++ (low_bytes n w ++ drop (m + n) out)
-    → after ≡ tabulate (difference more less) (m + n) ++ drop (m + n) l
-digits_more more less m n l out after w h fits eo ew ea =
+pub digits_more : (more less at m n : ℕ) (l out after : List ℕ) (w : ℕ) → n ≤ 8 → at ≤ length l → out ≡ placed l at m (tabulate (difference more less) m)
+    → w ≡ bytes_value (tabulate (λ i. difference more less (m + i)) 8) → after ≡ placed out (at + m) n (low_bytes n w)
+    → after ≡ placed l at (m + n) (tabulate (difference more less) (m + n))
+digits_more more less at m n l out after w h fits eo ew ea =
     let f : ℕ → ℕ = difference more less in
     let y : low_bytes n w ≡ tabulate (λ i. f (m + i)) n = rw ew (low_eight (λ i. f (m + i)) (λ i. difference_small more less (m + i)) n h) in
-    ea ∙ rw (y, eo) (tabulate_join f l m n fits)
+    ea ∙ rw (y, eo) (place_more l at m (tabulate f m) (length_tabulate f m) n (tabulate (λ i. f (m + i)) n) fits ∙ rw (tabulate_add f m n))
+
+-- the same from the start of the buffer
+pub digits_from_start : (more less m n : ℕ) (l out after : List ℕ) (w : ℕ) → n ≤ 8 → out ≡ tabulate (difference more less) m ++ drop m l
+    → w ≡ bytes_value (tabulate (λ i. difference more less (m + i)) 8) → after ≡ take m out ++ (low_bytes n w ++ drop (m + n) out)
+    → after ≡ tabulate (difference more less) (m + n) ++ drop (m + n) l
+digits_from_start more less m n l out after w h eo ew ea =
+    simp zero-add at (digits_more more less 0 m n l out after w h (omega arith) (simp zero-add eo) ew (simp zero-add ea))

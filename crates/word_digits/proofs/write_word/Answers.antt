@@ -6,7 +6,7 @@ use mathlib.Core.List.{append-nil}
 use lib.ListN.{length}
 use lib.Seq.{drop-length}
 use Rattle.integers.specs.Tabulate.{tabulate}
-use Rattle.word_digits.proofs.Fours.{eight_digits, digits_more}
+use Rattle.word_digits.proofs.Fours.{eight_digits, digits_from_start}
 use borrow.Author.Rules.{rules}
 use Rattle.word_digits.proofs.write_word.Goals as goal
 
@@ -20,7 +20,7 @@ loop-j-preserved c =
     let j = c.loop-j.j in
     let up : 8 * (j + 1) ≡ 8 * j + 8 = omega arith in
     let digits = eight_digits args.more args.less c.requires.apart c.indices-low.result c.indices-high.result j (omega arith) c.indices-low.ensures c.indices-high.ensures in
-    (search rules, rw up (digits_more args.more args.less (8 * j) 8 args.out.now c.loop-j.out _ c.eight_digits.result (omega arith) (omega arith) c.loop-j.invariant.1 (rw (c.eight_digits.ensures, c.requires.fours_value) digits) c.store_word.ensures))
+    (search rules, rw up (digits_from_start args.more args.less (8 * j) 8 args.out.now c.loop-j.out _ c.eight_digits.result (omega arith) c.loop-j.invariant.1 (rw (c.eight_digits.ensures, c.requires.fours_value) digits) c.store_word.ensures))
 
 pub returns-then-rest-gt0 : goal.returns-then-rest-gt0
 returns-then-rest-gt0 c =
@@ -30,5 +30,5 @@ returns-then-rest-gt0 c =
     let j : c.loop-j.j ≡ whole = omega arith in
     let all : 8 * whole + length out % 8 ≡ length out = omega arith in
     let digits = eight_digits args.more args.less c.requires.apart c.indices-low.result c.indices-high.result whole (omega arith) c.indices-low.ensures c.indices-high.ensures in
-    let done = digits_more args.more args.less (8 * whole) (length out % 8) out c.loop-j.out _ c.eight_digits-then-rest-gt0.result (omega arith) (omega arith) (rw j at c.loop-j.invariant.1) (rw (c.eight_digits-then-rest-gt0.ensures, c.requires.fours_value) digits) c.store_low.ensures in
+    let done = digits_from_start args.more args.less (8 * whole) (length out % 8) out c.loop-j.out _ c.eight_digits-then-rest-gt0.result (omega arith) (rw j at c.loop-j.invariant.1) (rw (c.eight_digits-then-rest-gt0.ensures, c.requires.fours_value) digits) c.store_low.ensures in
     rw (all, drop-length out, append-nil) at done

@@ -47,9 +47,10 @@ const FOUR_DIGITS: [u32; 32] = [
     0,
 ];
 
-// Writes the first `count` canonical digits of the number that the words hold. Bits stand one place above their digits: of the
-// lowest word the lowest bit is left out, and the digits of each word above begin one place down. So no
-// word is shifted but the lowest.
+// Writes the first `count` canonical digits of the number that the words hold. Two slices and no `Tripled`,
+// since there may be any number of words. Bits stand one place above their digits: of the lowest word the
+// lowest bit is left out, and the digits of each word above begin one place down. So no word is shifted but
+// the lowest.
 #[tactic(auto, unfolding(word_digits::specs::Internal::four_digits))]
 pub fn write(words: &[u64], triple: &[u64], out: &mut [u8], count: usize)
     requires triple_value { words_value triple.now ≡ 3 * words_value words.now }

@@ -39,8 +39,8 @@ pub fn triple_word(word: u64, carry: u64) -> TripleWord
     }
 }
 
-// How many canonical digits a number has, by its bytes and the words of 3 e, however many: as many as bits,
-// or one more where 3 e has a bit above those of 2 e.
+// How many canonical digits a number has, by its bytes and the words of 3 e, of which there may be any
+// number: as many as bits, or one more where 3 e has a bit above those of 2 e.
 pub fn count(number: &Number, triple: &[u64]) -> usize
     requires { words_value triple.now ≡ 3 * bytes_value number.now }
     ensures { result ≡ length (canonical (pos (bytes_value number.now))) }
@@ -51,9 +51,9 @@ pub fn count(number: &Number, triple: &[u64]) -> usize
     bits + ((word_in(triple, top / 64) >> (top % 64)) % 2) as usize
 }
 
-// How many digits fewer the modified form has, by the words of 3 e, however many: 1 where the canonical
-// digits, of which there are `count`, lead with 1 0 -1. 3 e has a bit more than there are digits, and
-// begins with 100 exactly there.
+// How many digits fewer the modified form has, by the words of 3 e, of which there may be any number: 1
+// where the canonical digits, `count` of them, lead with 1 0 -1. 3 e has a bit more than there are digits,
+// and begins with 100 exactly there.
 pub fn saved(triple: &[u64], count: usize) -> usize
     ensures { (e : ℕ) → words_value triple.now ≡ 3 * e → count ≡ length (canonical (pos e)) → result ≡ saved e }
 {
